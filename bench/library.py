@@ -1,13 +1,16 @@
 #!/usr/bin/env python3
 """Measures the library for C beside libpcap, and the batches of the Python package.
 
-  bench/library.py        nanoseconds a packet, of 10 million of 100 bytes: libpcap's program by bpf_filter, and ours by it and by each call
-                          of the library; bpftap_next beside a plain loop in C; then run_each of Python on 100,000 packets, and what of it
-                          is joining them and gathering their sizes
+  bench/library.py           nanoseconds a packet, of 10 million of 100 bytes: libpcap's program by bpf_filter, and ours by it and by each call
+                             of the library; bpftap_next beside a plain loop in C; then run_each of Python on 100,000 packets, and what of
+                             it is joining them and gathering their sizes
+  bench/library.py --stacks  KiB of stack that each call of the library touches at most: random expressions of bench/meaning.py, and deep
+                             ones of 1,000 and of 8,192 bytes
 
 It builds the library first (`./build bpftap_c`), and needs gcc and libpcap's header; without these only Python is measured.
 """
 import pathlib
+import random
 import shutil
 import subprocess
 import sys
@@ -61,7 +64,38 @@ def measure_python():
         print(f"  Python, {what:28} {best * 1e9 / len(packets):7.2f}")
 
 
+# What tests/library/stacks.c measures, in its order.
+CALLS = ["compile", "print", "why", "compare", "steps", "steps_json", "others"]
+
+
+def stacks():
+    """For each kind of expressions the most stack that a call touches."""
+    sys.path.insert(0, str(ROOT / "tests" / "library"))
+    import bench
+    import deep
+    import meaning
+
+    rng = random.Random(1)
+    kinds = {
+        "random": [meaning.text_of(meaning.expression(rng, 2)) for _ in range(500)], "1,000 bytes": deep.texts(1000),
+        "8,192 bytes": [*deep.texts(8192), *(text for _, text, _ in bench.hostile())],
+    }
+    print(f"{'':12}" + "".join(f"{call:>12}" for call in CALLS))
+    with tempfile.TemporaryDirectory() as folder:
+        program = pathlib.Path(folder) / "stacks"
+        source, archive = ROOT / "tests" / "library" / "stacks.c", ROOT / "out" / "lib" / "libbpftap.a"
+        subprocess.run(["gcc", "-O2", f"-I{ROOT / 'include'}", source, archive, "-pthread", "-o", program], check=True)
+        for kind, texts in kinds.items():
+            lines = "".join(f"{text}\t{other}\n" for text, other in zip(texts, ["ip", *texts]))
+            said = subprocess.run([program, "4096"], input=lines, stdout=subprocess.PIPE, text=True, check=True).stdout
+            rows = [[*map(int, line.split())] for line in said.splitlines()]
+            print(f"{kind:12}" + "".join(f"{max(column) / 1024:12.0f}" for column in zip(*rows)))
+
+
 if __name__ == "__main__":
     subprocess.run([ROOT / "build", "bpftap_c"], check=True)
-    measure_c()
-    measure_python()
+    if sys.argv[1:] == ["--stacks"]:
+        stacks()
+    else:
+        measure_c()
+        measure_python()

@@ -14,8 +14,9 @@
  *   - A text that a call writes is followed by a zero byte. `size` does not count that byte, but there has to be room for it.
  *   - Nothing is kept between calls, and nothing that is allocated is handed out. There is no global state, and nothing is printed.
  *     Calls may run at the same time in different threads.
- *   - 128 KiB of stack are enough for ordinary texts. Texts of 8 KB took up to 384 KiB in bpftap_compile, up to 512 KiB in
- *     bpftap_compare, and up to 820 KiB in bpftap_why: give 1 MiB to a thread that takes texts from outside. This is measured, not proved.
+ *   - 128 KiB of stack are enough for a call that reads no expression. bpftap_compile, bpftap_print, bpftap_why, bpftap_compare,
+ *     bpftap_steps and bpftap_steps_json need 512 KiB for expressions of up to 1,000 bytes, and 2 MiB for any: give 2 MiB to a thread that
+ *     takes expressions from outside. This is measured, not proved.
  *
  * What the caller owes
  *

@@ -4,8 +4,13 @@ use std::path::PathBuf;
 fn main() {
     let here = PathBuf::from(std::env::var_os("CARGO_MANIFEST_DIR").expect("cargo sets it"));
     let folder = std::env::var_os("BPFTAP_LIB").map_or_else(|| here.join("../../out/lib"), PathBuf::from);
+    let archive = folder.join("libbpftap.a");
+    println!("cargo:rerun-if-env-changed=BPFTAP_LIB");
+    println!("cargo:rerun-if-changed={}", archive.display());
+    if !archive.is_file() {
+        eprintln!("{} is not there: let BPFTAP_LIB name the folder of libbpftap.a, or run ./build bpftap_c in the repository", archive.display());
+        std::process::exit(1);
+    }
     println!("cargo:rustc-link-search=native={}", folder.display());
     println!("cargo:rustc-link-lib=static=bpftap");
-    println!("cargo:rerun-if-env-changed=BPFTAP_LIB");
-    println!("cargo:rerun-if-changed={}", folder.join("libbpftap.a").display());
 }

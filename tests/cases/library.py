@@ -8,6 +8,9 @@ import sys
 
 from .common import LIMIT, ROOT, TORN, VETH, WHOLE, as_bytes, case, records
 
+sys.path.insert(0, str(ROOT / "bench"))
+import meaning
+
 SOURCES = ROOT / "tests" / "library"
 LIBRARY = pathlib.Path(os.environ.get("BPFTAP_LIBRARY") or ROOT / "out" / "lib" / "libbpftap.so.1").resolve()
 ARCHIVE = LIBRARY.with_name("libbpftap.a")
@@ -88,6 +91,35 @@ def refused_memory_is_reported(scene):
             passes(scene, [program])
 
 
+def stated_stacks():
+    """How many KiB of stack the header states: for calls that read no expression, for short expressions, and for any."""
+    header = " ".join((ROOT / "include" / "bpftap.h").read_text().replace("\n *", " ").split())
+    found = re.search(r"(\d+) KiB of stack are enough for a call that reads no expression.* need (\d+) KiB for expressions of up to 1,000 bytes, "
+                      r"and (\d+) MiB for any", header)
+    return int(found[1]), int(found[2]), 1024 * int(found[3])
+
+
+@case
+def stacks_suffice(scene):
+    """No call runs out of the stack that the header states: deep expressions of 1,000 and of 8,192 bytes, and random ones of bench/meaning.py."""
+    if not is_there(scene) or not scene.has("gcc"):
+        return
+    scene.start({})
+    program = compiled(scene, ["gcc", "-std=c11", "-O2"], "stacks", "-pthread")
+    others, short, most = stated_stacks()
+    chance = random.Random(17)
+    texts = [text for text in (meaning.text_of(meaning.expression(chance, 2)) for _ in range(100)) if len(text) <= 1000]
+    given = {
+        "random": (short, "".join(f"{text}\t{other}\n" for text, other in zip(texts, texts[1:]))),
+        "deep, 1,000 bytes": (short, python(scene, "deep.py", ["1000"])), "deep, 8,192 bytes": (most, python(scene, "deep.py", ["8192"])),
+    }
+    for name, (stack, lines) in given.items() if program else []:
+        ended = subprocess.run([program, str(stack)], input=lines.encode(), stdout=subprocess.PIPE, timeout=LIMIT)
+        touched = [[*map(int, line.split())] for line in ended.stdout.decode().splitlines()]
+        scene.check(f"{name}: status and lines", (ended.returncode, len(touched)), (0, lines.count("\n")))
+        scene.check(f"{name}: a call that reads no expression", max(row[-1] for row in touched) <= others << 10, True)
+
+
 @case
 def header_is_cplusplus_too(scene):
     """The header by itself, in C++ and in C, with the instruction of Linux."""
@@ -112,6 +144,25 @@ def only_its_own_names_are_exported(scene):
     tagged = lambda tag: [line.split("[")[1].rstrip("]") for line in said.splitlines() if f"({tag})" in line]
     scene.check("soname", tagged("SONAME"), ["libbpftap.so.1"])
     scene.check("needs", tagged("NEEDED"), ["libc.so.6"])
+
+
+@case
+def links_as_its_page_says(scene):
+    """`-lbpftap` takes the archive, `-l:libbpftap.so.1` the shared library; a plug-in hides the archive's names by `--exclude-libs`."""
+    if not is_there(scene) or not scene.has("gcc", "nm", "readelf"):
+        return
+    scene.start({"tool.c": "#include <bpftap.h>\nint main(void) { return bpftap_program_size() == 0; }\n"})
+    folder = ARCHIVE.parent
+    words = ["gcc", "tool.c", f"-I{ROOT / 'include'}", f"-L{folder}", "-o", "tool"]
+    for flags, shared in ((["-lbpftap"], False), (["-l:libbpftap.so.1", f"-Wl,-rpath,{folder}"], True)):
+        passes(scene, [*words, *flags])
+        passes(scene, ["./tool"])
+        needed, _ = done(scene, ["readelf", "-d", "tool"])
+        scene.check(f"{flags[0]}: needs the shared library", "[libbpftap.so.1]" in needed, shared)
+    for flags, exported in (([], True), (["-Wl,--exclude-libs,ALL"], False)):
+        passes(scene, [*words, "-shared", "-fPIC", "-lbpftap", *flags])
+        names, _ = done(scene, ["nm", "-D", "--defined-only", "tool"])
+        scene.check(f"a plug-in {flags} exports", "bpftap_program_size" in names, exported)
 
 
 def frames():
@@ -407,11 +458,15 @@ def examples_do_what_they_say(scene):
 
 @case
 def crate_of_rust_passes_its_tests(scene):
-    """`cargo test --offline` of bindings/rust."""
+    """`cargo test --offline` of bindings/rust, with the example of its page; without the library the build names BPFTAP_LIB."""
     if is_there(scene) and scene.has("cargo"):
         scene.start({})
         words = ["cargo", "test", "--offline", "--quiet", "--manifest-path", ROOT / "bindings" / "rust" / "Cargo.toml"]
-        said, status = done(scene, words, env={**os.environ, "CARGO_TARGET_DIR": str(scene.folder / "target"), "BPFTAP_LIB": str(ARCHIVE.parent)})
+        environment = {**os.environ, "CARGO_TARGET_DIR": str(scene.folder / "target"), "BPFTAP_LIB": str(ARCHIVE.parent)}
+        said, status = done(scene, words, env=environment)
         scene.check("cargo test", status, 0)
         if status:
             scene.check("what it said", said, "")
+        said, status = done(scene, words, env={**environment, "BPFTAP_LIB": "/nosuch"})
+        line = "/nosuch/libbpftap.a is not there: let BPFTAP_LIB name the folder of libbpftap.a, or run ./build bpftap_c in the repository"
+        scene.check("cargo test without the library", (line in said, status != 0), (True, True))

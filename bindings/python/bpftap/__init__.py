@@ -8,9 +8,9 @@
     'No tcp port 80'
 
 A `Filter` is a filter expression that was compiled, or a program that was handed in. `read` goes through the packets of a capture,
-`write` makes one, and `cut` filters one. `compare` decides whether two expressions accept the same packets. A `Listener` keeps and drops packets as a listener of bpf(4) does, and
-`steps` plays a script to several. What goes wrong is a
-`FilterError`, a `CaptureError` or a `ListenerError`, each with the name of the fault and its place.
+`write` makes one, and `cut` filters one. `compare` decides whether two expressions accept the same packets. A `Listener` keeps and drops
+packets as a listener of bpf(4) does, and `steps` plays a script to several. What goes wrong is a `FilterError`, a `CaptureError` or a
+`ListenerError`, each with the name of the fault and its place.
 """
 from ._captures import Capture, CaptureError, Packet, cut, read, write
 from ._comparisons import Cause, Comparison, Sameness, compare

@@ -8,8 +8,8 @@ from collections.abc import Iterable, Iterator
 from dataclasses import dataclass
 
 from ._errors import Fault, raise_fault
-from ._filters import Filter, FilterError
-from ._library import END, MAX_SNAP, OK, Reader, Record, in_range, lib
+from ._filters import Filter, FilterError, filter_of
+from ._library import END, MAX_SNAP, OK, Reader, Record, bytes_of, in_range, lib
 
 
 class CaptureError(Fault):
@@ -34,10 +34,10 @@ class Packet:
 
 class Capture:
     """A capture in memory: an iterable of its packets, up to its end. A torn or bad record raises a `CaptureError` after the packets
-    before it."""
+    before it. A content that is not `bytes`, such as an `mmap`, is copied."""
 
     def __init__(self, content: bytes):
-        self._content = content
+        self._content = content = bytes_of("content", content)
         self._reader = lib.bpftap_open(content, len(content))
         raise_fault(CaptureError, self._reader.fault, 0)
 
@@ -89,10 +89,11 @@ def encode(packets: Iterable[Packet], snap: int = MAX_SNAP, nanoseconds: bool = 
     _put(lib.bpftap_put_header(order, unit, in_range("snap", snap), header, 24))
     parts = [header.raw]
     for place, packet in enumerate(packets):
-        room = len(packet.data) + 16
+        data = bytes_of("data", packet.data)
+        room = len(data) + 16
         to = ctypes.create_string_buffer(room)
         record = record_of(packet, place, min(packet.nanos, 10**9))  # BadFraction from a second on
-        _put(lib.bpftap_put(order, unit, ctypes.byref(record), packet.data, len(packet.data), to, room))
+        _put(lib.bpftap_put(order, unit, ctypes.byref(record), data, len(data), to, room))
         parts.append(to.raw)
     return b"".join(parts)
 
@@ -102,12 +103,13 @@ def write(path: str | os.PathLike, packets: Iterable[Packet], **form) -> None:
     pathlib.Path(path).write_bytes(encode(packets, **form))
 
 
-def cut(content: bytes, keep: Filter, snap: int = 0) -> bytes:
-    """The packets of a capture that a filter accepts, each with its first `snap` bytes (0: all that the filter keeps), as a capture in
+def cut(content: bytes, keep: Filter | str, snap: int = 0) -> bytes:
+    """The packets of a capture that a filter or expression accepts, each with its first `snap` bytes (0: all that the filter keeps), as a capture in
     the same form.
 
     If the capture ends in a torn or bad record, a `CaptureError` is raised; its attribute `written` is the cut of the packets before.
     """
+    content, keep = bytes_of("content", content), filter_of(keep)
     to = ctypes.create_string_buffer(max(1, len(content)))
     result = lib.bpftap_cut(content, len(content), keep._insns, keep._size, in_range("snap", snap), to, len(content))
     written = to.raw[: result.size]

@@ -43,11 +43,15 @@ class Comparison:
 
 def compare(first: str, second: str, budget: int = 2_000_000) -> Comparison:
     """Decides for every packet that there can be whether two expressions accept it alike. `budget` bounds the decision graphs, and so the
-    memory and the time. An expression that is refused is a `FilterError`."""
+    memory and the time. An expression that is refused is a `FilterError`; its attribute `number` says which one, 1 or 2."""
     one, other = first.encode(), second.encode()
     in_range("budget", budget, 2**64 - 1)
     result, packet = text(lambda to, room: lib.bpftap_compare(one, len(one), other, len(other), budget, to, room))
-    raise_fault(FilterError, result.fault, result.place)
+    try:
+        raise_fault(FilterError, result.fault, result.place)
+    except FilterError as error:
+        error.number = result.number + 1
+        raise
     answer = Sameness(result.answer)
     if answer in (Sameness.SHORT, Sameness.DIFFER):
         return Comparison(answer, packet, result.wire)

@@ -8,11 +8,13 @@ from collections.abc import Iterable, Sequence
 from typing import Any
 
 from ._errors import Fault, raise_fault
-from ._library import MAX_INSNS, MAX_SNAP, Insn, buffer_of, in_range, lib, text
+from ._library import MAX_INSNS, MAX_SNAP, Insn, buffer_of, bytes_of, in_range, lib, text
 
 
 class FilterError(Fault):
     """An expression, a listing or a program is refused."""
+    number: int | None = None
+    """Which expression `compare` refused, 1 or 2; `None` if another call failed."""
 
 
 class Verdict(enum.IntEnum):
@@ -104,6 +106,7 @@ class Filter:
     def run(self, packet: bytes, wire: int | None = None) -> int:
         """How many bytes of a packet the filter keeps, 0 if it rejects it. `wire` is the packet's length on the wire, if that is
         not the number of captured bytes."""
+        packet = bytes_of("packet", packet)
         return lib.bpftap_program_run(self._at, packet, len(packet), _wire(packet, wire))
 
     def matches(self, packet: bytes, wire: int | None = None) -> bool:
@@ -138,15 +141,14 @@ class Filter:
         """What the expression answers to a packet, and the primitive or relation that decides."""
         if self.expression is None:
             raise TypeError("a program has no expression to explain")
-        code, verdict = self.expression.encode(), Verdict.NO
+        code, packet = self.expression.encode(), bytes_of("packet", packet)
 
         def call(to, room):
             return lib.bpftap_why(code, len(code), packet, len(packet), _wire(packet, wire), to, room)
 
         reason, line = text(call)
         _raised(reason)
-        verdict = Verdict(reason.verdict)
-        return verdict, line.decode().partition(" ")[2]
+        return Verdict(reason.verdict), line.decode().partition(" ")[2]
 
     def why(self, packet: bytes, wire: int | None = None) -> str:
         """What the expression answers to a packet and what decides, as `No tcp port 80`."""
@@ -182,3 +184,8 @@ class Filter:
         result, found = text(lambda to, room: lib.bpftap_print(code, len(code), to, room))
         _raised(result)
         return found.decode()
+
+
+def filter_of(keep: Filter | str) -> Filter:
+    """The filter, or that of an expression."""
+    return Filter(keep) if isinstance(keep, str) else keep

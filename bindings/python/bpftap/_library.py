@@ -79,7 +79,7 @@ def _load():
             return ctypes.CDLL(path)
         except OSError as error:
             last = error
-    raise ImportError(f"the C library of bpftap cannot be loaded: {last}")
+    raise ImportError(f"the C library of bpftap cannot be loaded: {last}; BPFTAP_LIBRARY names its file, and ./build bpftap_c in the repository makes it")
 
 
 lib = _load()
@@ -153,6 +153,16 @@ def buffer_of(memory):
         yield c_char_p(view.buf if view.len else b""), view.len
     finally:
         _release_buffer(view)
+
+
+def bytes_of(what, content):
+    """What something bytes-like holds, as `bytes`: a copy if it is anything else."""
+    if isinstance(content, bytes):
+        return content
+    try:
+        return bytes(memoryview(content))
+    except TypeError:
+        raise TypeError(f"{what} is of type {type(content).__name__}, which is not bytes-like") from None
 
 
 def in_range(what, number, most=2**32 - 1):

@@ -3,12 +3,13 @@ from __future__ import annotations
 
 import ctypes
 import enum
+import threading
 from dataclasses import dataclass
 
 from ._captures import Packet, record_of
 from ._errors import Fault, raise_fault
-from ._filters import Filter
-from ._library import MAX_CAPACITY, MAX_SNAP, OK, Buffer, Tap, in_range, lib
+from ._filters import Filter, filter_of
+from ._library import MAX_CAPACITY, MAX_SNAP, OK, Buffer, Tap, bytes_of, in_range, lib
 
 
 class ListenerError(Fault):
@@ -55,10 +56,12 @@ class Listener:
     hold; if the hold still waits, the packet is dropped. `capacity` is the room of each buffer in bytes: a packet takes 32 bytes and those
     that are kept of it, at most `snap`, rounded up to a multiple of 8. If it is `immediate`, the store becomes the hold after each packet
     that is stored while the hold is empty.
+
+    Threads may share a listener: its calls run one after the other.
     """
 
     def __init__(self, keep: Filter | str, snap: int = MAX_SNAP, capacity: int = MAX_CAPACITY, immediate: bool = False):
-        self.filter = Filter(keep) if isinstance(keep, str) else keep
+        self.filter = filter_of(keep)
         # Out of their ranges they are refused as 0 is: BadSnap, BadCapacity.
         snap = snap if 0 < snap <= MAX_SNAP else 0
         capacity = capacity if 0 < capacity <= MAX_CAPACITY else 0
@@ -66,34 +69,43 @@ class Listener:
         begin = ctypes.addressof(self._memory)
         store, hold, self._batch = (Buffer(begin + n * capacity, capacity) for n in range(3))
         self._tap = Tap(store=store, hold=hold, snap=snap, mode=int(immediate))
+        # ctypes releases the interpreter's lock in a call, and the library allows one call at a time.
+        self._lock = threading.Lock()
         raise_fault(ListenerError, lib.bpftap_listener_open(self._tap), 0)
 
     def arrive(self, packet: Packet | bytes, capture: int = 0, place: int | None = None) -> Fed:
         """A packet arrives. `capture` and `place` stay with it; without a place, that is the number of packets that arrived before."""
         if not isinstance(packet, Packet):
+            packet = bytes_of("packet", packet)
             packet = Packet(packet, len(packet))
-        answer = self.filter.run(packet.data, packet.wire)
-        record = record_of(packet, self.received if place is None else place, packet.nanos)
-        fed = lib.bpftap_listener_arrive(self._tap, answer, in_range("capture", capture), record, packet.data, len(packet.data))
+        data = bytes_of("data", packet.data)
+        answer = self.filter.run(data, packet.wire)
+        with self._lock:
+            record = record_of(packet, self._tap.received if place is None else place, packet.nanos)
+            fed = lib.bpftap_listener_arrive(self._tap, answer, in_range("capture", capture), record, data, len(data))
         return Fed(fed)
 
     def flush(self) -> bool:
         """Makes the store the hold if it has messages and the hold has none, as the read timeout of bpf(4) does; whether it did."""
-        return lib.bpftap_listener_flush(self._tap)
+        with self._lock:
+            return lib.bpftap_listener_flush(self._tap)
 
     def read(self) -> list[Message]:
         """Takes the messages of the hold, oldest first."""
-        raise_fault(ListenerError, lib.bpftap_listener_read(self._tap, self._batch).fault, 0)
-        return _messages(self._batch)
+        with self._lock:
+            raise_fault(ListenerError, lib.bpftap_listener_read(self._tap, self._batch).fault, 0)
+            return _messages(self._batch)
 
     @property
     def pending(self) -> list[Message]:
         """The messages that were not read yet, oldest first: those of the hold, and then those of the store."""
-        return _messages(self._tap.hold) + _messages(self._tap.store)
+        with self._lock:
+            return _messages(self._tap.hold) + _messages(self._tap.store)
 
     def close(self) -> None:
         """From now on nothing changes, nothing is read, and packets that arrive are not counted."""
-        lib.bpftap_listener_close(self._tap)
+        with self._lock:
+            lib.bpftap_listener_close(self._tap)
 
     @property
     def received(self) -> int:

@@ -14,7 +14,7 @@ def assert_all_match(packets: Iterable[Packet | bytes], expression: str) -> None
     wanted = Filter(expression)
     failed = []
     for place, packet in enumerate(packets):
-        data, wire = (packet.data, packet.wire) if isinstance(packet, Packet) else (packet, len(packet))
+        data, wire = (packet.data, packet.wire) if isinstance(packet, Packet) else (packet, None)
         if not wanted.matches(data, wire):
             failed.append(f"packet {place}: {wanted.why(data, wire)}")
     if failed:

@@ -65,7 +65,7 @@ def _step(place: int, step: str, listeners: int) -> tuple[str, int]:
     word, _, number = step.partition(" ")
     if step == "arrive":
         return step, 0
-    if word not in ("flush", "read", "close") or not number.isdecimal() or int(number) >= listeners:
+    if word not in ("flush", "read", "close") or not (number.isascii() and number.isdecimal()) or int(number) >= listeners:
         raise ValueError(f"step {place} is not 'arrive', or 'flush', 'read' or 'close' with the number of a listener: {step!r}")
     return word, int(number)
 

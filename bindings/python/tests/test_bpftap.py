@@ -1,12 +1,16 @@
 """The package, by Python's own unittest: what its page says, and every error."""
+import array
 import copy
-import ctypes
 import dataclasses
 import mmap
+import os
 import pathlib
 import pickle
 import struct
+import subprocess
+import sys
 import tempfile
+import threading
 import unittest
 import xml.etree.ElementTree
 
@@ -123,6 +127,20 @@ class Filters(unittest.TestCase):
             self.assertRaises(TypeError, udp.run_spans, memory, where)
         self.assertRaises(BufferError, udp.run_spans, memoryview(content)[::2], spans)
 
+    def test_packets_are_anything_bytes_like(self):
+        udp, tap = Filter("udp", snap=7), Listener("udp")
+        for packet in (bytearray(UDP), memoryview(UDP), memoryview(UDP + UDP)[:38], array.array("H", UDP)):
+            self.assertEqual((udp.run(packet), udp.matches(packet), udp.why(packet)), (7, True, "Yes udp"))
+            self.assertEqual((tap.arrive(packet), tap.arrive(Packet(packet, 38))), (Fed.STORED, Fed.STORED))
+            bpftap.assert_all_match([packet], "udp and len = 38")
+        self.assertEqual(list(udp.run_each([bytearray(UDP), memoryview(UDP)])), [7, 7])
+        self.assertEqual({message.data for message in tap.pending}, {UDP})
+        for packet in ("text", 7, None, [1, 2]):
+            for call in (udp.run, udp.matches, udp.why, tap.arrive):
+                with self.assertRaisesRegex(TypeError, f"^packet is of type {type(packet).__name__}, which is not bytes-like$"):
+                    call(packet)
+        self.assertEqual(tap.received, 8)
+
     def test_long_texts_are_whole(self):
         longest = Filter.from_program([(6, 0, 0, 262144)] * 512)
         self.assertEqual(longest.listing, "512\n" + "6 0 0 262144\n" * 512)
@@ -140,7 +158,14 @@ class Comparisons(unittest.TestCase):
     def test_a_refused_expression_has_a_name_and_a_place(self):
         with self.assertRaises(bpftap.FilterError) as raised:
             bpftap.compare("tcp", "port http")
-        self.assertEqual((raised.exception.name, raised.exception.place), ("BadWord", 5))
+        self.assertEqual((raised.exception.name, raised.exception.place, raised.exception.number), ("BadWord", 5, 2))
+        with self.assertRaises(bpftap.FilterError) as raised:
+            bpftap.compare("tcp and 80", "port http")
+        self.assertEqual((raised.exception.name, raised.exception.place, raised.exception.number), ("NoQualifier", 8, 1))
+        self.assertEqual(pickle.loads(pickle.dumps(raised.exception)).number, 1)
+        with self.assertRaises(bpftap.FilterError) as raised:
+            Filter("port http")
+        self.assertIsNone(raised.exception.number)
         with self.assertRaises(ValueError):
             bpftap.compare("tcp", "udp", budget=-1)
 
@@ -183,6 +208,26 @@ class Listeners(unittest.TestCase):
                 tap.arrive(packet, capture, place)
         self.assertEqual((tap.received, tap.pending), (0, []))
 
+    def test_threads_share_a_listener(self):
+        tap = Listener("", snap=38)
+
+        def arrivals():
+            for _ in range(20_000):
+                tap.arrive(UDP)
+
+        threads = [threading.Thread(target=arrivals) for _ in range(4)]
+        for thread in threads:
+            thread.start()
+        read = []
+        while any(thread.is_alive() for thread in threads):
+            read += tap.read()
+        for thread in threads:
+            thread.join()
+        read += tap.read() + tap.pending
+        self.assertEqual((tap.received, tap.matched, len(read)), (80_000, 80_000, 80_000 - tap.dropped))
+        places = [message.place for message in read]
+        self.assertEqual(places, sorted(set(places)))
+
     def test_a_listener_has_no_copy(self):
         for call in (copy.copy, copy.deepcopy, pickle.dumps):
             with self.assertRaisesRegex(TypeError, "^a listener cannot be copied"):
@@ -217,7 +262,7 @@ class Steps(unittest.TestCase):
         self.assertIsNone(bpftap.steps([Listener("ip")], [], [bpftap.Capture(self.CAPTURE)]).fault)
 
     def test_what_is_no_step_is_refused_before_one_is_played(self):
-        for step in ["", "arrives", "arrive 0", "read", "read 1", "read -1", "read  0", "opens 0"]:
+        for step in ["", "arrives", "arrive 0", "read", "read 1", "read -1", "read  0", "opens 0", "read \u0660"]:
             tap = Listener("ip")
             with self.assertRaisesRegex(ValueError, "^step 1 is not"):
                 bpftap.steps([tap], ["arrive", step], [bpftap.Capture(self.CAPTURE)])
@@ -270,9 +315,28 @@ class Captures(unittest.TestCase):
         content = bpftap._captures.encode(self.PACKETS)
         self.assertEqual(list(bpftap.Capture(bpftap.cut(content, Filter("udp")))), self.PACKETS[1:])
         self.assertEqual([packet.data for packet in bpftap.Capture(bpftap.cut(content, Filter("ip"), 20))], [TCP[:20], UDP[:20]])
+        self.assertEqual(bpftap.cut(content, "udp"), bpftap.cut(content, Filter("udp")))
+        with self.assertRaisesRegex(FilterError, "^BadWord 5$"):
+            bpftap.cut(content, "port http")
         with self.assertRaisesRegex(CaptureError, "^TornRecord 1$") as caught:
             bpftap.cut(content[:-1], Filter("ip"))
         self.assertEqual(list(bpftap.Capture(caught.exception.written)), self.PACKETS[:1])
+
+    def test_a_content_is_anything_bytes_like(self):
+        content = bpftap._captures.encode(self.PACKETS)
+        with tempfile.TemporaryFile() as file:
+            file.write(content)
+            file.flush()
+            with mmap.mmap(file.fileno(), 0, access=mmap.ACCESS_READ) as mapped:
+                for given in (bytearray(content), memoryview(content), mapped):
+                    self.assertEqual(list(bpftap.Capture(given)), self.PACKETS)
+                    self.assertEqual(bpftap.cut(given, Filter("ip")), bpftap.cut(content, Filter("ip")))
+        changed = [Packet(bytearray(packet.data), packet.wire, packet.seconds, packet.nanos) for packet in self.PACKETS]
+        self.assertEqual(bpftap._captures.encode(changed), content)
+        for given in ("text", 7, None):
+            for call in (bpftap.Capture, lambda given: bpftap.cut(given, "ip")):
+                with self.assertRaisesRegex(TypeError, f"^content is of type {type(given).__name__}, which is not bytes-like$"):
+                    call(given)
 
     def test_what_may_not_be_written(self):
         for packet, name in [(Packet(b"", 0, 0, 10**9), "BadFraction"), (Packet(bytes(262145), 0), "TooLong")]:
@@ -290,6 +354,15 @@ class Captures(unittest.TestCase):
         for snap in (-1, 2**32):
             self.assertRaises(ValueError, bpftap._captures.encode, [], snap)
             self.assertRaises(ValueError, bpftap.cut, bpftap._captures.encode([]), Filter("ip"), snap)
+
+
+class Library(unittest.TestCase):
+    def test_a_library_that_is_missing_is_named(self):
+        words = [sys.executable, "-c", "import bpftap"]
+        environment = {**os.environ, "BPFTAP_LIBRARY": "/nosuch/library.so", "PYTHONPATH": os.pathsep.join(sys.path)}
+        ended = subprocess.run(words, stderr=subprocess.PIPE, text=True, env=environment)
+        self.assertEqual(ended.returncode, 1)
+        self.assertRegex(ended.stderr, "ImportError: .*/nosuch/library.so.*BPFTAP_LIBRARY.*./build bpftap_c")
 
 
 class Assertions(unittest.TestCase):

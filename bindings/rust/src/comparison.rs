@@ -36,7 +36,7 @@ pub enum Sameness {
 }
 
 /// Decides for every packet that there can be whether two expressions accept it alike. `budget` bounds the decision graphs, and so the memory
-/// and the time; `bpftap compare` takes 2,000,000.
+/// and the time; `bpftap compare` takes 2,000,000. If an expression is refused, the error's `number` says which one.
 pub fn compare(first: &str, second: &str, budget: usize) -> Result<Sameness, Error> {
     let mut data = vec![0; 2048];
     loop {
@@ -48,7 +48,7 @@ pub fn compare(first: &str, second: &str, budget: usize) -> Result<Sameness, Err
             continue;
         }
         if found.fault != 0 {
-            return Err(Error { fault: found.fault, place: found.place });
+            return Err(Error { fault: found.fault, place: found.place, number: Some(found.number + 1) });
         }
         data.truncate(found.size);
         return Ok(match found.answer {

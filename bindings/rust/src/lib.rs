@@ -1,12 +1,4 @@
-//! The filter compiler, the filter machine, the capture reader and the tap of bpftap, over its C library.
-//!
-//! ```
-//! let tcp = bpftap::Filter::new("tcp port 80")?;
-//! let packet = [0; 60];
-//! assert!(!tcp.matches(&packet, 60));
-//! assert_eq!(tcp.why(&packet, 60)?, "No tcp port 80");
-//! # Ok::<(), bpftap::Error>(())
-//! ```
+#![doc = include_str!("../README.md")]
 use std::alloc::Layout;
 use std::fmt;
 use std::ptr::NonNull;
@@ -30,6 +22,14 @@ const MAX_INSNS: usize = 512;
 pub struct Error {
     pub fault: u32,
     pub place: usize,
+    /// Which expression [`compare`] refused, 1 or 2; `None` if another call failed.
+    pub number: Option<u32>,
+}
+
+impl Error {
+    fn new(fault: u32, place: usize) -> Error {
+        Error { fault, place, number: None }
+    }
 }
 
 impl fmt::Display for Error {
@@ -46,7 +46,7 @@ impl std::error::Error for Error {}
 fn checked(result: ffi::Result) -> Result<usize, Error> {
     match result.fault {
         0 => Ok(result.size),
-        fault => Err(Error { fault, place: result.place }),
+        fault => Err(Error::new(fault, result.place)),
     }
 }
 
@@ -169,7 +169,7 @@ impl<'a> Packets<'a> {
         let reader = unsafe { ffi::bpftap_open(memory.as_ptr(), memory.len()) };
         match reader.fault {
             0 => Ok(Packets { memory, reader, failed: false }),
-            fault => Err(Error { fault, place: 0 }),
+            fault => Err(Error::new(fault, 0)),
         }
     }
 
@@ -197,7 +197,7 @@ impl<'a> Iterator for Packets<'a> {
             ffi::END => None,
             fault => {
                 self.failed = true;
-                Some(Err(Error { fault, place: record.place as usize }))
+                Some(Err(Error::new(fault, record.place as usize)))
             }
         }
     }

@@ -60,7 +60,7 @@ impl Listener {
         let mut tap = ffi::Listener { store, hold, received: 0, matched: 0, dropped: 0, snap, mode: mode as u32, closed: 0 };
         match unsafe { ffi::bpftap_listener_open(&mut tap) } {
             0 => Ok(Listener { filter, tap, batch, _memory: memory }),
-            fault => Err(Error { fault, place: 0 }),
+            fault => Err(Error::new(fault, 0)),
         }
     }
 

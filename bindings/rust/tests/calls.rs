@@ -30,7 +30,7 @@ fn a_torn_record_is_the_last_item() {
 #[test]
 fn errors_have_a_name_and_a_place() {
     let error = Filter::new("port http").unwrap_err();
-    assert_eq!((error.fault, error.place, error.to_string()), (34, 5, "BadWord 5".to_owned()));
+    assert_eq!((error.fault, error.place, error.number, error.to_string()), (34, 5, None, "BadWord 5".to_owned()));
     assert_eq!(Filter::with_snap("ip", 0).unwrap_err().to_string(), "BadSnap");
 }
 
@@ -79,5 +79,8 @@ fn expressions_are_compared() {
     let accepted = ["tcp", "udp"].map(|text| Filter::new(text).unwrap().matches(&packet.data, packet.wire));
     assert!(accepted[0] != accepted[1]);
     assert_eq!(compare("tcp", "udp", 1).unwrap(), Sameness::NotDecided(Cause::Budget));
-    assert_eq!(compare("tcp", "port http", 1).unwrap_err().to_string(), "BadWord 5");
+    for (first, second, number) in [("tcp", "port http", 2), ("port http", "port http", 1)] {
+        let error = compare(first, second, 1).unwrap_err();
+        assert_eq!((error.to_string(), error.number), ("BadWord 5".to_owned(), Some(number)));
+    }
 }
