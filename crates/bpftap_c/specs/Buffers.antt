@@ -1,4 +1,5 @@
 -- Buffers of records in memory of the caller. The records are those of a listener's buffer, one after the other.
+use denote.MutBor.{Gone, gone}
 use Rattle.std.specs.Prelude.{◌≤◌, ℕ, List, length, take}
 use Rattle.savefile.specs.Savefile.{packet}
 use Rattle.listener.specs.declared.message.Message.{Message}
@@ -9,6 +10,10 @@ use Rattle.bpftap_c.specs.declared.captures.BpftapRecord.{BpftapRecord}
 
 abbrev pub capacity : BpftapBuffer → ℕ
 capacity b = length b.bytes.now
+
+-- the memory that it has, whatever lies there
+abbrev pub memory : BpftapBuffer → Gone
+memory b = gone b.bytes
 
 -- the bytes of its records
 abbrev pub text_of : BpftapBuffer → List ℕ

@@ -84,10 +84,10 @@ GivesNext memory old new given =
     ((old.fault ≡ 0) × FindsNext memory old new given)
     ⊎ ((old.fault ≢ 0) × (given ≡ unread old old.fault) × (new ≡ old))
 
--- The record of a packet is put; or it may not be written, and all is as it was.
+-- The record of a packet is put. Or it may not be written, and all is as it was: it is too long, or else its nanoseconds are a second or more.
 abbrev pub PutsRecord : Order → TimeUnit → BpftapRecord → List ℕ → List ℕ → List ℕ → BpftapResult → Type 0
 PutsRecord order unit p bytes old new told =
     ((length bytes ≤ MAX_SNAP) × (p.nanos < 1000000000)
     × Puts (record_text order unit (packet p.seconds p.nanos p.wire bytes)) old new told)
     ⊎ ((MAX_SNAP < length bytes) × (told ≡ failed (Capture (TooLong p.place))) × (new ≡ old))
-    ⊎ ((1000000000 ≤ p.nanos) × (told ≡ failed (Capture (BadFraction p.place))) × (new ≡ old))
+    ⊎ ((length bytes ≤ MAX_SNAP) × (1000000000 ≤ p.nanos) × (told ≡ failed (Capture (BadFraction p.place))) × (new ≡ old))

@@ -46,16 +46,20 @@ wire_of (Short witness) = witness.wire
 wire_of (Differ witness) = witness.wire
 wire_of (NotDecided cause) = 0
 
+-- the text is an expression
+abbrev pub IsExpression : List ℕ → Type 0
+IsExpression text = (tree : Tree) × IsRead text tree
+
 -- both texts are expressions, and what the answer says of these is so
 abbrev pub IsCompared : List ℕ → List ℕ → Sameness → Type 0
 IsCompared first second sameness = (t : Tree) × (u : Tree) × IsRead first t × IsRead second u × Holds t u sameness
 
--- Why two texts are not compared: the first is no expression, or the second, or memory ran out.
+-- Why two texts are not compared: the first is no expression, or the second, or both are and memory ran out.
 abbrev pub IsUncompared : List ℕ → List ℕ → ℕ → Failure → Type 0
 IsUncompared first second number failure =
     ((number ≡ 0) × IsUnread first failure)
-    ⊎ ((number ≡ 1) × ((t : Tree) × IsRead first t) × IsUnread second failure)
-    ⊎ ((number ≡ 0) × (failure ≡ NoMemory))
+    ⊎ ((number ≡ 1) × IsExpression first × IsUnread second failure)
+    ⊎ ((number ≡ 0) × IsExpression first × IsExpression second × (failure ≡ NoMemory))
 
 -- the result of a call that put the packet which shows an answer
 abbrev pub comparison_of : BpftapResult → Sameness → BpftapComparison

@@ -44,6 +44,10 @@ is_whole (Input (TooLong place)) = true
 is_whole (Input other) = false
 is_whole (Output fault) = false
 
+-- the capture's header is one
+abbrev pub HasHeader : List ℕ → Type 0
+HasHeader capture = (order : Order) × (unit : TimeUnit) × (snap : ℕ) × IsHeader order capture unit snap
+
 -- What is cut is put, and the fault that ended the capture is returned beside its size. Or all is as it was: the instructions are no
 -- program, the capture's header is refused, or memory was.
 abbrev pub Cuts : List ℕ → List Insn → ℕ → List ℕ → List ℕ → BpftapResult → Type 0
@@ -52,4 +56,4 @@ Cuts capture insns snap old new told =
     × Puts text old new put × (told ≡ ended put (end_behind fault)))
     ⊎ ((fault : Invalid) × IsRefusedAs insns fault × (told ≡ failed (Program fault)) × (new ≡ old))
     ⊎ ((fault : Fault) × IsValidProgram insns × RefusesHeader capture fault × (told ≡ failed (Capture fault)) × (new ≡ old))
-    ⊎ ((told ≡ failed NoMemory) × (new ≡ old))
+    ⊎ (IsValidProgram insns × HasHeader capture × (told ≡ failed NoMemory) × (new ≡ old))

@@ -11,12 +11,12 @@ use Rattle.listener.specs.declared.mode.Mode.{Mode}
 use Rattle.listener.specs.declared.mode.Mode.TheVariants.{Buffered, Immediate}
 use Rattle.listener.specs.Listening.{InRange, RefusesOpen}
 use Rattle.listener.specs.Messages.{Arrival, cut_to, kept_by}
-use Rattle.listener.specs.PlainList.{Terms, terms, PlainList, plain, empty, Event, read, IsStep}
+use Rattle.listener.specs.PlainList.{Terms, terms, PlainList, plain, empty, Event, arrived, flushed, read, closed, IsStep}
 use Rattle.bpftap_c.specs.declared.buffers.BpftapBuffer.{BpftapBuffer}
 use Rattle.bpftap_c.specs.declared.listeners.BpftapListener.{BpftapListener}
 use Rattle.bpftap_c.specs.declared.outcome.BpftapResult.{BpftapResult}
 use Rattle.bpftap_c.specs.declared.outcome.Failure.TheVariants.{Open}
-use Rattle.bpftap_c.specs.Buffers.{capacity, messages, IsBuffer}
+use Rattle.bpftap_c.specs.Buffers.{capacity, memory, messages, IsBuffer}
 use Rattle.bpftap_c.specs.Outcome.{done, failed, open_code}
 
 abbrev pub mode_of : ℕ → Mode
@@ -45,11 +45,35 @@ pub record IsOpen (l : BpftapListener) : Type 0 where
 abbrev pub IsListener : BpftapListener → Type 0
 IsListener l = l.closed ≡ 0 → IsOpen l
 
+-- each buffer has its memory still
+abbrev pub Keeps : BpftapListener → BpftapListener → Type 0
+Keeps old new = (memory new.store ≡ memory old.store) × (memory new.hold ≡ memory old.hold)
+
+-- each buffer has the memory of the other one
+abbrev pub Exchanges : BpftapListener → BpftapListener → Type 0
+Exchanges old new = (memory new.store ≡ memory old.hold) × (memory new.hold ≡ memory old.store)
+
+-- Which memory the buffers have after a step. That of the hold after a read is said where the reader's is.
+abbrev pub Moves : Event → BpftapListener → BpftapListener → Type 0
+Moves (arrived kept Held) old new = Exchanges old new
+Moves (arrived kept Rotated) old new = Exchanges old new
+Moves (flushed true) old new = Exchanges old new
+Moves (read taken) old new = memory new.store ≡ memory old.store
+Moves other old new = Keeps old new
+
+-- the number of a listener that is closed
+abbrev pub closed_after : Event → ℕ → ℕ
+closed_after closed code = 1
+closed_after other code = code
+
 -- one step of the plain list, which changes nothing else
 pub record Takes (old : BpftapListener) (e : Event) (new : BpftapListener) : Type 0 where
   pub steps : IsStep (terms_of old) (list_of old) e (list_of new)
   pub snap : new.snap ≡ old.snap
+  pub mode : new.mode ≡ old.mode
+  pub closed : new.closed ≡ closed_after e old.closed
   pub terms : terms_of new ≡ terms_of old
+  pub moves : Moves e old new
   pub is : IsListener new
 
 -- What is kept of an arrival to which a filter answers this: nothing for 0, else as many bytes as the lesser of the answer and the
@@ -84,7 +108,7 @@ emptied b = record { bytes = b.bytes; size = 0 }
 
 -- a listener of the same buffers, snapshot length and mode, to which nothing has arrived
 abbrev pub reset : BpftapListener → ℕ → BpftapListener
-reset l closed = record { store = emptied l.store; hold = emptied l.hold; received = 0; matched = 0; dropped = 0; snap = l.snap; mode = l.mode; closed = closed }
+reset l code = record { store = emptied l.store; hold = emptied l.hold; received = 0; matched = 0; dropped = 0; snap = l.snap; mode = l.mode; closed = code }
 
 -- The listener is open, and nothing has arrived. Or it is refused for this fault, and is closed.
 abbrev pub Opens : BpftapListener → BpftapListener → ℕ → Type 0
@@ -97,9 +121,15 @@ abbrev pub batch_of : Option (List Message) → List Message
 batch_of None = []
 batch_of (Some ms) = ms
 
+-- the hold of an open listener and the buffer that is brought exchange their memory
+abbrev pub Trades : BpftapListener → BpftapBuffer → BpftapListener → BpftapBuffer → Type 0
+Trades old brought new batch =
+    ((old.closed ≡ 0) × (memory batch ≡ memory old.hold) × (memory new.hold ≡ memory brought))
+    ⊎ ((old.closed ≢ 0) × (memory batch ≡ memory brought) × (memory new.hold ≡ memory old.hold))
+
 -- The hold was read into a buffer of the listener's capacity that was brought. Or that has another capacity, and all is as it was.
 abbrev pub Reads : BpftapListener → BpftapBuffer → BpftapListener → BpftapBuffer → BpftapResult → Type 0
 Reads old brought new batch told =
     ((taken : Option (List Message)) × (capacity brought ≡ capacity old.store) × Takes old (read taken) new × (messages batch ≡ batch_of taken) × IsBuffer batch
-    × (capacity batch ≡ capacity brought) × (told ≡ done batch.size))
+    × (capacity batch ≡ capacity brought) × Trades old brought new batch × (told ≡ done batch.size))
     ⊎ ((capacity brought ≢ capacity old.store) × (told ≡ failed (Open BadCapacity)) × (new ≡ old) × (batch ≡ brought))

@@ -2,6 +2,7 @@
 use Rattle.std.specs.Prelude.{◌≡◌, ◌+◌, ◌⊎◌, ℕ, List, [], ◌∷◌, length, take, drop}
 use Rattle.listener.specs.declared.message.Message.{Message}
 use Rattle.listener.specs.Decoded.{messages_in, AreRecords}
+use Rattle.listener.specs.Messages.{size}
 use Rattle.bpftap_c.specs.declared.messages.BpftapMessage.{BpftapMessage}
 
 -- a message whose record begins here
@@ -13,10 +14,11 @@ message_found offset m =
 abbrev pub no_message : ℕ → BpftapMessage
 no_message offset = record { offset = offset; place = 0; fault = 4; capture = 0; seconds = 0; nanos = 0; captured = 0; wire = 0 }
 
--- The first of the messages whose records begin here, where its bytes are, and where the others begin.
+-- The first of the messages whose records begin here, where its bytes are, and where the others begin: directly after its record.
 pub record IsFirst (text : List ℕ) (old new : ℕ) (m : Message) (found : BpftapMessage) : Type 0 where
   pub first : messages_in (drop old text) ≡ m ∷ messages_in (drop new text)
   pub others : AreRecords (drop new text)
+  pub after : new ≡ old + size (length m.bytes)
   pub is : found ≡ message_found old m
   pub bytes : take found.captured (drop found.offset text) ≡ m.bytes
 

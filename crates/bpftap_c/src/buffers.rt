@@ -7,7 +7,7 @@ ghost use Rattle.listener.specs.Messages.{size, room};
 ghost use Rattle.listener.specs.RecordBytes.{fields_text};
 ghost use Rattle.savefile.specs.Filling.{Fills};
 ghost use Rattle.savefile.specs.declared.record.TheConstants.{MAX_SNAP};
-ghost use Rattle.bpftap_c.specs.Buffers.{capacity, messages, message_of, IsBuffer};
+ghost use Rattle.bpftap_c.specs.Buffers.{capacity, memory, messages, message_of, IsBuffer};
 
 use crate::captures::BpftapRecord;
 use byteorder::{ByteOrder, LittleEndian};
@@ -85,6 +85,7 @@ impl BpftapBuffer<'_> {
         ensures unchanged { result ≡ false → self.new ≡ self.old }
         ensures buffer { IsBuffer self.new }
         ensures capacity { capacity self.new ≡ capacity self.old }
+        ensures memory { memory self.new ≡ memory self.old }
     {
         let at = self.size;
         let kept = data.len();

@@ -6,7 +6,7 @@ use Rattle.listener.specs.PlainList.{terms}
 use Rattle.listener.proofs.ArriveSteps.{on_true, over_by, size_cut, steps_dropped, steps_held, steps_rotated, steps_stored}
 use Rattle.listener.proofs.Rooms.{room_nil}
 use Rattle.bpftap_c.specs.declared.buffers.BpftapBuffer.{BpftapBuffer}
-use Rattle.bpftap_c.specs.Buffers.{arrival_of, capacity, messages}
+use Rattle.bpftap_c.specs.Buffers.{arrival_of, capacity, memory, messages}
 use Rattle.bpftap_c.specs.Listeners.{is_closed, kept_by_answer, mode_of, terms_of}
 use Rattle.bpftap_c.proofs.Buffering.{none_in, some_in}
 use Rattle.bpftap_c.proofs.Stepping.{immediate, kept_cut, not_immediate, open_now}
@@ -33,6 +33,9 @@ returns-then-listener-eq0 c =
       steps = steps_stored (terms_of l) (messages l.hold) (messages l.store) l.received l.matched l.dropped (is_closed l.closed) (open_now l.closed c.if-listener-ne0.false)
           x (kept_by_answer c.args.answer l.snap a) seen (messages c.put-stored.new.self) (omega (arith, captured, ap size long, fits)) apart put.stored;
       snap = refl;
+      mode = refl;
+      closed = refl;
+      moves = (put.memory, refl);
       terms = ap (λ (n : ℕ). terms n (mode_of l.mode)) put.capacity;
       is = (λ now. record {
         store = put.buffer;
@@ -61,6 +64,9 @@ returns-then-stored c =
           x (kept_by_answer c.args.answer l.snap a) seen (messages c.put-stored.new.self) (omega (arith, captured, ap size long, fits))
           (immediate l.mode (omega (arith, c.if-listener-eq0.false))) (none_in l.hold c.if-listener-ne0-2.false) put.stored;
       snap = refl;
+      mode = refl;
+      closed = refl;
+      moves = (refl, put.memory);
       terms = ap (λ (n : ℕ). terms n (mode_of l.mode)) is.same;
       is = (λ now. record {
         store = is.hold;
@@ -88,6 +94,9 @@ returns-then-listener-ne0-3 c =
       steps = steps_dropped (terms_of l) (messages l.hold) (messages l.store) l.received l.matched l.dropped (is_closed l.closed) (open_now l.closed c.if-listener-ne0.false)
           x (kept_by_answer c.args.answer l.snap a) seen (omega (arith, captured, ap size long, over)) (some_in l.hold is.hold (omega (arith, c.if-listener-ne0-3.true)));
       snap = refl;
+      mode = refl;
+      closed = refl;
+      moves = (refl, refl);
       terms = refl;
       is = (λ now. record { store = is.store; hold = is.hold; same = is.same; range = is.range; matched = omega (arith, is.matched); dropped = omega (arith, is.dropped) });
     })
@@ -117,6 +126,9 @@ returns c =
           x (kept_by_answer c.args.answer l.snap a) seen (messages c.put-stored-2.new.self) (omega (arith, captured, ap size long, over)) none
           (stored ∙ ap (λ (b : BpftapBuffer). messages b ++ x ∷ []) fresh);
       snap = refl;
+      mode = refl;
+      closed = refl;
+      moves = (put.memory ∙ ap (λ (b : BpftapBuffer). memory b) fresh, refl);
       terms = ap (λ (n : ℕ). terms n (mode_of l.mode)) capacities;
       is = (λ now. record {
         store = put.buffer;

@@ -1,4 +1,4 @@
-use Rattle.std.proofs.Common.{None, ap, sym, ◌∙◌, inl, refl, arith}
+use Rattle.std.proofs.Common.{None, ap, sym, ◌∙◌, inl, inr, refl, arith}
 use Rattle.listener.proofs.Decoding.{no_records}
 use Rattle.bpftap_c.specs.declared.buffers.BpftapBuffer.{BpftapBuffer}
 use Rattle.bpftap_c.specs.Buffers.{messages}
@@ -15,10 +15,11 @@ returns-then-listener-ne0 c =
     inl (
       None,
       c.if-batch-listener.false,
-      record { steps = record { is_right = inl (closed_now l.closed (omega (arith, c.if-listener-ne0.true))); change = refl }; snap = refl; terms = refl; is = c.requires },
+      record { steps = record { is_right = inl (closed_now l.closed (omega (arith, c.if-listener-ne0.true))); change = refl }; snap = refl; mode = refl; closed = refl; moves = refl; terms = refl; is = c.requires },
       none_in brought refl,
       record { within = omega arith; records = no_records },
       refl,
+      inr ((λ now. omega (arith, now, c.if-listener-ne0.true)), refl, refl),
       c.done.ensures,
     )
 
@@ -36,6 +37,9 @@ returns c =
       record {
         steps = step.1;
         snap = refl;
+        mode = refl;
+        closed = refl;
+        moves = refl;
         terms = refl;
         is = (λ now. record {
           store = is.store;
@@ -49,5 +53,6 @@ returns c =
       step.2,
       is.hold,
       is.same ∙ sym c.if-batch-listener.false,
+      inl (omega (arith, c.if-listener-ne0.false), refl, refl),
       told,
     ))

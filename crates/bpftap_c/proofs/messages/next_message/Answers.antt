@@ -53,6 +53,7 @@ returns c are =
       record {
         first = ap messages_in (sym back) ∙ s.is ∙ (λ i. m i ∷ messages_in (sym later i));
         others = subst AreRecords (sym later) s.after;
+        after = ap (λ (j : ℕ). at + j) (c.record_size-size.ensures ∙ ap size (sym whole));
         is = λ i. record {
           offset = at + 32;
           place = c.read_u64.result;
