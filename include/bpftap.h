@@ -435,7 +435,7 @@ struct bpftap_replay bpftap_steps_json(const char *listeners, size_t listeners_s
  * is `Unknown`. 64 bytes are always room enough. Faults: NO_ROOM, NO_MEMORY. */
 struct bpftap_result bpftap_fault_text(uint32_t fault, size_t place, char *to, size_t room);
 
-/* Writes the version of the library, as `1.2.0`. 64 bytes are always room enough. Faults: NO_ROOM. */
+/* Writes the version of the library, as `1.3.0`. 64 bytes are always room enough. Faults: NO_ROOM. */
 struct bpftap_result bpftap_version(char *to, size_t room);
 
 #ifdef __cplusplus

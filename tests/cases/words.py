@@ -30,8 +30,8 @@ def bad_usage_ends_with_one(scene):
 
 # Words that ask for help or the version, and a part of it.
 HELP = [
-    ("--version", b"bpftap 1.2.0, proved in the logic "),
-    ("-V", b"bpftap 1.2.0, "),
+    ("--version", b"bpftap 1.3.0, proved in the logic "),
+    ("-V", b"bpftap 1.3.0, "),
     ("--help", b"Examples:\n"),
     ("help cut", b"[default: little]"),
     ("cut -h", b"[default: micro]"),

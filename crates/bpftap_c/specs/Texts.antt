@@ -27,7 +27,7 @@ IsPrinted text (Err failure) = IsUnread text failure
 
 -- the version of the library
 abbrev pub version : List ℕ
-version = codes "1.2.0"
+version = codes "1.3.0"
 
 -- some text, or memory was refused
 abbrev pub MayLackMemory : Result (List ℕ) Failure → Type 0

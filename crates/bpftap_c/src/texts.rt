@@ -39,7 +39,7 @@ pub extern "C" fn bpftap_print(alloc: Global, text: &[u8], to: &mut [u8]) -> Bpf
 }
 
 /// The version of the library.
-const VERSION: &str = "1.2.0";
+const VERSION: &str = "1.3.0";
 
 /// Writes the version.
 #[unsafe(no_mangle)]
