@@ -11,7 +11,7 @@ use Rattle.bpftap_c.specs.declared.outcome.Failure.{Failure}
 use Rattle.bpftap_c.specs.declared.outcome.Failure.TheVariants.{NoMemory}
 use Rattle.bpftap_c.specs.Memory.{Puts}
 use Rattle.bpftap_c.specs.Outcome.{code_of, place_of, size_of}
-use Rattle.bpftap_c.specs.Texts.{IsRead, IsUnread}
+use Rattle.bpftap_c.specs.Texts.{IsExpression, IsRead, IsUnread}
 
 -- the numbers of answers, which stay from version to version
 abbrev pub answer_code : Sameness → ℕ
@@ -45,10 +45,6 @@ wire_of SameAsCaptured = 0
 wire_of (Short witness) = witness.wire
 wire_of (Differ witness) = witness.wire
 wire_of (NotDecided cause) = 0
-
--- the text is an expression
-abbrev pub IsExpression : List ℕ → Type 0
-IsExpression text = (tree : Tree) × IsRead text tree
 
 -- both texts are expressions, and what the answer says of these is so
 abbrev pub IsCompared : List ℕ → List ℕ → Sameness → Type 0

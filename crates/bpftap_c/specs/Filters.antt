@@ -19,12 +19,13 @@ IsNotText bytes (NotText place) = (IsUtf8 bytes → ⊥) × (place ≡ utf8_vali
 IsNotText bytes other = ⊥
 
 -- A program of the expression, all of whose instructions can be reached. An expression that is refused has no program, or memory ran
--- out; one that fits is refused only if memory ran out. A text above 8,192 bytes is refused for its length.
+-- out; one that fits is refused only if memory ran out. A text above 8,192 bytes is refused for its length, and before that one that
+-- is not UTF-8.
 abbrev pub IsCompiled : List ℕ → ℕ → Result (List Insn) Failure → Type 0
 IsCompiled text snap (Ok program) =
     (length text ≤ 8192) × IsProgramOf text snap program × IsAllReached program × (IsBadSnap snap → ⊥)
     × ((tree : Tree) → ReadsAs text tree → need tree ≤ 16)
 IsCompiled text snap (Err (Expression fault)) =
-    ((fault ≡ expression.Text misread.TextTooLong) ↔ (8192 < length text)) × IsUncompiled text snap fault
+    IsUtf8 text × ((fault ≡ expression.Text misread.TextTooLong) ↔ (8192 < length text)) × IsUncompiled text snap fault
     × ((tree : Tree) → length text ≤ 8192 → ReadsAs text tree → Fits tree snap → fault ≡ expression.Text misread.NoMemory)
 IsCompiled text snap (Err failure) = IsNotText text failure

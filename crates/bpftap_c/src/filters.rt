@@ -1,6 +1,6 @@
 //! Filter expressions, compiled.
 
-ghost use Rattle.std.specs.Prelude.{◌≡◌, IfErr, IfOk, Result, List};
+ghost use Rattle.std.specs.Prelude.{◌≡◌, IfErr, IfOk, IsUtf8, Result, List};
 ghost use Rattle.bpfvm.specs.declared.insn.Insn.{Insn};
 ghost use Rattle.filter_tree.specs.Trees.{tree_of};
 ghost use Rattle.bpftap_c.specs.declared.outcome.Failure.{Failure};
@@ -20,6 +20,7 @@ use std::alloc::Global;
 /// The text that bytes are.
 pub(crate) fn text_of(bytes: &[u8]) -> Result<&str, Failure>
     ensures text { IfOk result (λ text. text.now ≡ bytes.now) }
+    ensures utf8 { IfOk result (λ _. IsUtf8 bytes.now) }
     ensures not_text { IfErr result (IsNotText bytes.now) }
 {
     match str::from_utf8(bytes) {

@@ -8,4 +8,4 @@ returns-in-Ok-parse-clause-ok c =
 
 pub returns-in-Err-parse-clause-err : goal.returns-in-Err-parse-clause-err
 returns-in-Err-parse-clause-err c =
-    unread c.args.bytes.now c.in-Ok.text.now c.in-Err-parse.fault c.in-Ok.ensures.text c.in-Err-parse.ensures.refused c.in-Err-parse.ensures.too_long c.in-Err-parse.ensures.accepted
+    unread c.args.bytes.now c.in-Ok.text.now c.in-Err-parse.fault c.in-Ok.ensures.text c.in-Ok.ensures.utf8 c.in-Err-parse.ensures.refused c.in-Err-parse.ensures.too_long c.in-Err-parse.ensures.accepted
