@@ -1,13 +1,12 @@
--- From graphs to what two expressions accept.
+-- From graphs to what two filters accept.
 use Rattle.std.proofs.Common.{◌≡◌, ℕ, ◌+◌, ◌%◌, ◌*◌, ◌^◌, ◌<◌, ◌≤◌, Bool, true, false, List, length, inl, inr, refl, sym, ap, ◌∙◌, arith}
 use Rattle.std.specs.Prelude.{◌⊎◌, ◌==◌, if◌then◌else◌, nat_lt, nat_le, min, max, bit_and, Option, Some, None}
 use Rattle.std.proofs.lemmas.Bool.{eqb-true, cases_lt}
 use Rattle.std.proofs.lemmas.Bool.Decides.{nat_tests}
 use Rattle.std.proofs.lemmas.Nat.{and_le_r}
 use Rattle.std.proofs.Math.Nat.{mod-eq_of_lt}
-use Rattle.filter_tree.specs.Trees.{Tree}
 use Rattle.filter_meaning.specs.declared.verdict.Verdict.TheVariants.{Yes, No, Abort}
-use Rattle.filter_meaning.specs.Meaning.{Packet, byte, is_yes, accepts, meaning}
+use Rattle.filter_meaning.specs.Meaning.{Packet, Test, byte, is_yes}
 use Rattle.filter_same.specs.declared.answer.Answer.{Answer}
 use Rattle.filter_same.specs.declared.answer.Answer.TheVariants.{Final, Never}
 use Rattle.filter_same.specs.declared.answer.Operation.TheVariants.{Agree, Apart, Cut}
@@ -139,30 +138,30 @@ never-no c a always said =
     let there : nat_le 0 c ≡ true = grind (arith, nat_tests) in
     absurd (let e : Yes ≡ No = sym (ap (λ t. if t then Yes else Abort) there) ∙ sym (ap (verdict_of c) always) ∙ said in let f : ⊥ = cc in f)
 
-agree-accepts : (g h : List Node) (header : Option ℕ) (l r i : ℕ) (t u : Tree) (p : Packet)
-    → Means g (record { header = header; wanted = true }) (meaning t) l → Means g (record { header = header; wanted = true }) (meaning u) r
-    → Gives h (λ v. joined Agree (answer g v l) (answer g v r)) i → IsPacket p → HasHeader header p → (verdict_at h i p ≡ No → ⊥) → accepts t p ≡ accepts u p
+agree-accepts : (g h : List Node) (header : Option ℕ) (l r i : ℕ) (t u : Test) (p : Packet)
+    → Means g (record { header = header; wanted = true }) t l → Means g (record { header = header; wanted = true }) u r
+    → Gives h (λ v. joined Agree (answer g v l) (answer g v r)) i → IsPacket p → HasHeader header p → (verdict_at h i p ≡ No → ⊥) → is_yes (t p) ≡ is_yes (u p)
 agree-accepts g h header l r i t u p ml mr gives ok head never =
     let c = length p.captured in
     ap is_yes (sym (ml.says p ok head))
     ∙ agreed c (answer g (bit_of p) l) (answer g (bit_of p) r) (λ said. never (ap (verdict_of c) (gives.says (bit_of p)) ∙ said))
     ∙ ap is_yes (mr.says p ok head)
 
-pub claims-same : (g h : List Node) (header : Option ℕ) (l r i : ℕ) (t u : Tree)
-    → Means g (record { header = header; wanted = true }) (meaning t) l → Means g (record { header = header; wanted = true }) (meaning u) r
+pub claims-same : (g h : List Node) (header : Option ℕ) (l r i : ℕ) (t u : Test)
+    → Means g (record { header = header; wanted = true }) t l → Means g (record { header = header; wanted = true }) u r
     → Gives h (λ v. joined Agree (answer g v l) (answer g v r)) i → ((v : ℕ → Bool) → answer h v i ≡ Final 0 true) → ClaimsOf header t u Same
 claims-same g h header l r i t u ml mr gives all p ok head =
     agree-accepts g h header l r i t u p ml mr gives ok head (never-no (length p.captured) (answer h (bit_of p) i) (all (bit_of p)))
 
-pub claims-captured : (g h k : List Node) (header : Option ℕ) (l r i j : ℕ) (t u : Tree)
-    → Means g (record { header = header; wanted = true }) (meaning t) l → Means g (record { header = header; wanted = true }) (meaning u) r
+pub claims-captured : (g h k : List Node) (header : Option ℕ) (l r i j : ℕ) (t u : Test)
+    → Means g (record { header = header; wanted = true }) t l → Means g (record { header = header; wanted = true }) u r
     → Gives h (λ v. joined Agree (answer g v l) (answer g v r)) i → KeepsNo h i k j → ((v : ℕ → Bool) → answer k v j ≡ Final 0 true) → ClaimsOf header t u SameAsCaptured
 claims-captured g h k header l r i j t u ml mr gives keeps all p ok head captured =
     agree-accepts g h header l r i t u p ml mr gives ok head
     (λ said. never-no (length p.captured) (answer k (bit_of p) j) (all (bit_of p)) (keeps.says p ok captured said))
 
-pub claims-apart : (g m h k : List Node) (header : Option ℕ) (l r i j : ℕ) (t u : Tree) → Grew g m
-    → Means g (record { header = header; wanted = true }) (meaning t) l → Means g (record { header = header; wanted = true }) (meaning u) r
+pub claims-apart : (g m h k : List Node) (header : Option ℕ) (l r i j : ℕ) (t u : Test) → Grew g m
+    → Means g (record { header = header; wanted = true }) t l → Means g (record { header = header; wanted = true }) u r
     → Gives h (λ v. joined Apart (answer m v l) (answer m v r)) i → KeepsNo h i k j → ((v : ℕ → Bool) → answer k v j ≡ Final 0 true) → ClaimsOf header t u NeverApart
 claims-apart g m h k header l r i j t u grew ml mr gives keeps all p ok head captured apart =
     let c = length p.captured in
@@ -177,13 +176,13 @@ claims-apart g m h k header l r i j t u grew ml mr gives keeps all p ok head cap
 
 -- ---- Each header length
 
-pub no_header : (t u : Tree) (claim : Claim) → ClaimsOf None t u claim → Claims t u claim
+pub no_header : (t u : Test) (claim : Claim) → ClaimsOf None t u claim → Claims t u claim
 no_header t u claim h p ok = h p ok tt
 
 turned : (m : ℕ) → m < 16 → ((m + 11) % 16 + 5) % 16 ≡ m
 turned m less = omega arith
 
-pub each-header : (t u : Tree) (claim : Claim) → ((n : ℕ) → n < 16 → ClaimsOf (Some ((n + 5) % 16)) t u claim) → Claims t u claim
+pub each-header : (t u : Test) (claim : Claim) → ((n : ℕ) → n < 16 → ClaimsOf (Some ((n + 5) % 16)) t u claim) → Claims t u claim
 each-header t u claim each p ok = by (byte 14 p) refl
   where
     by : (b : Option ℕ) → byte 14 p ≡ b → ClaimOf t u claim p

@@ -5,3 +5,7 @@ pub mod Bits
 pub mod Means
 pub mod Ends
 pub mod Loads
+pub mod States
+pub mod Runs
+pub mod Walks
+pub mod Accepting

@@ -28,7 +28,7 @@ pub(crate) enum Refusal {
     Memory,
     /// The budget is spent.
     Budget,
-    /// A relation is asked for.
+    /// A relation, or what a program compares, is nothing that can be tested.
     Relation,
     /// The header length is asked for, and not known.
     Header,

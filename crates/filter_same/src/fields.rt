@@ -14,7 +14,7 @@ use crate::graph::Graph;
 use crate::table::Stop;
 
 /// Bytes of the frame that are a number in network order, under a mask.
-#[derive(Clone, Copy, Debug)]
+#[derive(Clone, Copy, Debug, PartialEq, Eq, Hash)]
 pub(crate) struct Bytes {
     pub offset: u32,
     pub size: u32,

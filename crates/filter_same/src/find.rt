@@ -1,23 +1,22 @@
-//! What the graphs of two expressions show.
+//! What the graphs of two filters show.
 
 ghost use Rattle.std.specs.Prelude.{◌≡◌, ℕ, ◌<◌, Bool, length, Some, true, IsTrue, IfOk, IfSome};
-ghost use Rattle.filter_tree.specs.Trees.{Tree, tree_of};
-ghost use Rattle.filter_meaning.specs.Meaning.{Packet, meaning};
+ghost use Rattle.filter_meaning.specs.Meaning.{Packet, Test};
 ghost use Rattle.filter_same.specs.declared.answer.Answer.TheVariants.{Final};
 ghost use Rattle.filter_same.specs.Graphs.{answer};
 ghost use Rattle.filter_same.specs.Packets.{Means};
+ghost use Rattle.filter_same.specs.Filters.{filter_test};
 ghost use Rattle.filter_same.specs.Findings.{ClaimOf, ClaimsOf, Claims};
 
 use crate::answer::{Answer, Operation};
-use crate::case::{Case, Refusal};
+use crate::case::Refusal;
+use crate::filters::Filter;
 use crate::graph::Graph;
 use crate::table::Stop;
-use crate::trees::tree;
 use crate::witness::{Extent, Witness};
-use filter_tree::Expr;
 use std::alloc::Global;
 
-/// What is so of two expressions. Each claim is so where the one before it is.
+/// What is so of two filters. Each claim is so where the one before it is.
 #[derive(Clone, Copy, Debug, PartialEq, Eq)]
 pub(crate) enum Claim {
     /// They accept the same packets.
@@ -30,7 +29,7 @@ pub(crate) enum Claim {
     Nothing,
 }
 
-/// What is found of two expressions: what is so of them, and a packet that perhaps shows that no more is.
+/// What is found of two filters: what is so of them, and a packet that perhaps shows that no more is.
 #[derive(Drop)]
 pub(crate) struct Finding {
     pub claim: Claim,
@@ -40,8 +39,8 @@ pub(crate) struct Finding {
 impl Claim {
     /// The one of two claims that says less.
     fn weaker(self, other: Claim) -> Claim
-        ensures first { (t u : Tree) → (p : Packet) → ClaimOf t u self p → ClaimOf t u result p }
-        ensures second { (t u : Tree) → (p : Packet) → ClaimOf t u other p → ClaimOf t u result p }
+        ensures first { (t u : Test) → (p : Packet) → ClaimOf t u self p → ClaimOf t u result p }
+        ensures second { (t u : Test) → (p : Packet) → ClaimOf t u other p → ClaimOf t u result p }
     {
         match (self, other) {
             (Claim::Nothing, _) => self,
@@ -64,7 +63,7 @@ impl Graph {
     }
 }
 
-/// Compares two expressions on the packets of one header length, by the nodes that they are.
+/// Compares two filters on the packets of one header length, by the nodes that they are.
 #[tactic(auto, using(crate::proofs::Tables::grown_more, crate::proofs::Tables::grown_inside))]
 fn find_in(
     graph: &mut Graph,
@@ -76,8 +75,8 @@ fn find_in(
     requires header { IfSome header (λ n. n < 16) }
     requires left { left < length graph.old }
     requires right { right < length graph.old }
-    ensures { IfOk result (λ found. (t u : Tree) → Means graph.old (record { header = header; wanted = true }) (meaning t) left
-        → Means graph.old (record { header = header; wanted = true }) (meaning u) right → ClaimsOf header t u found.claim) }
+    ensures { IfOk result (λ found. (t u : Test) → Means graph.old (record { header = header; wanted = true }) t left
+        → Means graph.old (record { header = header; wanted = true }) u right → ClaimsOf header t u found.claim) }
 {
     let agree = graph.join(Operation::Agree, left, right)?;
     if graph.is_always(agree) {
@@ -107,31 +106,32 @@ fn find_in(
     })
 }
 
-/// Compares two expressions on the packets of one header length, or on all where none is given and none is asked for.
+/// Compares two filters on the packets of one header length, or on all where none is given and none is asked for.
 fn find(
     alloc: Global,
     header: Option<u32>,
-    first: &Expr,
-    second: &Expr,
+    first: Filter<'_>,
+    second: Filter<'_>,
     budget: usize,
 ) -> Result<Finding, Refusal>
     requires { IfSome header (λ n. n < 16) }
-    ensures { IfOk result (λ found. ClaimsOf header (tree_of first.now) (tree_of second.now) found.claim) }
+    ensures { IfOk result (λ found. ClaimsOf header (filter_test first.entry) (filter_test second.entry) found.claim) }
 {
     let mut graph = Graph::new(alloc, budget);
-    let case = Case {
-        header,
-        wanted: true,
-    };
-    let left = tree(&mut graph, case, first)?;
-    let right = tree(&mut graph, case, second)?;
+    let left = first.node(&mut graph, alloc, header, budget)?;
+    let right = second.node(&mut graph, alloc, header, budget)?;
     let found = find_in(&mut graph, alloc, header, left, right)?;
     Ok(found)
 }
 
 /// The same of all header lengths, one after the other, the usual one first.
-fn find_each(alloc: Global, first: &Expr, second: &Expr, budget: usize) -> Result<Finding, Refusal>
-    ensures { IfOk result (λ found. Claims (tree_of first.now) (tree_of second.now) found.claim) }
+fn find_each(
+    alloc: Global,
+    first: Filter<'_>,
+    second: Filter<'_>,
+    budget: usize,
+) -> Result<Finding, Refusal>
+    ensures { IfOk result (λ found. Claims (filter_test first.entry) (filter_test second.entry) found.claim) }
 {
     let mut least = Claim::Same;
     let mut shown = None;
@@ -160,11 +160,11 @@ fn find_each(alloc: Global, first: &Expr, second: &Expr, budget: usize) -> Resul
 #[tactic(auto, using(crate::proofs::Ends::no_header))]
 pub(crate) fn find_all(
     alloc: Global,
-    first: &Expr,
-    second: &Expr,
+    first: Filter<'_>,
+    second: Filter<'_>,
     budget: usize,
 ) -> Result<Finding, Refusal>
-    ensures { IfOk result (λ found. Claims (tree_of first.now) (tree_of second.now) found.claim) }
+    ensures { IfOk result (λ found. Claims (filter_test first.entry) (filter_test second.entry) found.claim) }
 {
     match find(alloc, None, first, second, budget) {
         Err(Refusal::Header) => find_each(alloc, first, second, budget),

@@ -1,6 +1,7 @@
-//! Two filter expressions decided for every packet.
+//! Two filters decided for every packet.
 //!
 //! [`decide`] says whether two expressions accept the same packets, of every packet there can be, or that it has not decided it.
+//! [`decide_filters`] says the same of any two filters: each is an expression or a program.
 #![tactic(auto)]
 
 mod answer;
@@ -8,16 +9,23 @@ mod case;
 mod compare;
 mod cut;
 mod fields;
+mod filters;
 mod find;
 mod graph;
+mod known;
+pub mod laws;
 mod plain;
 mod primitives;
+mod programs;
 mod relations;
 mod sameness;
+mod spots;
+mod steps;
 mod table;
 mod terms;
 mod trees;
 mod witness;
 
-pub use sameness::{Cause, Sameness, decide};
+pub use filters::Filter;
+pub use sameness::{Cause, Sameness, decide, decide_filters};
 pub use witness::Witness;

@@ -1,30 +1,33 @@
-//! What is decided of two expressions.
+//! What is decided of two filters.
 
-ghost use Rattle.std.specs.Prelude.{◌≡◌, ◌≤◌, length, IfOk, IsTrue};
+ghost use Rattle.std.specs.Prelude.{◌≡◌, Bool, ◌≤◌, ◌⊎◌, length, IfOk, IsTrue};
 ghost use Rattle.filter_tree.specs.Trees.{tree_of};
-ghost use Rattle.filter_same.specs.Same.{AreApart, AreNeverApart, IsShort, Holds, packet};
+ghost use Rattle.filter_meaning.specs.Meaning.{Packet, Test};
+ghost use Rattle.filter_same.specs.Same.{AreNeverApart, Holds, HoldsOf, packet};
+ghost use Rattle.filter_same.specs.Filters.{HoldsOfFilters, filter_test};
 ghost use Rattle.filter_same.specs.Findings.{Claims};
 
 use crate::case::Refusal;
+use crate::filters::Filter;
 use crate::find::{Claim, Finding, find_all};
 use crate::witness::Witness;
 use bpfvm::NoMemory;
-use filter_meaning::{Verdict, evaluate};
+use filter_meaning::Verdict;
 use filter_tree::Expr;
 use std::alloc::Global;
 
-/// Why two expressions are not decided.
+/// Why two filters are not decided.
 #[derive(Clone, Copy, Debug, PartialEq, Eq)]
 pub enum Cause {
-    /// Their graphs differ, and no packet was found that shows how the expressions do.
+    /// Their graphs differ, and no packet was found that shows how the filters do.
     Graphs,
     /// The budget is spent.
     Budget,
-    /// One of them has a relation.
+    /// An expression has a relation of another kind, or a program calculates, or reads, what the graph can't test.
     Relation,
 }
 
-/// What is known of two expressions.
+/// What is known of two filters.
 #[derive(Debug, PartialEq, Eq, Drop)]
 pub enum Sameness {
     /// They accept the same packets, of every captured length and every length on the wire.
@@ -40,27 +43,25 @@ pub enum Sameness {
     NotDecided(Cause),
 }
 
-/// Whether a packet gets Yes from one expression and No from the other.
-fn are_apart(first: &Expr, second: &Expr, witness: &Witness) -> bool
-    ensures { IsTrue result → AreApart (tree_of first.now) (tree_of second.now) (packet witness.now) }
+/// Whether one verdict is Yes and the other No.
+fn are_apart(first: Verdict, second: Verdict) -> bool
+    ensures { IsTrue result → ((first ≡ Verdict.Yes) × (second ≡ Verdict.No)) ⊎ ((first ≡ Verdict.No) × (second ≡ Verdict.Yes)) }
 {
-    let answer = evaluate(first, &witness.bytes, witness.wire);
-    match evaluate(second, &witness.bytes, witness.wire) {
-        Verdict::Yes => answer == Verdict::No,
-        Verdict::No => answer == Verdict::Yes,
+    match second {
+        Verdict::Yes => first == Verdict::No,
+        Verdict::No => first == Verdict::Yes,
         Verdict::Abort => false,
     }
 }
 
-/// Whether a packet gets Yes from one expression, on which the other aborts.
-fn is_short(first: &Expr, second: &Expr, witness: &Witness) -> bool
-    ensures { IsTrue result → IsShort (tree_of first.now) (tree_of second.now) (packet witness.now) }
+/// Whether one verdict is Yes and the other Abort.
+fn is_short(first: Verdict, second: Verdict) -> bool
+    ensures { IsTrue result → ((first ≡ Verdict.Yes) × (second ≡ Verdict.Abort)) ⊎ ((first ≡ Verdict.Abort) × (second ≡ Verdict.Yes)) }
 {
-    let answer = evaluate(first, &witness.bytes, witness.wire);
-    match evaluate(second, &witness.bytes, witness.wire) {
-        Verdict::Yes => answer == Verdict::Abort,
+    match second {
+        Verdict::Yes => first == Verdict::Abort,
         Verdict::No => false,
-        Verdict::Abort => answer == Verdict::Yes,
+        Verdict::Abort => first == Verdict::Yes,
     }
 }
 
@@ -82,46 +83,79 @@ pub fn decide(
 ) -> Result<Sameness, NoMemory>
     ensures { IfOk result (Holds (tree_of first.now) (tree_of second.now)) }
 {
+    decide_filters(
+        alloc,
+        Filter::Expression(first),
+        Filter::Expression(second),
+        budget,
+    )
+}
+
+/// What two filters do on every packet there can be. Each answer but [`Sameness::NotDecided`] is so. A program accepts a packet if it keeps
+/// any bytes of it, and aborts if it reads past the captured bytes or divides by 0.
+///
+/// `budget` is how many nodes a graph may have, how many pairs of them it may join, and at how many places of a program it may look.
+/// `NoMemory` if memory is refused.
+pub fn decide_filters(
+    alloc: Global,
+    first: Filter<'_>,
+    second: Filter<'_>,
+    budget: usize,
+) -> Result<Sameness, NoMemory>
+    ensures { IfOk result (HoldsOfFilters first.entry second.entry) }
+{
     match find_all(alloc, first, second, budget) {
-        Ok(found) => Ok(sameness_of(first, second, found)),
+        Ok(found) => sameness_of(alloc, first, second, found),
         Err(Refusal::Memory) => Err(NoMemory),
         Err(Refusal::Relation) => Ok(Sameness::NotDecided(Cause::Relation)),
         Err(_) => Ok(Sameness::NotDecided(Cause::Budget)),
     }
 }
 
-/// What is known by a finding, once `evaluate` has judged its packet.
-fn sameness_of(first: &Expr, second: &Expr, found: Finding) -> Sameness
-    requires { Claims (tree_of first.now) (tree_of second.now) found.claim }
-    ensures { Holds (tree_of first.now) (tree_of second.now) result }
+/// What is known by a finding, once both filters have judged its packet.
+fn sameness_of(
+    alloc: Global,
+    first: Filter<'_>,
+    second: Filter<'_>,
+    found: Finding,
+) -> Result<Sameness, NoMemory>
+    requires { Claims (filter_test first) (filter_test second) found.claim }
+    ensures { IfOk result (HoldsOfFilters first.entry second.entry) }
 {
     let Finding { claim, witness } = found;
     match (claim, witness) {
-        (Claim::Same, _) => Sameness::Same,
-        (Claim::SameAsCaptured, _) => Sameness::SameAsCaptured,
-        (Claim::NeverApart, Some(witness)) => short(first, second, witness),
-        (Claim::Nothing, Some(witness)) => apart(first, second, witness),
-        (_, None) => Sameness::NotDecided(Cause::Graphs),
+        (Claim::Same, _) => Ok(Sameness::Same),
+        (Claim::SameAsCaptured, _) => Ok(Sameness::SameAsCaptured),
+        (Claim::NeverApart, Some(witness)) => {
+            let one = first.verdict(alloc, &witness)?;
+            let other = second.verdict(alloc, &witness)?;
+            Ok(short(one, other, witness))
+        }
+        (Claim::Nothing, Some(witness)) => {
+            let one = first.verdict(alloc, &witness)?;
+            let other = second.verdict(alloc, &witness)?;
+            Ok(apart(one, other, witness))
+        }
+        (_, None) => Ok(Sameness::NotDecided(Cause::Graphs)),
     }
 }
 
-/// What a packet shows of two expressions that are never apart.
-fn short(first: &Expr, second: &Expr, witness: Witness) -> Sameness
-    requires { AreNeverApart (tree_of first.now) (tree_of second.now) }
-    ensures { Holds (tree_of first.now) (tree_of second.now) result }
+/// What a packet shows of two filters that are never apart, by their verdicts.
+fn short(first: Verdict, second: Verdict, witness: Witness) -> Sameness
+    ensures { (f g : Packet → Bool) → (t u : Test) → AreNeverApart t u → first ≡ t (packet witness) → second ≡ u (packet witness) → HoldsOf f g t u result }
 {
-    if is_captured(&witness) && is_short(first, second, &witness) {
+    if is_captured(&witness) && is_short(first, second) {
         Sameness::Short(witness)
     } else {
         Sameness::NotDecided(Cause::Graphs)
     }
 }
 
-/// What a packet shows of two expressions.
-fn apart(first: &Expr, second: &Expr, witness: Witness) -> Sameness
-    ensures { Holds (tree_of first.now) (tree_of second.now) result }
+/// What a packet shows of two filters, by their verdicts.
+fn apart(first: Verdict, second: Verdict, witness: Witness) -> Sameness
+    ensures { (f g : Packet → Bool) → (t u : Test) → first ≡ t (packet witness) → second ≡ u (packet witness) → HoldsOf f g t u result }
 {
-    if is_captured(&witness) && are_apart(first, second, &witness) {
+    if is_captured(&witness) && are_apart(first, second) {
         Sameness::Differ(witness)
     } else {
         Sameness::NotDecided(Cause::Graphs)
