@@ -13,6 +13,9 @@ const MAX_TURNS: u32 = 20_000;
 /// How many buffers go round.
 const SPARES: usize = 16;
 
+/// How many packets arrive where the first write fails: enough that some come after it on a busy machine.
+const CROWD: usize = 1_000;
+
 /// Takes everything, but holds each write after the header until as many batches were read as buffers go round.
 #[derive(Drop)]
 struct Patient<'a, R> {
@@ -45,7 +48,7 @@ impl<R: Clock> Write for Patient<'_, R> {
     }
 }
 
-/// Gives each packet time to be read, and counts the batches.
+/// Gives each packet time to be read until as many batches were read as buffers go round, and counts the batches.
 #[derive(Drop)]
 struct Paced<'a, R> {
     rt: &'a R,
@@ -54,7 +57,9 @@ struct Paced<'a, R> {
 
 impl<R: Clock> Gate for Paced<'_, R> {
     fn before_arrive(&self, _interface: u32, _n: u64) {
-        thread::sleep(self.rt, Duration::from_millis(1));
+        if self.read.load(SeqCst) < SPARES as u64 {
+            thread::sleep(self.rt, Duration::from_millis(1));
+        }
     }
 
     fn after_arrive(&self, _interface: u32, _n: u64) {}
@@ -106,10 +111,10 @@ fn as_many_batches_are_read_ahead_as_buffers_go_round(rt: HostRuntime) -> Result
         writes: 0,
         first: 0,
     });
-    // Room for one packet in each buffer.
+    // Room for one packet in each buffer. On a busy machine many packets find no room, so there are many more than buffers.
     let mut one = task(keeping_all()?, 64, 96, sink);
     one.spares = SPARES;
-    let reports = run(&rt, alloc, crowded(alloc, 200, one)?, &gate)?;
+    let reports = run(&rt, alloc, crowded(alloc, 5_000, one)?, &gate)?;
     let report = at(&rt, reports.as_slice(), 0);
     let one = at(&rt, report.listeners.as_slice(), 0);
     same(&rt, one.end, TaskEnd::Clean);
@@ -120,7 +125,7 @@ fn as_many_batches_are_read_ahead_as_buffers_go_round(rt: HostRuntime) -> Result
 /// The sink took only the header, and the pair was closed: an arrival that finds it so is not received.
 fn was_closed(rt: &impl Abort, one: &ListenerReport<PaperSink>) {
     same(rt, (one.end, one.written), (TaskEnd::Write(24), 0));
-    assert!(rt; one.received < 250);
+    assert!(rt; one.received < CROWD as u64);
 }
 
 #[test]
@@ -132,7 +137,7 @@ fn a_failed_write_closes_the_drain(rt: HostRuntime) -> Result<(), Fail> {
         read: &read,
     };
     let one = task(keeping_all()?, 64, 96, sink_with(alloc, 24));
-    let reports = run(&rt, alloc, crowded(alloc, 250, one)?, &gate)?;
+    let reports = run(&rt, alloc, crowded(alloc, CROWD, one)?, &gate)?;
     let report = at(&rt, reports.as_slice(), 0);
     same(&rt, report.end, InterfaceEnd::Clean);
     was_closed(&rt, at(&rt, report.listeners.as_slice(), 0));
