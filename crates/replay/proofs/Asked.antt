@@ -14,9 +14,10 @@ use Rattle.handover.specs.Steps.{FlushAnswers}
 use Rattle.handover.specs.declared.calls.Feed.{Feed}
 use Rattle.handover.specs.declared.calls.Feed.TheVariants as call
 use Rattle.handover.specs.declared.view.Profile.{Profile}
-use Rattle.replay.specs.Lines.{Line, fed_all, fed_with}
+use Rattle.replay.specs.Lines.{Line, fed_all, fed_with, line_of, slot_pair}
 use Rattle.replay.specs.Rings.{Ring}
 use Rattle.replay.specs.Playing.{Asking, asked, asked_at, asked_from, is_due}
+use Rattle.replay.specs.declared.states.feeder.FeederSlot.{FeederSlot}
 
 pub asks-append : (fs gs : List Feed) → asks (fs ++ gs) ≡ asks fs ++ asks gs
 asks-append [] gs = refl
@@ -74,6 +75,15 @@ all-fed playlist a (l ∷ ls) =
     (sym (asked-more l.asking 0 playlist a ∙ ap (λ k. asked l.asking playlist ++ asked_at l.asking k a) (omega arith))) in
     ap (λ x. x ∷ map (fed_with (length playlist) a) (map (fed_all playlist) ls)) one ∙ ap (λ xs. fed_all (playlist ++ a ∷ []) l ∷ xs) (all-fed playlist a ls)
 
+-- a packet leaves each feeder with its pair
+pub pairs-fed : (n : ℕ) (a : Arrival) (olds news : List FeederSlot) → map line_of news ≡ map (fed_with n a) (map line_of olds) → map slot_pair news ≡ map slot_pair olds
+pairs-fed n a [] [] e = refl
+pairs-fed n a [] (y ∷ ys) e = absurd cc
+pairs-fed n a (x ∷ xs) [] e = absurd cc
+pairs-fed n a (x ∷ xs) (y ∷ ys) e =
+    let first : line_of y ≡ fed_with n a (line_of x) = cc in let rest : map line_of ys ≡ map (fed_with n a) (map line_of xs) = cc in
+    ap (λ p. p ∷ map slot_pair ys) (ap (λ (l : Line). l.pair) first) ∙ ap (λ ps. slot_pair x ∷ ps) (pairs-fed n a xs ys rest)
+
 -- a list of what stands in the places of another
 pub map-set : {X Y : Type 0} (f : X → Y) (xs : List X) (i : ℕ) (x : X) → map f (set xs i x) ≡ set (map f xs) i (f x)
 map-set f [] i x = refl
@@ -84,6 +94,12 @@ pub get-map : {X Y : Type 0} (f : X → Y) (xs : List X) (i : ℕ) (d : X) → g
 get-map f [] i d = refl
 get-map f (y ∷ ys) zero d = refl
 get-map f (y ∷ ys) (suc i) d = get-map f ys i d
+
+-- what is in a list at a place, whatever would stand in for it
+pub get-any : {X : Type 0} (xs : List X) (i : ℕ) (d e : X) → i < length xs → get_or xs i d ≡ get_or xs i e
+get-any [] i d e inside = absurd (omega (arith, inside))
+get-any (x ∷ xs) zero d e inside = refl
+get-any (x ∷ xs) (suc i) d e inside = get-any xs i d e (omega (arith, inside))
 
 flush-asked : (full : Bool) (f : Feed) → FlushAnswers full f → asks (f ∷ []) ≡ Flush ∷ []
 flush-asked full (call.Arrive m answer) a = absurd a

@@ -17,10 +17,9 @@ fresh-all_parts : {W : Type 0} (all_parts : List (TaskParts W)) → All IsFresh 
 fresh-all_parts [] = All-nil IsFresh
 fresh-all_parts (s ∷ ss) = All-cons IsFresh (parts_line s) (map parts_line ss) refl (fresh-all_parts ss)
 
-pub fresh-lines : {W : Type 0} (ls ms : List Line) (all_parts : List (TaskParts W)) → ls ≡ ms → ms ≡ map parts_line all_parts → All IsFresh ls
-fresh-lines ls ms all_parts e f = subst (λ (ks : List Line). All IsFresh ks) (sym (e ∙ f)) (fresh-all_parts all_parts)
+pub fresh-lines : {W : Type 0} (ls : List Line) (all_parts : List (TaskParts W)) → ls ≡ map parts_line all_parts → All IsFresh ls
+fresh-lines ls all_parts e = subst (λ (ks : List Line). All IsFresh ks) (sym e) (fresh-all_parts all_parts)
 
 -- lists of which the images are the same are as long
-pub as-long : {X Y Z V : Type 0} (f : X → V) (g : Y → V) (h : Z → V) (xs : List X) (ys : List Y) (zs : List Z) → map f xs ≡ map g ys → map g ys ≡ map h zs → length xs ≡ length zs
-as-long f g h xs ys zs e i =
-    let same = ap length (e ∙ i) in let a = length-map xs f in let b = length-map zs h in omega (arith, same, a, b)
+pub as-long : {X Y V : Type 0} (f : X → V) (g : Y → V) (xs : List X) (ys : List Y) → map f xs ≡ map g ys → length xs ≡ length ys
+as-long f g xs ys e = let same = ap length e in let a = length-map xs f in let b = length-map ys g in omega (arith, same, a, b)

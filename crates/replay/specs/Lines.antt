@@ -8,7 +8,6 @@ use Rattle.handover.specs.declared.view.Profile.{Profile}
 use Rattle.replay.specs.Playing.{Asking, asked, asked_at}
 use Rattle.replay.specs.Rings.{Ring, ring_of}
 use Rattle.replay.specs.declared.states.feeder.EndedFeeder.{EndedFeeder}
-use Rattle.replay.specs.declared.states.feeder.LooseFeeder.{LooseFeeder}
 use Rattle.replay.specs.declared.states.feeder.FeederSlot.{FeederSlot}
 use Rattle.replay.specs.declared.replaying_thread.Player.{Player}
 
@@ -29,15 +28,9 @@ line_of i = record {
   asks = asks i.feeder.feeds;
 }
 
--- the same of a feeder that stands apart from its link
-abbrev pub loose_line : LooseFeeder → Line
-loose_line e = record {
-  pair = e.feeder.pair;
-  profile = e.feeder.profile;
-  asking = record { program = e.feeder.program; snap = e.feeder.snap; flush_every = e.flush_every };
-  ring = ring_of e.rest_in.end;
-  asks = asks e.feeder.feeds;
-}
+-- the pair that it is of
+abbrev pub slot_pair : FeederSlot → TableId
+slot_pair i = i.feeder.pair
 
 -- nothing was asked of it yet
 abbrev pub IsFresh : Line → Type 0
@@ -70,6 +63,7 @@ ended_line l = record { pair = l.pair; profile = l.profile; ring = l.ring; asks 
 abbrev pub ended_all : List Line → List EndedLine
 ended_all ls = map ended_line ls
 
--- this playlist arrived at the feeders, which began as `starts`
+-- this playlist arrived at the feeders, which began as `starts`; each is beside its link
 abbrev pub HasArrived : List Line → List Arrival → Player → Type 0
-HasArrived starts playlist p = (p.arrived ≡ length playlist) × (map line_of p.slots.items ≡ map (fed_all playlist) starts)
+HasArrived starts playlist p =
+    (p.arrived ≡ length playlist) × (map line_of p.slots.items ≡ map (fed_all playlist) starts) × (map slot_pair p.slots.items ≡ p.links.now)

@@ -18,33 +18,21 @@ use std::snapshot::Snapshot;
 use std::sync::Wait;
 use std::thread::Promise;
 
-/// Which listener of which interface a thread works for.
-#[derive(Clone, Copy)]
-pub(crate) struct ListenerId {
-    pub(crate) interface: u32,
-    pub(crate) listener: u32,
-}
-
-/// The gate, as the reading thread of one listener calls it.
+/// What the reading thread of a task is given. All that it has read was pushed.
 #[derive(Drop)]
-struct ListenerGate<'a, G> {
-    gate: &'a G,
-    listener_id: ListenerId,
-}
-
-impl<G: Gate> ListenerGate<'_, G> {
-    fn before_read(&self) {
-        self.gate
-            .before_read(self.listener_id.interface, self.listener_id.listener);
-    }
-
-    fn after_read(&self, packets: u32) {
-        self.gate.after_read(
-            self.listener_id.interface,
-            self.listener_id.listener,
-            packets,
-        );
-    }
+pub(crate) struct Reading<'a, G> {
+    pub(crate) gate: &'a G,
+    pub(crate) interface: u32,
+    /// Which listener of the interface.
+    pub(crate) listener: u32,
+    pub(crate) link: &'a TaskLink,
+    pub(crate) drain: Drain,
+    /// Of what is read.
+    pub(crate) full: Producer<Buffer>,
+    /// Of the buffers that come back.
+    pub(crate) empty: Consumer<Buffer>,
+    ghost pair: { drain.pair ≡ link.now },
+    ghost pushed: { messages_of (sent full) ≡ batches_of drain.takes },
 }
 
 /// What a reading thread hands back.
@@ -105,44 +93,6 @@ fn push_waiting<R: Wait>(rt: &R, link: &TaskLink, producer: &mut Producer<Buffer
     unreachable!()
 }
 
-#[tactic(auto, using(crate::proofs::Batches::pushes_batch, crate::proofs::Batches::batches_nothing, crate::proofs::Batches::batches_ended, crate::proofs::Batches::ended_found))]
-/// Reads once, and pushes the batch that was read.
-fn read_once<G: Gate, R: Wait>(
-    rt: &R,
-    gate: &ListenerGate<'_, G>,
-    link: &TaskLink,
-    drain: &mut Drain,
-    full: &mut Producer<Buffer>,
-    empty: Buffer,
-) -> Once
-    requires pair { drain.old.pair ≡ link.now }
-    requires empty { empty ≡ filled drain.old.profile.capacity [] }
-    requires pushed { messages_of (sent full.old) ≡ batches_of drain.old.takes }
-    ensures same { IsSameDrain drain.old drain.new }
-    ensures ring { SameProducer full.old full.new }
-    ensures pushed { messages_of (sent full.new) ≡ batches_of drain.new.takes }
-    ensures kept { (b : _) → result ≡ Once.StillEmpty b → b ≡ filled drain.old.profile.capacity [] }
-    ensures ended { result ≡ Once.Ended → ended_in drain.new.takes ≡ true }
-{
-    gate.before_read();
-    match drain.read(link.pair(), empty) {
-        Read::Full(buffer) => {
-            gate.after_read(buffer.len() as u32);
-            push_waiting(rt, link, full, buffer);
-            link.wake_writer();
-            Once::Pushed
-        }
-        Read::Nothing(buffer) => {
-            gate.after_read(0);
-            Once::StillEmpty(buffer)
-        }
-        Read::Ended(_) => {
-            gate.after_read(0);
-            Once::Ended
-        }
-    }
-}
-
 /// The next empty buffer, cleared.
 fn next_empty<R: Wait>(
     rt: &R,
@@ -174,53 +124,86 @@ fn next_empty<R: Wait>(
     unreachable!()
 }
 
-/// Reads until the end is found, or until nobody gives buffers back any more. Then it closes the drain. Where a thread was
-/// refused, it does nothing.
+impl<G: Gate> Reading<'_, G> {
+    #[tactic(auto, using(crate::proofs::Batches::pushes_batch, crate::proofs::Batches::batches_nothing, crate::proofs::Batches::batches_ended, crate::proofs::Batches::ended_found))]
+    /// Reads once, and pushes the batch that was read.
+    fn read_once<R: Wait>(&mut self, rt: &R, empty: Buffer) -> Once
+        requires { empty ≡ filled self.old.drain.profile.capacity [] }
+        ensures same { IsSameDrain self.old.drain self.new.drain }
+        ensures ring { SameProducer self.old.full self.new.full }
+        ensures kept { (b : _) → result ≡ Once.StillEmpty b → b ≡ filled self.old.drain.profile.capacity [] }
+        ensures ended { result ≡ Once.Ended → ended_in self.new.drain.takes ≡ true }
+    {
+        let gate = self.gate;
+        gate.before_read(self.interface, self.listener);
+        match self.drain.read(self.link.pair(), empty) {
+            Read::Full(buffer) => {
+                gate.after_read(self.interface, self.listener, buffer.len() as u32);
+                push_waiting(rt, self.link, &mut self.full, buffer);
+                self.link.wake_writer();
+                Once::Pushed
+            }
+            Read::Nothing(buffer) => {
+                gate.after_read(self.interface, self.listener, 0);
+                Once::StillEmpty(buffer)
+            }
+            Read::Ended(_) => {
+                gate.after_read(self.interface, self.listener, 0);
+                Once::Ended
+            }
+        }
+    }
+
+    /// Reads until the end is found, or until nobody gives buffers back any more.
+    fn read_all<R: Wait>(&mut self, rt: &R) -> ReaderStop
+        ensures same { IsSameDrain self.old.drain self.new.drain }
+        ensures ring { SameProducer self.old.full self.new.full }
+        ensures ended { result ≡ ReaderStop.Ended → ended_in self.new.drain.takes ≡ true }
+    {
+        let link = self.link;
+        let capacity = self.drain.capacity();
+        let mut spare: Option<Buffer> = None;
+        let mut backoff = Backoff::new();
+        for _ in rt.forever() {
+            let buffer = match spare.take() {
+                Some(buffer) => buffer,
+                None => match next_empty(rt, link, &mut self.empty, capacity) {
+                    Ok(buffer) => buffer,
+                    Err(why) => return why,
+                },
+            };
+            match self.read_once(rt, buffer) {
+                Once::Pushed => backoff = Backoff::new(),
+                Once::StillEmpty(buffer) => {
+                    spare = Some(buffer);
+                    backoff.wait(rt, &link.reader);
+                }
+                Once::Ended => return ReaderStop::Ended,
+            }
+        }
+        unreachable!()
+    }
+}
+
+/// Reads all that it can, and then closes the drain. Where a thread was refused, it does nothing.
 pub(crate) fn read_out<G: Gate, R: Wait>(
     rt: &R,
     barrier: &StartBarrier,
-    gate: &G,
-    link: &TaskLink,
-    mut drain: Drain,
-    mut full: Producer<Buffer>,
-    mut empty: Consumer<Buffer>,
-    listener_id: ListenerId,
+    reading: Reading<'_, G>,
 ) -> Option<ReaderEnd>
-    requires pair { drain.pair ≡ link.now }
-    requires new { (drain.takes ≡ []) × (sent full ≡ []) }
-    ensures { IfSome result (HasRead drain full) }
+    ensures { IfSome result (HasRead reading.entry.drain reading.entry.full) }
 {
     if !barrier.is_whole(rt) {
         return None;
     }
-    let gate = ListenerGate { gate, listener_id };
-    let capacity = drain.capacity();
-    let mut spare: Option<Buffer> = None;
-    let mut stop = ReaderStop::Abandoned;
-    let mut backoff = Backoff::new();
-    for _ in rt.forever() {
-        let buffer = match spare.take() {
-            Some(buffer) => buffer,
-            None => match next_empty(rt, link, &mut empty, capacity) {
-                Ok(buffer) => buffer,
-                Err(why) => {
-                    stop = why;
-                    break;
-                }
-            },
-        };
-        match read_once(rt, &gate, link, &mut drain, &mut full, buffer) {
-            Once::Pushed => backoff = Backoff::new(),
-            Once::StillEmpty(buffer) => {
-                spare = Some(buffer);
-                backoff.wait(rt, &link.reader);
-            }
-            Once::Ended => {
-                stop = ReaderStop::Ended;
-                break;
-            }
-        }
-    }
+    let mut reading = reading;
+    let stop = reading.read_all(rt);
+    let Reading {
+        link,
+        drain,
+        full,
+        ..
+    } = reading;
     let end = ReaderEnd {
         drain: drain.close(link.pair()),
         finished: full.finish(),

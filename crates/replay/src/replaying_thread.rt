@@ -7,14 +7,14 @@ ghost use Rattle.savefile.specs.declared.header.Header.{Header};
 ghost use Rattle.savefile.specs.Reader.{HasGiven};
 ghost use Rattle.replay.specs.Arrived.{HasGivenPackets};
 ghost use Rattle.replay.specs.Captures.{ComesBack, GivesPlaylist};
-ghost use Rattle.replay.specs.Lines.{HasArrived, IsFresh, Line, loose_line, ended_all, ended_line, ended_of, fed_with, line_of};
+ghost use Rattle.replay.specs.Lines.{HasArrived, IsFresh, Line, ended_all, ended_line, ended_of, fed_with, line_of, slot_pair};
 ghost use Rattle.replay.specs.PlayedOut.{HasPlayedOut};
 ghost use Rattle.replay.specs.Playing.{is_due};
 ghost use Rattle.replay.specs.Writing.{IsTimely};
 
 use crate::gate::Gate;
 use crate::start_barrier::Shared;
-use crate::states::{EndedFeeder, FeederSlot, LooseFeeder};
+use crate::states::{EndedFeeder, FeederSlot};
 use crate::task_link::TaskLink;
 use listener::Fed;
 use replay_types::InterfaceEnd;
@@ -27,11 +27,12 @@ use std::thread::Promise;
 /// The most packets that arrive at an interface.
 const MAX_ARRIVALS: u64 = u64::MAX - 1;
 
-/// The feeders of an interface, and how many packets arrived there.
+/// The feeders of an interface, beside the links of their tasks, and how many packets arrived there.
 #[derive(Drop)]
 pub(crate) struct Player<'a> {
     pub(crate) interface: u32,
-    pub(crate) slots: Vec<FeederSlot<'a>>,
+    pub(crate) links: &'a [TaskLink],
+    pub(crate) slots: Vec<FeederSlot>,
     pub(crate) arrived: u64,
 }
 
@@ -64,33 +65,32 @@ fn wake_reader_if(link: &TaskLink, is_hold_made: bool) {
 }
 
 /// Gives a packet to a feeder, flushes it if that is due, and wakes its reader where there is a hold to read.
-fn give(slot: &mut FeederSlot<'_>, placed: &PlacedArrival<'_>)
+fn give(slot: &mut FeederSlot, link: &TaskLink, placed: &PlacedArrival<'_>)
+    requires pair { slot_pair slot.old ≡ link.now }
     requires n { placed.now.n < 2 ^ 64 - 2 }
     requires room { count is_arrival (line_of slot.old).asks < 2 ^ 64 - 1 }
     ensures { line_of slot.new ≡ fed_with placed.now.n (arrival placed.now.capture placed.now.place placed.now.packet.now) (line_of slot.old) }
 {
-    let fed = slot.feeder.arrive(
-        slot.link.pair(),
-        placed.capture,
-        placed.place,
-        placed.packet,
-    );
-    wake_reader_if(slot.link, is_hold_made(fed));
+    let fed = slot
+        .feeder
+        .arrive(link.pair(), placed.capture, placed.place, placed.packet);
+    wake_reader_if(link, is_hold_made(fed));
     if is_due(slot.flush_every, placed.n) {
-        let flushed = slot.feeder.flush(slot.link.pair());
-        wake_reader_if(slot.link, flushed);
+        let flushed = slot.feeder.flush(link.pair());
+        wake_reader_if(link, flushed);
     }
 }
 
 /// Gives a packet to each feeder.
-fn give_all(slots: &mut Vec<FeederSlot<'_>>, placed: &PlacedArrival<'_>)
+fn give_all(slots: &mut Vec<FeederSlot>, links: &[TaskLink], placed: &PlacedArrival<'_>)
+    requires pairs { map slot_pair slots.old.items ≡ links.now }
     requires n { placed.now.n < 2 ^ 64 - 2 }
     requires room { All (λ l. count is_arrival l.asks < 2 ^ 64 - 1) (map line_of slots.old.items) }
     ensures { map line_of slots.new.items
         ≡ map (fed_with placed.now.n (arrival placed.now.capture placed.now.place placed.now.packet.now)) (map line_of slots.old.items) }
 {
-    for slot in slots.iter_mut() {
-        give(slot, placed);
+    for (k, slot) in slots.iter_mut().enumerate() {
+        give(slot, &links[k], placed);
     }
 }
 
@@ -109,7 +109,7 @@ impl Player<'_> {
             packet,
         };
         gate.before_arrive(self.interface, placed.n);
-        give_all(&mut self.slots, &placed);
+        give_all(&mut self.slots, self.links, &placed);
         gate.after_arrive(self.interface, placed.n);
         self.arrived += 1;
     }
@@ -206,17 +206,16 @@ impl Player<'_> {
 /// What the replaying thread of an interface is given.
 #[derive(Drop)]
 pub(crate) struct Play<'a, R> {
-    pub(crate) alloc: Global,
-    pub(crate) interface: u32,
-    pub(crate) slots: Vec<FeederSlot<'a>>,
+    pub(crate) player: Player<'a>,
     pub(crate) captures: Vec<R>,
     /// Room for what comes back of the feeders.
     pub(crate) ends: Vec<EndedFeeder>,
     /// Room for what comes back of the captures.
     pub(crate) sources: Vec<R>,
-    ghost fresh: { All IsFresh (map line_of slots.items) },
+    ghost pairs: { map slot_pair player.slots.items ≡ player.links.now },
+    ghost fresh: { (player.arrived ≡ 0) × All IsFresh (map line_of player.slots.items) },
     ghost few: { length captures.items ≤ 65536 },
-    ghost ends_fit: { (length ends.items ≡ 0) × (length slots.items ≤ vec_capacity ends) },
+    ghost ends_fit: { (length ends.items ≡ 0) × (length player.slots.items ≤ vec_capacity ends) },
     ghost sources_fit: { (length sources.items ≡ 0) × (length captures.items ≤ vec_capacity sources) },
 }
 
@@ -231,22 +230,22 @@ pub(crate) struct PlayEnd<R> {
 /// A replaying thread hands back these feeders ended, after the packets of these captures; nothing if a thread was refused.
 #[derive(Drop)]
 pub(crate) struct PlaysOut<R> {
-    pub(crate) feeders: Snapshot<Vec<LooseFeeder>>,
+    pub(crate) slots: Snapshot<Vec<FeederSlot>>,
     pub(crate) captures: Snapshot<Vec<R>>,
 }
 
 impl<R: Source> Promise<Option<PlayEnd<R>>> for PlaysOut<R> {
-    ghost kept_by = { λ p r. IfSome r (HasPlayedOut R.left R.failures (map loose_line p.feeders.value.items) p.captures.value.items) };
+    ghost kept_by = { λ p r. IfSome r (HasPlayedOut R.left R.failures (map line_of p.slots.value.items) p.captures.value.items) };
 }
 
 #[tactic(auto, using(crate::proofs::Rings::ring_of_same))]
 /// Ends a feeder, and hands its rest to the writer of its task.
-fn end_one(slot: FeederSlot<'_>) -> EndedFeeder
-    ensures { ended_of result ≡ ended_line (line_of slot.entry) }
+fn end_one(slot: FeederSlot, link: &TaskLink) -> EndedFeeder
+    requires { slot_pair slot ≡ link.now }
+    ensures { ended_of result ≡ ended_line (line_of slot) }
 {
     let FeederSlot {
         feeder,
-        link,
         flush_every: _,
         mut rest_in,
     } = slot;
@@ -258,12 +257,15 @@ fn end_one(slot: FeederSlot<'_>) -> EndedFeeder
 }
 
 /// Ends all feeders.
-fn end_all(slots: Vec<FeederSlot<'_>>, mut ends: Vec<EndedFeeder>) -> Vec<EndedFeeder>
-    requires room { (ends.items ≡ []) × (length slots.items ≤ vec_capacity ends) }
-    ensures { map ended_of result.items ≡ ended_all (map line_of slots.entry.items) }
+fn end_all(player: Player<'_>, mut ends: Vec<EndedFeeder>) -> Vec<EndedFeeder>
+    requires pairs { map slot_pair player.slots.items ≡ player.links.now }
+    requires room { (ends.items ≡ []) × (length player.slots.items ≤ vec_capacity ends) }
+    ensures { map ended_of result.items ≡ ended_all (map line_of player.entry.slots.items) }
 {
+    let Player { links, slots, .. } = player;
     for slot in slots {
-        ends.push_reserved(end_one(slot));
+        let k = ends.len();
+        ends.push_reserved(end_one(slot, &links[k]));
     }
     ends
 }
@@ -274,25 +276,18 @@ pub(crate) fn play_out<S: Source + Drop, G: Gate, R: Wait>(
     shared: &Shared<'_, G>,
     play: Play<'_, S>,
 ) -> Option<PlayEnd<S>>
-    ensures { IfSome result (HasPlayedOut S.left S.failures (map line_of play.entry.slots.items) play.entry.captures.items) }
+    ensures { IfSome result (HasPlayedOut S.left S.failures (map line_of play.entry.player.slots.items) play.entry.captures.items) }
 {
     if !shared.barrier.is_whole(rt) {
         return None;
     }
     let Play {
-        alloc,
-        interface,
-        slots,
+        mut player,
         captures,
         ends,
         sources,
     } = play;
-    let mut player = Player {
-        interface,
-        slots,
-        arrived: 0,
-    };
-    let (sources, end) = player.give_captures(alloc, shared.gate, captures, sources);
-    let ends = end_all(player.slots, ends);
+    let (sources, end) = player.give_captures(shared.alloc, shared.gate, captures, sources);
+    let ends = end_all(player, ends);
     Some(PlayEnd { ends, sources, end })
 }

@@ -1,13 +1,12 @@
 //! Room for what threads hand back, made before they are started.
 
-ghost use Rattle.std.specs.Prelude.{◌≡◌, ◌≤◌, [], vec_capacity, IfErr, IfOk};
+ghost use Rattle.std.specs.Prelude.{◌≡◌, ◌≤◌, [], vec_capacity, IfOk};
 ghost use Rattle.replay.specs.Rooms.{HasRoom};
-ghost use Rattle.replay_types.specs.declared.fault.RunFault.TheVariants.{NoStart};
 
 use crate::states::{EndedFeeder, TaskThreads};
-use replay_types::{ListenerReport, RunFault};
+use replay_types::ListenerReport;
 use savefile::Sink;
-use std::alloc::Global;
+use std::alloc::{AllocError, Global};
 
 /// Room for what the threads of an interface hand back.
 #[derive(Drop)]
@@ -23,10 +22,9 @@ pub(crate) fn two_lists<X: Drop, Y: Drop>(
     alloc: Global,
     first: usize,
     second: usize,
-) -> Result<(Vec<X>, Vec<Y>), RunFault>
+) -> Result<(Vec<X>, Vec<Y>), AllocError>
     ensures empty { IfOk result (λ p. (p.0.items ≡ []) × (p.1.items ≡ [])) }
     ensures enough { IfOk result (λ p. (first ≤ vec_capacity p.0) × (second ≤ vec_capacity p.1)) }
-    ensures refused { IfErr result (λ fault. fault ≡ NoStart) }
 {
     let ones = Vec::with_capacity(alloc, first)?;
     let others = Vec::with_capacity(alloc, second)?;
@@ -38,9 +36,8 @@ pub(crate) fn room_for<R: Drop, W: Sink + Drop>(
     alloc: Global,
     captures: usize,
     tasks: usize,
-) -> Result<Reserved<R, W>, RunFault>
-    ensures enough { IfOk result (λ room. HasRoom captures tasks room) }
-    ensures refused { IfErr result (λ fault. fault ≡ NoStart) }
+) -> Result<Reserved<R, W>, AllocError>
+    ensures { IfOk result (λ room. HasRoom captures tasks room) }
 {
     let played = two_lists(alloc, captures, tasks)?;
     let (all_threads, reports) = two_lists(alloc, tasks, tasks)?;

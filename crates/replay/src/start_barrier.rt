@@ -1,6 +1,8 @@
 //! Whether all threads of a replay were started: none does anything before it knows that.
 
+use std::alloc::Global;
 use std::sync::{Mutex, MutexGuard, Wait};
+use std::thread::Scope;
 
 /// Says whether all threads were started. It is locked while they are.
 #[derive(Drop)]
@@ -31,4 +33,14 @@ impl StartBarrier {
 pub(crate) struct Shared<'s, G> {
     pub(crate) barrier: StartBarrier,
     pub(crate) gate: &'s G,
+    /// For the buffers that captures are read into.
+    pub(crate) alloc: Global,
+}
+
+/// Who starts threads: with which handle, in which scope, and what they share.
+#[derive(Drop)]
+pub(crate) struct Starter<'s, E: 's, G, R> {
+    pub(crate) rt: &'s R,
+    pub(crate) scope: &'s Scope<'s, E>,
+    pub(crate) shared: &'s Shared<'s, G>,
 }

@@ -6,58 +6,55 @@ ghost use Rattle.replay_types.specs.Refusals.{IsFirst, NoneStands};
 ghost use Rattle.replay.specs.Replayed.{IsReplayed};
 ghost use Rattle.replay.specs.Runs.{IsRunningOf};
 ghost use Rattle.replay.specs.Setups.{HasLinks, IsPreparedFor};
-ghost use Rattle.replay_types.specs.declared.fault.RunFault.TheVariants.{NoStart};
 ghost use Rattle.replay_types.specs.declared.task.Interface.{Interface};
 
 use crate::gate::Gate;
-use crate::interface_threads::{launch_all, link_all};
 use crate::reporting::report_all;
 use crate::reserved::two_lists;
 use crate::setup::prepare_all;
-use crate::start_barrier::{Shared, StartBarrier};
-use crate::states::{AllPrepared, Linked, Running};
+use crate::start_barrier::{Shared, StartBarrier, Starter};
+use crate::states::{AllPrepared, Prepared, Running};
+use crate::task_link::TaskLink;
 use replay_types::{Interface, InterfaceReport, RunFault, check_all};
 use savefile::{Sink, Source};
-use std::alloc::Global;
+use std::alloc::{AllocError, Global};
 use std::sync::Wait;
 use std::thread;
 use std::thread::Threads;
 
 /// Starts the threads of all interfaces, and waits until all have ended.
 fn in_threads<
-    'a,
     S: Source + Send + Drop,
     W: Sink + Send + Drop,
     G: Gate + Sync,
     R: Threads + Wait + Sync,
 >(
     rt: &R,
-    alloc: Global,
-    gate: &G,
-    linked: Vec<Linked<'a, S, W>>,
+    shared: &Shared<'_, G>,
+    links: &[Vec<TaskLink>],
+    prepared: Vec<Prepared<S, W>>,
     running: Vec<Running<S, W>>,
-) -> Result<Vec<Running<S, W>>, RunFault>
-    requires few { length linked.items ≤ 16 }
-    requires room { (running.items ≡ []) × (length linked.items ≤ vec_capacity running) }
-    ensures running { IfOk result (λ all. AllZip IsRunningOf linked.entry.items all.items) }
-    ensures refused { IfErr result (λ fault. fault ≡ NoStart) }
+) -> Result<Vec<Running<S, W>>, AllocError>
+    requires few { length prepared.items ≤ 16 }
+    requires links { AllZip HasLinks links.now prepared.items }
+    requires room { (running.items ≡ []) × (length prepared.items ≤ vec_capacity running) }
+    ensures { IfOk result (λ all. AllZip IsRunningOf prepared.items all.items) }
 {
-    let shared = Shared {
-        barrier: StartBarrier::new(),
-        gate,
-    };
-    let shared = &shared;
     thread::scope(
         thread::scope_env(),
         rt,
-        move |scope| -> Result<Vec<Running<S, W>>, RunFault>
-            requires { (length linked.items ≤ 16) × (running.items ≡ []) × (length linked.items ≤ vec_capacity running) }
-            ensures { IfOk result (λ all. AllZip IsRunningOf linked.entry.items all.items) × IfErr result (λ fault. fault ≡ NoStart) }
-        { launch_all(rt, scope, alloc, shared, linked, running) },
+        move |scope| -> Result<Vec<Running<S, W>>, AllocError>
+            requires { (length prepared.items ≤ 16) × AllZip HasLinks links.now prepared.items
+                × (running.items ≡ []) × (length prepared.items ≤ vec_capacity running) }
+            ensures { IfOk result (λ all. AllZip IsRunningOf prepared.items all.items) }
+        {
+            let starter = Starter { rt, scope, shared };
+            starter.launch_all(links, prepared, running)
+        },
     )
 }
 
-/// Replays interfaces for which all is made but what borrows the links of their tasks.
+/// Replays interfaces for which all is made.
 fn replay_prepared<
     S: Source + Send + Drop,
     W: Sink + Send + Drop,
@@ -68,18 +65,24 @@ fn replay_prepared<
     alloc: Global,
     gate: &G,
     all: AllPrepared<S, W>,
-) -> Result<Vec<InterfaceReport<S, W>>, RunFault>
+) -> Result<Vec<InterfaceReport<S, W>>, AllocError>
     requires few { length all.prepared.items ≤ 16 }
     requires links { AllZip HasLinks all.links.items all.prepared.items }
-    ensures replayed { IfOk result (λ reports. (interfaces : List (Interface S W)) → AllZip IsPreparedFor interfaces all.prepared.items →
+    ensures { IfOk result (λ reports. (interfaces : List (Interface S W)) → AllZip IsPreparedFor interfaces all.prepared.items →
         AllZip (IsReplayed S.left S.failures W.taken W.failures) interfaces reports.items) }
-    ensures refused { IfErr result (λ fault. fault ≡ NoStart) }
 {
     let (reports, running) = two_lists(alloc, all.prepared.len(), all.prepared.len())?;
     let AllPrepared { links, prepared } = all;
-    let linked = link_all(alloc, links.as_slice(), prepared)?;
-    let running = in_threads(rt, alloc, gate, linked, running)?;
-    report_all(rt, links, running, reports)
+    let shared = Shared {
+        barrier: StartBarrier::new(),
+        gate,
+        alloc,
+    };
+    let running = in_threads(rt, &shared, links.as_slice(), prepared, running)?;
+    let Some(reports) = report_all(rt, links, running, reports) else {
+        return Err(AllocError);
+    };
+    Ok(reports)
 }
 
 /// Replays the captures of each interface to its listeners, in threads, and writes what each listener keeps as a savefile.
@@ -121,5 +124,5 @@ pub fn run<
 {
     check_all(interfaces.as_slice())?;
     let all = prepare_all(alloc, interfaces)?;
-    replay_prepared(rt, alloc, gate, all)
+    Ok(replay_prepared(rt, alloc, gate, all)?)
 }

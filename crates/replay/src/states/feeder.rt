@@ -1,32 +1,21 @@
-//! The states of a feeder: apart from its link, beside it, and ended.
+//! The states of a feeder: while packets arrive, and ended.
 
 ghost use Rattle.std.specs.Prelude.{◌≡◌, ◌<◌, [], ◌∷◌};
 ghost use Rattle.replay.specs.Reading.{messages_of};
 ghost use Rattle.rtrb.specs.Ring.{known_free, sent};
 
-use crate::task_link::TaskLink;
 use handover::{FeedEnd, Feeder};
 use listener::Buffer;
 use rtrb::Producer;
 
-/// A feeder, after how many arrivals it is flushed, and where its rest goes once it has ended: what it still has in its store.
-#[derive(Drop)]
-pub(crate) struct LooseFeeder {
-    pub(crate) feeder: Feeder,
-    pub(crate) flush_every: u32,
-    pub(crate) rest_in: Producer<Buffer>,
-    ghost room: { (sent rest_in ≡ []) × (0 < known_free rest_in) },
-}
-
-/// Where packets go into one listener, after how many arrivals it is flushed, and where its rest goes.
+/// Where packets go into one listener, after how many arrivals it is flushed, and where its rest goes once it has ended: what it
+/// still has in its store.
 // The feeder stands first, so that a packet which it rejects takes one address of both.
 #[derive(Drop)]
-pub(crate) struct FeederSlot<'a> {
+pub(crate) struct FeederSlot {
     pub(crate) feeder: Feeder,
-    pub(crate) link: &'a TaskLink,
     pub(crate) flush_every: u32,
     pub(crate) rest_in: Producer<Buffer>,
-    ghost pair: { feeder.pair ≡ link.now },
     ghost room: { (sent rest_in ≡ []) × (0 < known_free rest_in) },
 }
 

@@ -26,12 +26,12 @@ loop-one-preserved g c = (
   tt,
   (zip-taken HasItsPairs _ c.in-Some-next.its_links _ _ c.in-Some.one _ c.loop-one.invariant.2 c.in-Some-next.ensures.items c.in-Some.ensures.steps.0).1,
   completes-next (IsReportOf g.S.Source.left g.S.Source.failures g.W.Sink.taken g.W.Sink.failures) _ _ _ c.in-Some.one _ _ _ c.loop-one.invariant.3
-      c.in-Some.ensures.steps.0 c.push_reserved.ensures.items c.in_ok-report_one.ensures.report,
+      c.in-Some.ensures.steps.0 c.push_reserved.ensures.items c.in_ok-report_one.ensures,
   (let more = grown _ _ _ c.push_reserved.ensures.items in
       let less = ap length c.in-Some.ensures.steps.0 in
       let sum = c.loop-one.invariant.4 in omega (arith, more, less, sum)),
   (let capacity = c.push_reserved.ensures.capacity in let room = c.loop-one.invariant.5 in omega (arith, capacity, room)),
 )
 
-pub returns-clause-reports : goal.returns-clause-reports
-returns-clause-reports g c = completed (IsReportOf g.S.Source.left g.S.Source.failures g.W.Sink.taken g.W.Sink.failures) _ _ _ c.loop-one.invariant.3 (search rules)
+pub returns : goal.returns
+returns g c = completed (IsReportOf g.S.Source.left g.S.Source.failures g.W.Sink.taken g.W.Sink.failures) _ _ _ c.loop-one.invariant.3 (search rules)
