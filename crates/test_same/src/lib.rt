@@ -1,10 +1,13 @@
-//! Tests of `filter_same`: the caller of its page, pairs of expressions that it decides, and pairs that it may not call the same.
+//! Tests of `filter_same`: the caller of its page, pairs of expressions that it decides, pairs that it may not call the same, and
+//! programs.
 #![tactic(auto)]
 
 #[cfg(test)]
 mod kinds;
 #[cfg(test)]
 mod pairs;
+#[cfg(test)]
+mod programs;
 #[cfg(test)]
 mod relations;
 #[cfg(test)]

@@ -1,0 +1,106 @@
+//! Expressions and programs of `tcpdump -ddd` (4.99.3 with libpcap 1.10.3, for Ethernet), and how they differ.
+
+use crate::same::same;
+use bpfvm::read_listing;
+use filter_same::{Filter, Sameness, decide_filters};
+use filterlang::parse;
+use std::process::Abort;
+
+/// What tcpdump makes of the expression itself, which has the meaning of docs/LANGUAGE.md there.
+static SAME: [(&str, &str); 10] = [
+    ("ip", "4\n40 0 0 12\n21 0 1 2048\n6 0 0 262144\n6 0 0 0\n"),
+    (
+        "not ip",
+        "4\n40 0 0 12\n21 0 1 2048\n6 0 0 0\n6 0 0 262144\n",
+    ),
+    (
+        "less 100",
+        "4\n128 0 0 0\n37 0 1 100\n6 0 0 0\n6 0 0 262144\n",
+    ),
+    (
+        "ip and tcp port 80 and host 192.0.2.1",
+        "17\n40 0 0 12\n21 0 14 2048\n48 0 0 23\n21 0 12 6\n40 0 0 20\n69 10 0 8191\n177 0 0 14\n72 0 0 14\n21 2 0 80\n72 0 0 16\n21 0 5 80\n32 0 0 26\n21 2 0 3221225985\n32 0 0 30\n21 0 1 3221225985\n6 0 0 262144\n6 0 0 0\n",
+    ),
+    (
+        "tcp[13] & 2 != 0",
+        "11\n40 0 0 12\n21 0 8 2048\n48 0 0 23\n21 0 6 6\n40 0 0 20\n69 4 0 8191\n177 0 0 14\n80 0 0 27\n69 0 1 2\n6 0 0 262144\n6 0 0 0\n",
+    ),
+    (
+        "net 10.0.0.0/8",
+        "18\n40 0 0 12\n21 0 6 2048\n32 0 0 26\n84 0 0 4278190080\n21 11 0 167772160\n32 0 0 30\n84 0 0 4278190080\n21 8 9 167772160\n21 1 0 2054\n21 0 7 32821\n32 0 0 28\n84 0 0 4278190080\n21 3 0 167772160\n32 0 0 38\n84 0 0 4278190080\n21 0 1 167772160\n6 0 0 262144\n6 0 0 0\n",
+    ),
+    (
+        "ip and (udp port 53 or icmp)",
+        "14\n40 0 0 12\n21 0 11 2048\n48 0 0 23\n21 0 7 17\n40 0 0 20\n69 7 0 8191\n177 0 0 14\n72 0 0 14\n21 3 0 53\n72 0 0 16\n21 1 2 53\n21 0 1 1\n6 0 0 262144\n6 0 0 0\n",
+    ),
+    (
+        "ip and portrange 6000-6063",
+        "17\n40 0 0 12\n21 0 14 2048\n48 0 0 23\n21 2 0 132\n21 1 0 6\n21 0 10 17\n40 0 0 20\n69 8 0 8191\n177 0 0 14\n72 0 0 14\n53 0 1 6000\n37 0 3 6063\n72 0 0 16\n53 0 2 6000\n37 1 0 6063\n6 0 0 262144\n6 0 0 0\n",
+    ),
+    (
+        "ip[0] & 15 > 5",
+        "7\n40 0 0 12\n21 0 4 2048\n48 0 0 14\n84 0 0 15\n37 0 1 5\n6 0 0 262144\n6 0 0 0\n",
+    ),
+    (
+        "ether host 2:0:0:0:0:1",
+        "10\n32 0 0 8\n21 0 2 1\n40 0 0 6\n21 4 0 512\n32 0 0 2\n21 0 3 1\n40 0 0 0\n21 0 1 512\n6 0 0 262144\n6 0 0 0\n",
+    ),
+];
+
+/// What it makes of another expression, or of one that it reads as one for IPv6 too.
+static DIFFER: [(&str, &str); 6] = [
+    (
+        "port 80",
+        "24\n40 0 0 12\n21 0 8 34525\n48 0 0 20\n21 2 0 132\n21 1 0 6\n21 0 17 17\n40 0 0 54\n21 14 0 80\n40 0 0 56\n21 12 13 80\n21 0 12 2048\n48 0 0 23\n21 2 0 132\n21 1 0 6\n21 0 8 17\n40 0 0 20\n69 6 0 8191\n177 0 0 14\n72 0 0 14\n21 2 0 80\n72 0 0 16\n21 0 1 80\n6 0 0 262144\n6 0 0 0\n",
+    ),
+    (
+        "tcp",
+        "12\n40 0 0 12\n21 0 2 2048\n48 0 0 23\n21 6 7 6\n21 0 6 34525\n48 0 0 20\n21 3 0 6\n21 0 3 44\n48 0 0 54\n21 0 1 6\n6 0 0 262144\n6 0 0 0\n",
+    ),
+    ("ip", "4\n40 0 0 12\n21 0 1 2054\n6 0 0 262144\n6 0 0 0\n"),
+    (
+        "ip and udp port 53",
+        "13\n40 0 0 12\n21 0 10 2048\n48 0 0 23\n21 0 8 17\n40 0 0 20\n69 6 0 8191\n177 0 0 14\n72 0 0 14\n21 2 0 54\n72 0 0 16\n21 0 1 54\n6 0 0 262144\n6 0 0 0\n",
+    ),
+    (
+        "tcp[13] & 2 != 0",
+        "11\n40 0 0 12\n21 0 8 2048\n48 0 0 23\n21 0 6 6\n40 0 0 20\n69 4 0 8191\n177 0 0 14\n80 0 0 27\n21 0 1 2\n6 0 0 262144\n6 0 0 0\n",
+    ),
+    (
+        "less 100",
+        "4\n128 0 0 0\n37 0 1 101\n6 0 0 0\n6 0 0 262144\n",
+    ),
+];
+
+/// What is known of an expression and of a listing.
+fn found(rt: &(impl Abort + AllocGlobal), expr: &str, listing: &str) -> Sameness {
+    let expr = parse(rt.alloc(), expr).expect(rt, "an expression");
+    let program = read_listing(listing.as_bytes()).expect(rt, "a listing");
+    let filters = (Filter::Expression(&expr), Filter::Program(&program));
+    decide_filters(rt.alloc(), filters.0, filters.1, 500_000).expect(rt, "there is memory")
+}
+
+#[test]
+fn programs_of_tcpdump_are_the_same_where_its_meaning_is(rt: HostRuntime) {
+    for (expr, listing) in SAME.iter() {
+        same(&rt, found(&rt, expr, listing) == Sameness::Same, true);
+    }
+}
+
+#[test]
+fn other_programs_differ(rt: HostRuntime) {
+    for (expr, listing) in DIFFER.iter() {
+        let differs = matches!(found(&rt, expr, listing), Sameness::Differ(_));
+        same(&rt, differs, true);
+    }
+}
+
+#[test]
+fn arithmetic_of_a_program_is_not_decided(rt: HostRuntime) {
+    let listing = "4\n128 0 0 0\n4 0 0 1\n21 0 0 5\n6 0 0 1\n";
+    same(
+        &rt,
+        matches!(found(&rt, "ip", listing), Sameness::NotDecided(_)),
+        true,
+    );
+}
