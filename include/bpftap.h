@@ -373,7 +373,8 @@ uint32_t bpftap_listener_arrive(struct bpftap_listener *listener, uint32_t answe
 /* Makes the store the hold if it has messages and the hold has none, as the read timeout of bpf(4) does, and returns whether it did. */
 bool bpftap_listener_flush(struct bpftap_listener *listener);
 
-/* Reads the hold: its messages are in `batch` afterwards, `size` bytes, and what was in `batch` is forgotten. The two exchange their memory.
+/* Reads the hold: its messages are in `batch` afterwards, `size` bytes, and what was in `batch` is forgotten. The two exchange their memory,
+ * unless the listener is closed.
  * If there is nothing to read, `size` is 0.
  * Faults: BAD_CAPACITY (`batch` has more or less room than the listener's buffers); all is as it was then. */
 struct bpftap_result bpftap_listener_read(struct bpftap_listener *listener, struct bpftap_buffer *batch);
