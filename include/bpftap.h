@@ -16,7 +16,8 @@
  *     Calls may run at the same time in different threads.
  *   - 128 KiB of stack are enough for a call that reads no expression. bpftap_compile, bpftap_print, bpftap_why, bpftap_compare,
  *     bpftap_steps and bpftap_steps_json need 512 KiB for expressions of up to 1,000 bytes, and 2 MiB for any: give 2 MiB to a thread that
- *     takes expressions from outside. This is measured, not proved.
+ *     takes expressions from outside. If both expressions of bpftap_compare ask for many bytes, it needs 2 MiB for expressions of up to
+ *     1,000 bytes each, and 16 MiB for any. This is measured, not proved.
  *
  * What the caller owes
  *

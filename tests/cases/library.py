@@ -92,11 +92,12 @@ def refused_memory_is_reported(scene):
 
 
 def stated_stacks():
-    """How many KiB of stack the header states: for calls that read no expression, for short expressions, and for any."""
+    """How many KiB of stack the header states: for calls that read no expression, for short expressions, for any, and for two that both ask for
+    many bytes, short ones and any."""
     header = " ".join((ROOT / "include" / "bpftap.h").read_text().replace("\n *", " ").split())
     found = re.search(r"(\d+) KiB of stack are enough for a call that reads no expression.* need (\d+) KiB for expressions of up to 1,000 bytes, "
-                      r"and (\d+) MiB for any", header)
-    return int(found[1]), int(found[2]), 1024 * int(found[3])
+                      r"and (\d+) MiB for any.* it needs (\d+) MiB for expressions of up to 1,000 bytes each, and (\d+) MiB for any", header)
+    return int(found[1]), int(found[2]), *(1024 * int(found[n]) for n in (3, 4, 5))
 
 
 @case
@@ -106,15 +107,17 @@ def stacks_suffice(scene):
         return
     scene.start({})
     program = compiled(scene, ["gcc", "-std=c11", "-O2"], "stacks", "-pthread")
-    others, short, most = stated_stacks()
+    others, short, most, wide, widest = stated_stacks()
     chance = random.Random(17)
     texts = [text for text in (meaning.text_of(meaning.expression(chance, 2)) for _ in range(100)) if len(text) <= 1000]
     given = {
         "random": (short, "".join(f"{text}\t{other}\n" for text, other in zip(texts, texts[1:]))),
         "deep, 1,000 bytes": (short, python(scene, "deep.py", ["1000"])), "deep, 8,192 bytes": (most, python(scene, "deep.py", ["8192"])),
+        "wide, 1,000 bytes": (wide, python(scene, "deep.py", ["--wide", "1000"])), "wide, 8,192 bytes": (widest, python(scene, "deep.py", ["--wide", "8192"])),
     }
     for name, (stack, lines) in given.items() if program else []:
-        ended = subprocess.run([program, str(stack)], input=lines.encode(), stdout=subprocess.PIPE, timeout=LIMIT)
+        budget = ["2000000"] if name.startswith("wide") else []
+        ended = subprocess.run([program, str(stack), *budget], input=lines.encode(), stdout=subprocess.PIPE, timeout=LIMIT)
         touched = [[*map(int, line.split())] for line in ended.stdout.decode().splitlines()]
         scene.check(f"{name}: status and lines", (ended.returncode, len(touched)), (0, lines.count("\n")))
         scene.check(f"{name}: a call that reads no expression", max(row[-1] for row in touched) <= others << 10, True)

@@ -1,7 +1,8 @@
 #!/usr/bin/env python3
 """Expressions that take much stack, for stacks.c.
 
-  deep.py SIZE    of up to SIZE bytes each: a line is one of them, a tab, and the one before it
+  deep.py SIZE           of up to SIZE bytes each: a line is one of them, a tab, and the one before it
+  deep.py --wide SIZE    a line: two that ask for many bytes, each for others
 
 Each is a level that is opened up to 64 times, round a chain that fills what is left.
 """
@@ -37,7 +38,21 @@ def texts(size):
     return [*(text_of(size, *each) for each in itertools.product(LEVELS, CHAINS)), *(value_of(size, *each) for each in VALUES)]
 
 
+def words_from(offset, size):
+    """An expression of at most this size that asks for as many words of the frame as it has room for, from an offset on."""
+    terms = []
+    while len("&&".join([*terms, term := f"ether[{offset}:4]={len(terms) + 1}"])) <= size:
+        terms.append(term)
+        offset += 4
+    return "&&".join(terms)
+
+
 if __name__ == "__main__":
-    made = texts(int(sys.argv[1]))
-    for text, other in zip(made, ["ip", *made]):
-        print(f"{text}\t{other}")
+    if sys.argv[1] == "--wide":
+        size = int(sys.argv[2])
+        made = [words_from(0, size), words_from(4000, size)]
+        print("\t".join(made))
+    else:
+        made = texts(int(sys.argv[1]))
+        for text, other in zip(made, ["ip", *made]):
+            print(f"{text}\t{other}")

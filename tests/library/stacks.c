@@ -1,6 +1,6 @@
 /* Makes each call on a thread with a small stack.
  *
- *     stacks KIB <LINES
+ *     stacks KIB [BUDGET] <LINES    BUDGET: how many nodes bpftap_compare may take
  *
  * A line is two expressions with a tab between them; a call that takes one expression takes the first. For each line it prints how many
  * bytes of the stack each of `CALLS` touched. A stack that is too small ends the program by a signal. */
@@ -11,7 +11,9 @@
 #include <sys/mman.h>
 
 /* What lies below the stack is not mapped, so that a frame that is larger than a page faults too. */
-enum { BELOW = 64 << 20, ROOM = 1 << 20, PAINT = 0xa5, BUDGET = 20000 };
+enum { BELOW = 64 << 20, ROOM = 1 << 20, PAINT = 0xa5 };
+
+static size_t budget = 20000;
 
 /* A UDP packet from port 53 to port 53, of which every byte is captured. */
 static const uint8_t UDP[42] = {
@@ -41,7 +43,7 @@ static void *why(void *unused) {
 }
 
 static void *compare(void *unused) {
-    bpftap_compare(first, strlen(first), second, strlen(second), BUDGET, (uint8_t *)to, ROOM);
+    bpftap_compare(first, strlen(first), second, strlen(second), budget, (uint8_t *)to, ROOM);
     return unused;
 }
 
@@ -106,7 +108,8 @@ static struct bpftap_capture captured(void) {
 }
 
 int main(int argc, char **argv) {
-    size_t size = argc == 2 ? strtoul(argv[1], NULL, 10) << 10 : 0;
+    size_t size = argc >= 2 ? strtoul(argv[1], NULL, 10) << 10 : 0;
+    if (argc == 3) budget = strtoul(argv[2], NULL, 10);
     uint8_t *memory = mmap(NULL, BELOW + size, PROT_NONE, MAP_PRIVATE | MAP_ANONYMOUS | MAP_NORESERVE, -1, 0);
     if (size == 0 || memory == MAP_FAILED || mprotect(memory + BELOW, size, PROT_READ | PROT_WRITE)) return 2;
     to = block(ROOM);
