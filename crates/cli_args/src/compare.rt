@@ -27,7 +27,8 @@ pub struct CompareWords<'a> {
 
 const COMPARE_USAGE: &str = "bpftap compare [-s N] [-q] <EXPR1> <EXPR2> <IN>...
        bpftap compare [-s N] [-q] -f <LISTING> <EXPR1> <IN>...
-       bpftap compare [-s N] [-q] [-w <OUT>] <EXPR1> <EXPR2>";
+       bpftap compare [-s N] [-q] [-w <OUT>] <EXPR1> <EXPR2>
+       bpftap compare [-s N] [-q] [-w <OUT>] -f <LISTING> <EXPR1>";
 
 const COMPARE_EXAMPLES: &str = "Examples:
   bpftap compare 'tcp port 80' 'tcp dst port 80' examples/veth.pcap
@@ -41,7 +42,7 @@ same here: both reject the packet. At the end are the counts. Places count from 
 With -q the first such packet ends the reading. An expression that begins with - is written in
 parentheses.
 
-Without IN both expressions are decided for every packet. compare prints one of these:
+Without IN both filters are decided for every packet. compare prints one of these:
   same                                      on every packet, of every length
   same as captured                          if no more bytes were captured than were on the wire
   differ only where a frame is cut short    one is Yes where the other needs more captured bytes

@@ -25,6 +25,13 @@ impl AskedFilter {
     {
         self.expr.as_ref()
     }
+
+    /// The program: that of the expression, if the filter is one.
+    pub fn program(&self) -> &Program
+        ensures { result.now ≡ self.now.program }
+    {
+        &self.program
+    }
 }
 
 /// The filter of an expression, whose program answers the snapshot length, 1 to 262,144, where the expression accepts a packet.
