@@ -171,15 +171,52 @@ def random_pairs_are_decided_as_they_mean(scene):
     scene.check("an answer of each kind", seen >= {SAME, SHORT, DIFFER}, True)
 
 
+def listings():
+    """Expressions, and what tcpdump 4.99.3 with libpcap 1.10.3 prints of them by `-ddd -y EN10MB`."""
+    lines = (ROOT / "tests" / "vectors" / "listings.txt").read_text().splitlines()
+    while lines:
+        count = int(lines[1])
+        yield lines[0].removeprefix("tcpdump "), "".join(f"{line}\n" for line in lines[1 : 2 + count])
+        del lines[: 2 + count]
+
+
+# Expressions that tcpdump reads as ones for IPv6 too.
+ALSO_IPV6 = {"tcp", "udp", "sctp", "not (tcp or udp)", "tcp or arp", "udp and less 100", "port 80"}
+
+
+@case
+def programs_of_tcpdump_are_what_their_expressions_mean(scene):
+    """Each is the same on every packet, unless its expression is one for IPv6 too; then a frame of IPv6 shows the difference."""
+    for expr, listing in listings():
+        scene.start({"tcpdump.bpf": listing})
+        seen = scene.run(["compare", "-w", "out.pcap", "-f", "tcpdump.bpf", expr])
+        wanted = DIFFER if expr in ALSO_IPV6 else SAME
+        scene.check(f"tcpdump's {expr!r}", (seen.out.decode().partition("\n")[0], seen.status, seen.err), (wanted, STATUS[wanted], b""))
+        scene.expect(["compare", "-q", "-f", "tcpdump.bpf", expr], STATUS[wanted])
+        out = scene.read("out.pcap")
+        scene.check(f"the frame of {expr!r}", out and witness_in(out)[0][12:14].hex(), "86dd" if wanted == DIFFER else None)
+
+
+@case
+def a_listing_of_another_expression_differs(scene):
+    """The line of the packet has what the program answers, where its run ended, and the instruction there."""
+    scene.start({"ip.bpf": IP})
+    scene.expect("compare -f ip.bpf ip", out="same\n")
+    seen = scene.run("compare -f ip.bpf arp")
+    lines = seen.out.decode().splitlines()
+    scene.check("arp and ip", (lines[0], seen.status, lines[1].partition(" first ")[2]), (DIFFER, 4, "No arp second Yes 262144 at 2: ret #262144"))
+
+
 @case
 def what_is_not_decided_is_status_5(scene):
-    """A listing is not decided, nor arithmetic; -q prints nothing; a fault goes before the answer."""
-    scene.start({"ip.bpf": IP})
-    scene.expect("compare -f ip.bpf ip", 5, out="not decided: a listing\n")
-    scene.expect("compare -q -f ip.bpf ip", 5)
-    scene.expect("compare -w out.pcap -f ip.bpf ip", 5, out="not decided: a listing\n")
+    """A program that calculates is not decided, nor arithmetic; -q prints nothing; a fault goes before the answer."""
+    scene.start({"ip.bpf": IP, "sum.bpf": "4\n128 0 0 0\n4 0 0 1\n21 0 0 5\n6 0 0 1\n"})
+    before = scene.files()
+    scene.expect("compare -f sum.bpf ip", 5, out="not decided: a relation\n")
+    scene.expect("compare -q -f sum.bpf ip", 5)
+    scene.expect("compare -w out.pcap -f sum.bpf ip", 5, out="not decided: a relation\n")
     scene.expect("compare 'len - 14 = 100' 'len = 114'", 5, out="not decided: a relation\n")
-    scene.check("no packet", scene.files(), {"ip.bpf": IP.encode()})
+    scene.check("no packet", scene.files(), before)
     scene.expect("compare ip arp", 3, fault_lines("Device standard output"), streams=">/dev/full")
     scene.expect("compare -f ip.bpf ip", 3, fault_lines("Device standard output"), streams=">/dev/full")
     scene.refuse("compare 'port http' arp", 1, "BadWord 5")

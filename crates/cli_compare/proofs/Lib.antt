@@ -2,3 +2,4 @@ pub mod Differences
 pub mod Ending
 pub mod Several
 mod Sent
+pub mod Witnesses

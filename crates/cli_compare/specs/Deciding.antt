@@ -1,24 +1,32 @@
--- What is printed of two expressions that are decided for every packet, and the exit status.
-use Rattle.std.specs.Prelude.{ℕ, List, [], ◌++◌, length, Option, Result, Ok, Err, codes}
+-- What is printed of two filters that are decided for every packet, and the exit status.
+use Rattle.std.specs.Prelude.{◌≡◌, ℕ, Bool, List, ◌++◌, length, Option, Some, None, Result, Ok, Err, codes}
 use Rattle.std.specs.Fmt.{decimal}
 use Rattle.std.specs.Io.KnownBytes.{Appends, Keeps}
 use Rattle.savefile.specs.declared.packet.Packet.{Packet}
-use Rattle.filter_tree.specs.Trees.{Tree}
-use Rattle.filter_explain.specs.Deciding.{decision_text}
+use Rattle.bpfvm.specs.declared.insn.Insn.{Insn}
+use Rattle.filter_tree.specs.declared.tree.Expr.{Expr}
+use Rattle.filterlang.specs.Trees.{tree_of}
+use Rattle.filter_meaning.specs.Meaning.{Packet as Frame, Test, accepts, meaning}
+use Rattle.filter_explain.specs.Deciding.{verdict_text}
 use Rattle.filter_same.specs.declared.sameness.Cause.{Cause}
 use Rattle.filter_same.specs.declared.sameness.Cause.TheVariants.{Graphs, Budget, Relation}
 use Rattle.filter_same.specs.declared.sameness.Sameness.{Sameness}
 use Rattle.filter_same.specs.declared.sameness.Sameness.TheVariants.{Same, SameAsCaptured, Short, Differ, NotDecided}
 use Rattle.filter_same.specs.declared.witness.Witness.{Witness}
-use Rattle.filter_same.specs.Same.{Holds, packet}
+use Rattle.filter_same.specs.Programs.{keeps, program_test}
+use Rattle.filter_same.specs.Same.{HoldsOf}
 use Rattle.cli_text.specs.declared.status.Status.{Status}
 use Rattle.cli_text.specs.declared.status.Status.TheVariants.{Clean, Negative, Undecided, Refused, Failed}
 use Rattle.cli_text.specs.Sending.{TakesPart}
 use Rattle.cli_text.specs.Telling.{end_of_line}
+use Rattle.cli_explain.specs.declared.filter.AskedFilter.{AskedFilter}
 use Rattle.cli_explain.specs.declared.each.Unprinted.{Unprinted}
 use Rattle.cli_explain.specs.declared.each.Unprinted.TheVariants.{NoMemory, Output}
+use Rattle.cli_compare.specs.declared.pair.FilterPair.{FilterPair}
+use Rattle.cli_compare.specs.Compared.{IsOf}
+use Rattle.cli_compare.specs.Pairs.{Difference}
 
--- why two expressions are not decided, within a budget of nodes
+-- why two filters are not decided, within a budget of nodes
 abbrev pub cause_text : ℕ → Cause → List ℕ
 cause_text budget Graphs = codes "no packet was found that shows a difference"
 cause_text budget Budget = codes "it takes more than " ++ decimal budget ++ codes " nodes"
@@ -32,40 +40,64 @@ answer_line budget (Short w) = codes "differ only where a frame is cut short" ++
 answer_line budget (Differ w) = codes "differ" ++ end_of_line
 answer_line budget (NotDecided cause) = codes "not decided: " ++ cause_text budget cause ++ end_of_line
 
--- `len W captured C first Yes REASON second No REASON`
-abbrev pub witness_line : Tree → Tree → Witness → List ℕ
-witness_line t u w =
-    codes "len " ++ decimal w.wire ++ codes " captured " ++ decimal (length w.bytes.items) ++ codes " first " ++ decision_text t (packet w)
-    ++ codes " second " ++ decision_text u (packet w) ++ end_of_line
-
--- the line of its witness, if it has one
-abbrev pub detail_text : Tree → Tree → Sameness → List ℕ
-detail_text t u Same = []
-detail_text t u SameAsCaptured = []
-detail_text t u (Short w) = witness_line t u w
-detail_text t u (Differ w) = witness_line t u w
-detail_text t u (NotDecided cause) = []
-
--- all that is printed of an answer about two expressions but the bytes of its witness, which come after it
-abbrev pub sameness_text : Tree → Tree → ℕ → Sameness → List ℕ
-sameness_text t u budget s = answer_line budget s ++ detail_text t u s
-
--- that was printed, and then the bytes of the witness, or nothing
-abbrev pub PrintsAnswer : List ℕ → Option (List ℕ) → Option (List ℕ) → Type 0
-PrintsAnswer text old new = (dump : List ℕ) × Appends old new (text ++ dump)
-
--- or nothing; or, as the writer failed, a beginning of what an answer is printed as
-abbrev pub IsUnanswered : Tree → Tree → ℕ → Option (List ℕ) → Option (List ℕ) → Unprinted → Type 0
-IsUnanswered t u budget old new NoMemory = Keeps old new
-IsUnanswered t u budget old new (Output error) = (s : Sameness) × Holds t u s × (dump : List ℕ) × TakesPart old new (sameness_text t u budget s ++ dump)
-
--- what is printed of an expression and a program
-abbrev pub listing_text : List ℕ
-listing_text = codes "not decided: a listing" ++ end_of_line
-
 -- a witness as a packet that is written, at time 0
 abbrev pub packet_of_witness : Witness → Packet
 packet_of_witness w = record { sec = 0; nanos = 0; len = w.wire; bytes = w.bytes.items }
+
+-- ---- Both filters
+
+abbrev pub accepts_of : Option Expr → List Insn → Frame → Bool
+accepts_of (Some expr) program = accepts (tree_of expr)
+accepts_of None program = keeps program
+
+abbrev pub test_of : Option Expr → List Insn → Test
+test_of (Some expr) program = meaning (tree_of expr)
+test_of None program = program_test program
+
+-- a filter accepts a packet: its expression does, or else its program keeps bytes of it
+abbrev pub asked_accepts : AskedFilter → Frame → Bool
+asked_accepts filter = accepts_of filter.expr filter.program
+
+-- what a filter says of a packet
+abbrev pub asked_test : AskedFilter → Test
+asked_test filter = test_of filter.expr filter.program
+
+-- what an answer says of both filters
+abbrev pub HoldsOfPair : FilterPair → Sameness → Type 0
+HoldsOfPair pair s = HoldsOf (asked_accepts pair.first) (asked_accepts pair.second) (asked_test pair.first) (asked_test pair.second) s
+
+-- `len W captured C first `
+abbrev pub lengths_text : Witness → List ℕ
+lengths_text w = codes "len " ++ decimal w.wire ++ codes " captured " ++ decimal (length w.bytes.items) ++ codes " first "
+
+-- after what was there, the line of a witness was put: `len W captured C first Yes REASON second No REASON`, with what each filter answers to it
+abbrev pub PutsWitness : FilterPair → Witness → List ℕ → List ℕ → Type 0
+PutsWitness pair w old new =
+    (d : Difference) × IsOf pair 0 (packet_of_witness w) d
+    × (new ≡ old ++ lengths_text w ++ (verdict_text d.first.verdict ++ codes " ") ++ d.first.reason
+    ++ codes " second " ++ (verdict_text d.second.verdict ++ codes " ") ++ d.second.reason ++ end_of_line)
+
+-- the same of the witness of an answer, if it has one
+abbrev pub PutsDetail : FilterPair → Sameness → List ℕ → List ℕ → Type 0
+PutsDetail pair Same old new = new ≡ old
+PutsDetail pair SameAsCaptured old new = new ≡ old
+PutsDetail pair (Short w) old new = PutsWitness pair w old new
+PutsDetail pair (Differ w) old new = PutsWitness pair w old new
+PutsDetail pair (NotDecided cause) old new = new ≡ old
+
+-- a text is the line of an answer, the line of its witness, and the bytes of the witness
+abbrev pub IsText : FilterPair → ℕ → Sameness → List ℕ → Type 0
+IsText pair budget s text = (lines dump : List ℕ) × PutsDetail pair s (answer_line budget s) lines × (text ≡ lines ++ dump)
+
+-- a text of an answer was printed
+abbrev pub PrintsAnswer : FilterPair → ℕ → Sameness → Option (List ℕ) → Option (List ℕ) → Type 0
+PrintsAnswer pair budget s old new = (text : List ℕ) × IsText pair budget s text × Appends old new text
+
+-- or nothing; or, as the writer failed, a beginning of what an answer is printed as
+abbrev pub IsUnanswered : FilterPair → ℕ → Option (List ℕ) → Option (List ℕ) → Unprinted → Type 0
+IsUnanswered pair budget old new NoMemory = Keeps old new
+IsUnanswered pair budget old new (Output error) =
+    (s : Sameness) × HoldsOfPair pair s × (text : List ℕ) × IsText pair budget s text × TakesPart old new text
 
 -- the exit status of an answer, which was printed or not
 abbrev pub answer_status : Result Sameness Unprinted → Status

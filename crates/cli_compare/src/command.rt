@@ -1,7 +1,7 @@
 //! `bpftap compare`, over files.
 
 use crate::captures::{compare_captures, print_totals};
-use crate::decide::decide_pair;
+use crate::decide::decide_for_all;
 use crate::pair::FilterPair;
 use crate::paths::check_paths;
 use crate::plan::read_pair;
@@ -126,7 +126,7 @@ fn compare_files<R: Files + AllocGlobal + Screen, O: Write, E: HintSink>(
     let pair = read_pair(rt, words, err)?;
     check_paths(rt, words, err)?;
     if words.inputs.is_empty() {
-        return Ok(decide_pair(rt, words, &pair, out, err));
+        return Ok(decide_for_all(rt, words, &pair, out, err));
     }
     let job = Job {
         alloc: rt.alloc(),

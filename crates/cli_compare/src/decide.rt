@@ -1,12 +1,11 @@
-//! Two expressions decided for every packet, over files.
+//! Two filters decided for every packet, over files.
 
 use crate::pair::FilterPair;
 use crate::report::report_answer;
-use crate::sameness::{BUDGET, print_listing_undecided, print_sameness, witness_of};
+use crate::sameness::{BUDGET, decide_pair, print_sameness, witness_of};
 use crate::witness::write_witness;
 use cli_args::compare::CompareWords;
 use cli_explain::each::Unprinted;
-use cli_explain::report::report_printed;
 use cli_files::captures::{OUTPUT_BUFFER, output_buffer, with_buffer};
 use cli_files::late::LateFile;
 use cli_files::reading::report_io;
@@ -14,8 +13,7 @@ use cli_report::failures::{hint_failure, hint_output};
 use cli_report::{FailureProbe, HintSink};
 use cli_text::Status;
 use cli_text::report::report_device;
-use filter_same::{Sameness, Witness, decide};
-use filter_tree::Expr;
+use filter_same::{Sameness, Witness};
 use std::alloc::Global;
 use std::fs::Files;
 use std::io::Write;
@@ -41,30 +39,29 @@ fn write_out<R: Files + AllocGlobal, E: HintSink>(
     status
 }
 
-/// Decides two expressions, and prints the answer unless it is not wanted.
+/// Decides both filters, and prints the answer unless it is not wanted.
 fn answer<O: Write>(
     alloc: Global,
-    first: &Expr,
-    second: &Expr,
+    pair: &FilterPair,
     quiet: bool,
     out: &mut O,
 ) -> Result<Sameness, Unprinted> {
     if quiet {
-        Ok(decide(alloc, first, second, BUDGET)?)
+        Ok(decide_pair(alloc, pair, BUDGET)?)
     } else {
-        print_sameness(alloc, first, second, BUDGET, out)
+        print_sameness(alloc, pair, BUDGET, out)
     }
 }
 
-/// Decides two expressions, writes the packet that shows a difference to OUT, and reports how that ended.
-fn decide_expressions<R: Files + AllocGlobal, O: Write, E: HintSink>(
+/// Decides both filters, writes the packet that shows a difference to OUT, and reports how that ended.
+fn decide_and_report<R: Files + AllocGlobal, O: Write, E: HintSink>(
     rt: &R,
     words: &CompareWords<'_>,
-    (first, second): (&Expr, &Expr),
+    pair: &FilterPair,
     out: &mut O,
     err: &mut E,
 ) -> Status {
-    let answer = answer(rt.alloc(), first, second, words.quiet, out);
+    let answer = answer(rt.alloc(), pair, words.quiet, out);
     let status = report_answer(&answer, err);
     let witness = match &answer {
         Ok(sameness) => witness_of(sameness),
@@ -76,18 +73,8 @@ fn decide_expressions<R: Files + AllocGlobal, O: Write, E: HintSink>(
     }
 }
 
-/// Says that nothing is decided of an expression and a program.
-fn leave_undecided<O: Write, E: HintSink>(quiet: bool, out: &mut O, err: &mut E) -> Status {
-    let printed = if quiet {
-        Ok(())
-    } else {
-        print_listing_undecided(out)
-    };
-    Status::Undecided.max(report_printed(&printed, err))
-}
-
 /// Decides both filters for every packet.
-pub(crate) fn decide_pair<R: Files + AllocGlobal, O: Write, E: HintSink>(
+pub(crate) fn decide_for_all<R: Files + AllocGlobal, O: Write, E: HintSink>(
     rt: &R,
     words: &CompareWords<'_>,
     pair: &FilterPair,
@@ -98,12 +85,7 @@ pub(crate) fn decide_pair<R: Files + AllocGlobal, O: Write, E: HintSink>(
         Ok(out) => out,
         Err(status) => return status,
     };
-    let status = match (pair.first.expression(), pair.second.expression()) {
-        (Some(first), Some(second)) => {
-            decide_expressions(rt, words, (first, second), &mut out, err)
-        }
-        _ => leave_undecided(words.quiet, &mut out, err),
-    };
+    let status = decide_and_report(rt, words, pair, &mut out, err);
     hint_output(out.get_ref(), err);
     status
 }

@@ -1,24 +1,24 @@
-//! Two expressions decided for every packet: the function under `bpftap compare` without a capture.
+//! Two filters decided for every packet: the function under `bpftap compare` without a capture.
 
 ghost use Rattle.std.specs.Prelude.{◌≡◌, ◌++◌, ℕ, List, Ok, IfOk, IfErr, OnOk, string_bytes};
-ghost use Rattle.filter_tree.specs.Trees.{tree_of};
-ghost use Rattle.filter_same.specs.Same.{Holds};
-ghost use Rattle.cli_text.specs.Sending.{Takes};
-ghost use Rattle.cli_compare.specs.Deciding.{PrintsAnswer, IsUnanswered, answer_line, cause_text, detail_text, listing_text, sameness_text, witness_line};
+ghost use Rattle.filter_same.specs.Filters.{filter_accepts, filter_test};
+ghost use Rattle.cli_compare.specs.Deciding.{HoldsOfPair, IsText, IsUnanswered, PrintsAnswer, PutsDetail, PutsWitness, answer_line, asked_accepts, asked_test, cause_text, lengths_text};
 
+use crate::pair::FilterPair;
 use bpfvm::NoMemory;
+use cli_explain::AskedFilter;
 use cli_explain::dump::put_dump;
 use cli_explain::each::{Unprinted, send_last};
-use filter_explain::put_decision;
-use filter_same::{Cause, Sameness, Witness, decide};
-use filter_tree::Expr;
+use cli_explain::line::put_answer;
+use filter_same::{Cause, Filter, Sameness, Witness, decide_filters};
+use savefile::PacketRef;
 use std::alloc::{AllocError, Global};
 use std::io::Write;
 
 /// How many nodes a graph may have, and how many pairs of them it joins.
 pub const BUDGET: usize = 2_000_000;
 
-/// Appends why two expressions are not decided.
+/// Appends why two filters are not decided.
 fn put_cause(text: &mut String, budget: usize, cause: Cause) -> Result<(), AllocError>
     ensures { OnOk result (string_bytes text.new ≡ string_bytes text.old ++ cause_text budget cause) }
 {
@@ -38,26 +38,50 @@ fn put_undecided(text: &mut String, budget: usize, cause: Cause) -> Result<(), A
     text.push_str("\n")
 }
 
-/// Appends what both expressions answer to a witness, and why.
-fn put_witness(
-    text: &mut String,
-    first: &Expr,
-    second: &Expr,
-    witness: &Witness,
-) -> Result<(), AllocError>
-    ensures { OnOk result (string_bytes text.new ≡ string_bytes text.old ++ witness_line (tree_of first.now) (tree_of second.now) witness.now) }
+/// A filter as it is decided: its expression, or else its program.
+fn filter_of(filter: &AskedFilter) -> Filter<'_>
+    ensures accepts { filter_accepts result ≡ asked_accepts filter.now }
+    ensures test { filter_test result ≡ asked_test filter.now }
 {
-    let bytes = witness.bytes.as_slice();
-    let captured = bytes.len();
-    write!(text, "len {} captured {captured} first ", witness.wire)?;
-    put_decision(text, first, bytes, witness.wire)?;
+    match filter.expression() {
+        Some(expr) => Filter::Expression(expr),
+        None => Filter::Program(filter.program()),
+    }
+}
+
+/// Appends the lengths of a witness.
+fn put_lengths(text: &mut String, witness: &Witness) -> Result<(), AllocError>
+    ensures { OnOk result (string_bytes text.new ≡ string_bytes text.old ++ lengths_text witness.now) }
+{
+    let captured = witness.bytes.len();
+    write!(text, "len {} captured {captured} first ", witness.wire)
+}
+
+/// Appends what both filters answer to a witness, and why.
+fn put_witness(
+    alloc: Global,
+    text: &mut String,
+    pair: &FilterPair,
+    witness: &Witness,
+) -> Result<(), NoMemory>
+    ensures { OnOk result (PutsWitness pair.now witness.now (string_bytes text.old) (string_bytes text.new)) }
+{
+    let packet = PacketRef {
+        sec: 0,
+        nanos: 0,
+        len: witness.wire,
+        bytes: witness.bytes.as_slice(),
+    };
+    put_lengths(text, witness)?;
+    put_answer(alloc, text, &pair.first, &packet)?;
     text.push_str(" second ")?;
-    put_decision(text, second, bytes, witness.wire)?;
-    text.push_str("\n")
+    put_answer(alloc, text, &pair.second, &packet)?;
+    text.push_str("\n")?;
+    Ok(())
 }
 
 /// Appends the line that says which answer it is.
-fn put_answer(text: &mut String, budget: usize, sameness: &Sameness) -> Result<(), AllocError>
+fn put_answer_line(text: &mut String, budget: usize, sameness: &Sameness) -> Result<(), AllocError>
     ensures { OnOk result (string_bytes text.new ≡ string_bytes text.old ++ answer_line budget sameness.now) }
 {
     match sameness {
@@ -71,16 +95,16 @@ fn put_answer(text: &mut String, budget: usize, sameness: &Sameness) -> Result<(
 
 /// Appends the line of the witness, if the answer has one.
 fn put_detail(
+    alloc: Global,
     text: &mut String,
-    first: &Expr,
-    second: &Expr,
+    pair: &FilterPair,
     sameness: &Sameness,
-) -> Result<(), AllocError>
-    ensures { OnOk result (string_bytes text.new ≡ string_bytes text.old ++ detail_text (tree_of first.now) (tree_of second.now) sameness.now) }
+) -> Result<(), NoMemory>
+    ensures { OnOk result (PutsDetail pair.now sameness.now (string_bytes text.old) (string_bytes text.new)) }
 {
     match sameness {
-        Sameness::Short(witness) => put_witness(text, first, second, witness),
-        Sameness::Differ(witness) => put_witness(text, first, second, witness),
+        Sameness::Short(witness) => put_witness(alloc, text, pair, witness),
+        Sameness::Differ(witness) => put_witness(alloc, text, pair, witness),
         Sameness::Same | Sameness::SameAsCaptured | Sameness::NotDecided(_) => Ok(()),
     }
 }
@@ -105,47 +129,50 @@ fn dump_of(alloc: Global, sameness: &Sameness) -> Result<String, NoMemory> {
 /// All that is printed if this is the answer.
 fn text_of(
     alloc: Global,
-    first: &Expr,
-    second: &Expr,
+    pair: &FilterPair,
     budget: usize,
     sameness: &Sameness,
 ) -> Result<String, NoMemory>
-    ensures { IfOk result (λ text. (dump : List ℕ) × (string_bytes text ≡ sameness_text (tree_of first.now) (tree_of second.now) budget sameness.now ++ dump)) }
+    ensures { IfOk result (λ text. IsText pair.now budget sameness.now (string_bytes text)) }
 {
     let mut text = String::new(alloc);
-    put_answer(&mut text, budget, sameness)?;
-    put_detail(&mut text, first, second, sameness)?;
+    put_answer_line(&mut text, budget, sameness)?;
+    put_detail(alloc, &mut text, pair, sameness)?;
     let dump = dump_of(alloc, sameness)?;
     text.push_str(dump.as_str())?;
     Ok(text)
 }
 
-/// Decides whether two expressions accept the same packets, as [`decide`] does, and prints the answer: `same`, `same as captured`,
+/// Decides whether two filters accept the same packets, as [`decide_filters`] does.
+pub fn decide_pair(alloc: Global, pair: &FilterPair, budget: usize) -> Result<Sameness, NoMemory>
+    ensures { IfOk result (HoldsOfPair pair.now) }
+{
+    decide_filters(
+        alloc,
+        filter_of(&pair.first),
+        filter_of(&pair.second),
+        budget,
+    )
+}
+
+/// Decides whether two filters accept the same packets, as [`decide_filters`] does, and prints the answer: `same`, `same as captured`,
 /// `differ only where a frame is cut short`, `differ`, or `not decided: ` and the cause. If a packet shows a difference, a line with its
-/// lengths and what each expression answers to it and why comes next, and then its bytes, as `tcpdump -XX` prints them.
+/// lengths and what each filter answers to it and why comes next, and then its bytes, as `tcpdump -XX` prints them.
 ///
 /// `Unprinted::NoMemory`: nothing was printed. `Unprinted::Output`: the writer failed, and took a prefix of the text.
+#[tactic(auto, using(crate::proofs::Witnesses::unanswered))]
 pub fn print_sameness<O: Write>(
     alloc: Global,
-    first: &Expr,
-    second: &Expr,
+    pair: &FilterPair,
     budget: usize,
     out: &mut O,
 ) -> Result<Sameness, Unprinted>
-    ensures holds { IfOk result (Holds (tree_of first.now) (tree_of second.now)) }
-    ensures printed { IfOk result (λ s. PrintsAnswer (sameness_text (tree_of first.now) (tree_of second.now) budget s) (O.contents out.old) (O.contents out.new)) }
-    ensures fault { IfErr result (λ e. IsUnanswered (tree_of first.now) (tree_of second.now) budget (O.contents out.old) (O.contents out.new) e) }
+    ensures holds { IfOk result (HoldsOfPair pair.now) }
+    ensures printed { IfOk result (λ s. PrintsAnswer pair.now budget s (O.contents out.old) (O.contents out.new)) }
+    ensures fault { IfErr result (λ e. IsUnanswered pair.now budget (O.contents out.old) (O.contents out.new) e) }
 {
-    let sameness = decide(alloc, first, second, budget)?;
-    let text = text_of(alloc, first, second, budget, &sameness)?;
+    let sameness = decide_pair(alloc, pair, budget)?;
+    let text = text_of(alloc, pair, budget, &sameness)?;
     send_last(text.as_bytes(), out)?;
     Ok(sameness)
-}
-
-/// Prints that nothing is decided of an expression and a program.
-pub fn print_listing_undecided<O: Write>(out: &mut O) -> Result<(), Unprinted>
-    ensures { Takes (O.contents out.old) (O.contents out.new) result listing_text }
-{
-    send_last(b"not decided: a listing\n", out)?;
-    Ok(())
 }
