@@ -1,6 +1,6 @@
 -- What is printed of two filters that are decided.
 use Rattle.std.proofs.Common.{◌≡◌, ℕ, Bool, List, [], ◌++◌, refl, sym, ap, ◌∙◌, subst}
-use Rattle.std.specs.Prelude.{Option, Some, None, option_map, codes}
+use Rattle.std.specs.Prelude.{Option, Some, None, option_map, codes, Result, Err, IfErr}
 use Rattle.savefile.specs.declared.packet.Packet.{Packet}
 use Rattle.filter_tree.specs.declared.tree.Expr.{Expr}
 use Rattle.filter_meaning.specs.declared.verdict.Verdict.{Verdict}
@@ -12,6 +12,7 @@ use Rattle.filter_same.specs.Same.{HoldsOf}
 use Rattle.std.specs.declared.io.Error.{Error}
 use Rattle.cli_text.specs.Sending.{TakesPart}
 use Rattle.cli_text.specs.Telling.{end_of_line}
+use Rattle.cli_explain.specs.declared.each.Unprinted.{Unprinted}
 use Rattle.cli_explain.specs.declared.each.Unprinted.TheVariants.{Output}
 use Rattle.cli_explain.specs.declared.filter.AskedFilter.{AskedFilter}
 use Rattle.cli_explain.specs.Answers.{Answer, answer, IsAnswer, PutsAnswer}
@@ -50,3 +51,10 @@ holds-as f g f' g' t u t' u' s ef et eg eu h =
 pub unanswered : (pair : FilterPair) (budget : ℕ) (s : Sameness) (text : List ℕ) (old new : Option (List ℕ)) (error : Error) → HoldsOfPair pair s → IsText pair budget s text → TakesPart old new text
     → IsUnanswered pair budget old new (Output error)
 unanswered pair budget s text old new error holds is part = (s, holds, text, is, part)
+
+-- the same of the result that has the writer's error
+pub unanswered-by : {T : Type 0} (pair : FilterPair) (budget : ℕ) (s : Sameness) (bytes text : List ℕ) (old new : Option (List ℕ)) (error : Error) (e : Unprinted) (result : Result T Unprinted)
+    → result ≡ Err e → e ≡ Output error → HoldsOfPair pair s → bytes ≡ text → IsText pair budget s text → TakesPart old new bytes → IfErr result (IsUnanswered pair budget old new)
+unanswered-by {T} pair budget s bytes text old new error e result ended from holds same is part =
+    subst (λ r. IfErr r (IsUnanswered pair budget old new)) (sym ended) (subst (IsUnanswered pair budget old new) (sym from)
+      (unanswered pair budget s text old new error holds is (subst (TakesPart old new) same part)))
