@@ -57,4 +57,4 @@ pub unanswered-by : {T : Type 0} (pair : FilterPair) (budget : ℕ) (s : Samenes
     → result ≡ Err e → e ≡ Output error → HoldsOfPair pair s → bytes ≡ text → IsText pair budget s text → TakesPart old new bytes → IfErr result (IsUnanswered pair budget old new)
 unanswered-by {T} pair budget s bytes text old new error e result ended from holds same is part =
     subst (λ r. IfErr r (IsUnanswered pair budget old new)) (sym ended) (subst (IsUnanswered pair budget old new) (sym from)
-      (unanswered pair budget s text old new error holds is (subst (TakesPart old new) same part)))
+    (unanswered pair budget s text old new error holds is (subst (TakesPart old new) same part)))

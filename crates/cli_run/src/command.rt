@@ -99,7 +99,12 @@ fn replay_files<R: Threads + Wait + Sync + AllocGlobal, O: Write, E: HintSink>(
     watch.erase();
     match replayed {
         Ok(mut reports) => {
-            let outcome = report_flushed(LineForm::asked(words.json), reports.as_mut_slice(), out, err);
+            let outcome = report_flushed(
+                LineForm::asked(words.json),
+                reports.as_mut_slice(),
+                out,
+                err,
+            );
             hint_run(words.inputs.as_slice(), reports.as_slice(), err);
             Ok(outcome.status)
         }
