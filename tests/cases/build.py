@@ -13,7 +13,7 @@ CRATES = "# A comment.\nlow: thiserror\nmiddle: low\nother: low\nbpftap: middle 
 
 # A toolchain: `rt` prints its version and where it is; `rattle` notes each call, and fails or waits if a file says so.
 RT = """#!/bin/sh
-case $1 in version) cat "$KIT/version" ;; doc) echo "$KIT/START-HERE.md" ;; esac
+case $1 in version) cat "$KIT/version" ;; doc) printf '%s\\n' "$KIT/START-HERE.md" ;; esac
 """
 RATTLE = """#!/bin/sh
 for last; do :; done
