@@ -1,6 +1,7 @@
 """The pages: their commands after a `$` print the lines below them, and their links lead somewhere."""
 import os
 import re
+import shutil
 import subprocess
 
 from .common import LIMIT, PROGRAM, ROOT, case
@@ -45,6 +46,21 @@ def commands_print_what_they_say(scene):
     for name in RUN:
         page = ROOT / name
         run_page(scene, page)
+
+
+@case
+def git_ignores_what_the_first_commands_write(scene):
+    """What the commands of README and of the page of examples write, called in a clone, is no change of it."""
+    if not scene.has("git"):
+        return
+    for name in ["README.md", "examples/README.md"]:
+        run_page(scene, ROOT / name)
+        shutil.copy(ROOT / ".gitignore", scene.folder)
+        subprocess.run(["git", "init", "-q", "."], cwd=scene.folder, check=True, timeout=LIMIT)
+        words = ["git", "status", "--porcelain", "--untracked-files=all"]
+        seen = subprocess.run(words, cwd=scene.folder, stdout=subprocess.PIPE, text=True, timeout=LIMIT).stdout
+        made = {line[3:] for line in seen.splitlines()} - {".gitignore", "bin/bpftap", "bpftap", "examples"}
+        scene.check(f"made by the commands of {name}", made, set())
 
 
 @case
