@@ -367,6 +367,13 @@ def what_another_user_made_is_not_run(scene):
         give(*paths)
         scene.check(f"{paths[0].name} in out of another user", (clone.call("--version").out, has_run(clone)), (RELEASED, False))
         shutil.rmtree(out)
+    for place in [out, cache]:
+        plant(clone, place)
+        os.chown(place, OTHER, OTHER)
+        scene.check(f"only the folder {place.name} of another user", (clone.call("--version").out, has_run(clone)), (RELEASED, False))
+        shutil.rmtree(place)
+    shutil.rmtree(out, ignore_errors=True)
+    shutil.rmtree(cache, ignore_errors=True)
     built = out / "built" / clone.lib("sources_key").out.decode().strip() / "bin" / "bpftap"
     plant(clone, out, str(built.relative_to(out)))
     give(out / "built")
@@ -500,15 +507,17 @@ def quickest(words, enough, **how):
 
 @case
 def a_second_call_takes_ten_milliseconds_more_at_most(scene):
-    """Over all sources of this folder, a program that does nothing is called by the launcher and without it."""
+    """Over all sources of this folder, a program that does nothing is called by the launcher and without it. On a machine so busy that
+    everything takes longer, it takes no more than 15 starts of a shell."""
     clone = Clone(scene)
     for crate in ROOT.glob("crates/*"):
         shutil.copytree(crate, clone.folder / "crates" / crate.name, ignore=shutil.ignore_patterns("out"), dirs_exist_ok=True)
     clone.release("#!/bin/sh\n")
     clone.call()
     bare = quickest([next(clone.folder.glob("out/released/*/bin/bpftap"))], 1)
-    more = quickest([clone.folder / "bpftap"], bare + 10, env=clone.bare()) - bare
-    scene.check(f"{more:.1f} ms", more <= 10, True)
+    enough = max(10, 15 * quickest(["sh", "-c", ":"], 0.6))
+    more = quickest([clone.folder / "bpftap"], bare + enough, env=clone.bare()) - bare
+    scene.check(f"{more:.1f} ms, wanted {enough:.1f} at most", more <= enough, True)
 
 
 @case
