@@ -3,33 +3,90 @@ import os
 import re
 import sys
 
-from .common import ROOT, VETH, case
+from .common import ROOT, VETH, case, records
 from .library import ARCHIVE, LIBRARY, STRICT, done, is_there, passes
+from .linking import version
+
+
+PYTHON = ROOT / "bindings" / "python"
+
+
+def environment_of_python(**more):
+    """With this repository's package and library."""
+    return {**os.environ, "PYTHONPATH": str(PYTHON), "BPFTAP_LIBRARY": str(LIBRARY), "PYTHONDONTWRITEBYTECODE": "1", **more}
+
+
+def bare():
+    """Without them."""
+    return {key: value for key, value in os.environ.items() if key not in ("BPFTAP_LIBRARY", "PYTHONPATH")}
 
 
 @case
 def package_does_what_its_page_says(scene):
-    """The tests of the Python package, by unittest, and its wheel, which pip installs without a network."""
+    """The tests of the Python package, by unittest."""
+    if is_there(scene):
+        scene.start({})
+        said, status = done(scene, [sys.executable, "-m", "unittest", "discover", "-s", PYTHON / "tests"], env=environment_of_python())
+        scene.check("unittest", (said.splitlines()[-1:], status), (["OK"], 0))
+
+
+@case
+def pip_installs_it(scene):
+    """pip installs the folder, an sdist of it and the folder itself (`-e`), without a network; what is installed has the page and its library. The
+    same sources give the same sdist."""
     if not is_there(scene):
         return
     scene.start({})
-    environment = {**os.environ, "PYTHONPATH": str(ROOT / "bindings" / "python"), "BPFTAP_LIBRARY": str(LIBRARY), "PYTHONDONTWRITEBYTECODE": "1"}
-    said, status = done(scene, [sys.executable, "-m", "unittest", "discover", "-s", ROOT / "bindings" / "python" / "tests"], env=environment)
-    scene.check("unittest", (said.splitlines()[-1:], status), (["OK"], 0))
-    said, status = done(scene, [sys.executable, "-m", "venv", "--without-pip", "there"])
-    if status or not scene.has("pip3"):
-        return
-    into = scene.folder / "site"
-    words = [sys.executable, "-m", "pip", "install", "--quiet", "--no-index", "--no-deps", "--target", into, ROOT / "bindings" / "python"]
-    said, status = done(scene, words, env={**os.environ, "BPFTAP_LIBRARY": str(LIBRARY), "PIP_DISABLE_PIP_VERSION_CHECK": "1"})
-    if "No module named pip" in said:
+    if done(scene, [sys.executable, "-m", "pip", "--version"])[1]:
         scene.leave("pip can't be found")
         return
-    scene.check("pip install", status, 0)
-    bare = {key: value for key, value in os.environ.items() if key not in ("BPFTAP_LIBRARY", "PYTHONPATH")}
-    said, status = done(scene, [sys.executable, "-c", "import bpftap; print(bpftap.Filter('ip').matches(bytes(12) + b'\\x08\\x00'))"],
-                        env={**bare, "PYTHONPATH": str(into)})
-    scene.check("the installed package", (said, status), ("True\n", 0))
+    sums, sdist = set(), "import backend, sys; print(backend.build_sdist(sys.argv[1]))"
+    name = f"bpftap-{version()}.tar.gz"
+    for _ in range(2):
+        scene.check("sdist", done(scene, [sys.executable, "-Bc", sdist, scene.folder], env=environment_of_python()), (f"{name}\n", 0))
+        sums.add(scene.read(name))
+    scene.check("the same sdist", len(sums), 1)
+    shown = "import bpftap; print(bpftap.__version__, bpftap.Filter('ip').matches(bytes(12) + b'\\x08\\x00'))"
+    for number, what in enumerate(([PYTHON], [name], ["-e", PYTHON])):
+        into, environment = scene.folder / f"site{number}", {**bare(), "PIP_DISABLE_PIP_VERSION_CHECK": "1"}
+        if number != 1:  # The sdist has the library.
+            environment["BPFTAP_LIBRARY"] = str(LIBRARY)
+        words = [sys.executable, "-m", "pip", "install", "--quiet", "--no-index", "--no-deps", "--target", into, *what]
+        scene.check(f"pip install {what}", done(scene, words, env=environment)[1], 0)
+        if number == 2:
+            found = f"import site; site.addsitedir({str(into)!r}); {shown}"
+            scene.check("-e", done(scene, [sys.executable, "-Bc", found], env={**bare(), "BPFTAP_LIBRARY": str(LIBRARY)}), (f"{version()} True\n", 0))
+        else:
+            scene.check(f"installed from {what[0]}", done(scene, [sys.executable, "-c", shown], env={**bare(), "PYTHONPATH": str(into)}), (f"{version()} True\n", 0))
+            about = (into / f"bpftap-{version()}.dist-info" / "METADATA").read_text()
+            scene.check("its page", (about.count("\nClassifier: ") > 5, "# bpftap for Python" in about), (True, True))
+
+
+def blocks(page, language):
+    """The examples of a page."""
+    return re.findall(rf"^```{language}\n(.*?)^```$", page.read_text(), re.S | re.M)
+
+
+@case
+def fixture_of_its_page_works(scene):
+    """The fixture and the test of TESTING.md under pytest; a test that fails prints what the page shows."""
+    if not is_there(scene):
+        return
+    fixture, test = blocks(PYTHON / "TESTING.md", "python")
+    spoiled = test.replace("def test_it", "def test_not").replace("{0, 2}", "{0, 1, 2}")
+    scene.start({"conftest.py": fixture, "test_sent.py": test, "test_spoiled.py": spoiled})
+    scene.run(["cut", "-s", "0", "-e", "icmp and ip[6:2] & 0x3fff = 0", str(VETH), "all.pcap"])
+    scene.put({"pings.pcap": scene.read("all.pcap")[:24] + b"".join(records(scene.read("all.pcap"))[:4])})
+    python = next((python for python in (sys.executable, "/usr/bin/python3") if done(scene, [python, "-c", "import pytest"])[1] == 0), None)
+    if python is None:
+        scene.leave("pytest can't be found")
+        return
+    words = [python, "-m", "pytest", "-q", "-p", "no:cacheprovider"]
+    said, status = done(scene, [*words, "test_sent.py"], env=environment_of_python())
+    scene.check("the page's test", ("1 passed" in said, status), (True, 0))
+    said, status = done(scene, [*words, "test_spoiled.py"], env=environment_of_python())
+    shown = re.findall(r"^    (E .*)$", (PYTHON / "TESTING.md").read_text(), re.M)
+    scene.check("a test that fails", ([line for line in said.splitlines() if line in shown], status), (shown, 1))
 
 
 def takes_long_captures(scene):
@@ -79,7 +136,7 @@ def examples_do_what_they_say(scene):
         takes_long_captures(scene)
         said, status = done(scene, ["./attach", "tcp port 80"])
         scene.check("attach", (re.sub(r"\d+", "N", said), status), ("the kernel took N instructions\n", 0))
-    environment = {**os.environ, "PYTHONPATH": str(ROOT / "bindings" / "python"), "BPFTAP_LIBRARY": str(LIBRARY), "PYTHONDONTWRITEBYTECODE": "1"}
+    environment = environment_of_python()
     said, status = done(scene, [sys.executable, ROOT / "examples" / "python" / "test_bench.py"], env=environment)
     scene.check("test_bench.py", (said.count("passed "), status), (3, 0))
     said, status = done(scene, [sys.executable, ROOT / "examples" / "python" / "lesson.py"], env=environment)
