@@ -1,6 +1,7 @@
-"""The packages over the library for C: Python and Rust, with their examples and those in C."""
+"""The packages over the library for C: Python, Rust and Go, with their examples and those in C."""
 import os
 import re
+import shutil
 import sys
 
 from .common import ROOT, VETH, case, records
@@ -146,6 +147,42 @@ def examples_do_what_they_say(scene):
     counts = re.findall(r"\d+", scene.run(["steps", "listeners", "script", str(VETH)]).out.decode())
     said, status = done(scene, [sys.executable, ROOT / "examples" / "python" / "drops.py"], env=environment)
     scene.check("drops.py", (said.splitlines()[1:2], status), ([f"{counts[3]} dropped of {counts[2]}"], 0))
+
+
+def repository(scene):
+    """A folder like the repository's, with the packages, the examples, the header and the library, and nothing that was built meanwhile."""
+    top, leave = scene.folder / "top", shutil.ignore_patterns("native", "target", "__pycache__")
+    for part in ("bindings", "examples", "include"):
+        shutil.copytree(ROOT / part, top / part, ignore=leave)
+    shutil.copytree(ARCHIVE.parent, top / "out" / "lib", symlinks=True)
+    return top
+
+
+@case
+def module_of_go_passes_its_tests(scene):
+    """`go vet`, `go test` with the examples of its documentation, gofmt, the example, and the page's program in a project of its own."""
+    if not is_there(scene) or not scene.has("go", "gcc"):
+        return
+    scene.start({})
+    top = repository(scene)
+    go = lambda folder, *words: done(scene, ["go", *words], at=folder, env={**os.environ, "GOFLAGS": "-count=1" if "test" in words else "", "GOPROXY": "off"})
+    module, example = top / "bindings" / "go", top / "examples" / "go"
+    for folder in (module, example):
+        scene.check(f"gofmt of {folder.name}", done(scene, ["gofmt", "-l", "."], at=folder), ("", 0))
+        scene.check("go vet", go(folder, "vet", "./..."), ("", 0))
+    said, status = go(module, "test", "./...")
+    scene.check("go test", (said.split()[:2], status), (["ok", "bpftap"], 0))
+    scene.check("the example", go(example, "run", ".", "udp port 5353", "../veth.pcap"), ("67 of 253 packets\n186 rejected by udp port 5353\n", 0))
+    scene.check("its fault", go(example, "run", ".", "port http", "../veth.pcap"), ("count: port http: BadWord 5\nexit status 1\n", 1))
+    # As the page says, in a folder that knows nothing of the repository.
+    scene.check("ship", done(scene, [top / "bindings" / "ship"]), ("", 0))
+    project = scene.folder / "project"
+    shutil.copytree(module, project / "bpftap")
+    (project / "main.go").write_text(blocks(module / "README.md", "go")[0])
+    shutil.rmtree(top)
+    for words in (["mod", "init", "project"], ["mod", "edit", "-require", "bpftap@v0.0.0", "-replace", "bpftap=./bpftap"]):
+        scene.check(f"go {words[1]}", go(project, *words)[1], 0)
+    scene.check("the page's program", go(project, "run", "."), ("false\nNo tcp port 80 <nil>\n", 0))
 
 
 @case

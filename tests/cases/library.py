@@ -34,9 +34,9 @@ def is_there(scene):
     return LIBRARY.is_file()
 
 
-def done(scene, words, **how):
-    """Runs words in the scene's folder; what was printed, and the status."""
-    ended = subprocess.run(words, cwd=scene.folder, stdout=subprocess.PIPE, stderr=subprocess.STDOUT, timeout=LIMIT, **how)
+def done(scene, words, at=None, **how):
+    """Runs words in the scene's folder, or another one; what was printed, and the status."""
+    ended = subprocess.run(words, cwd=at or scene.folder, stdout=subprocess.PIPE, stderr=subprocess.STDOUT, timeout=LIMIT, **how)
     return ended.stdout.decode(errors="replace"), ended.returncode
 
 
