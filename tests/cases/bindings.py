@@ -4,7 +4,7 @@ import re
 import shutil
 import sys
 
-from .common import ROOT, VETH, case, records
+from .common import LIMIT, ROOT, VETH, case, records
 from .library import ARCHIVE, LIBRARY, STRICT, done, is_there, passes
 from .linking import version
 
@@ -165,7 +165,7 @@ def module_of_go_passes_its_tests(scene):
         return
     scene.start({})
     top = repository(scene)
-    go = lambda folder, *words: done(scene, ["go", *words], at=folder, env={**os.environ, "GOFLAGS": "-count=1" if "test" in words else "", "GOPROXY": "off"})
+    go = lambda folder, *words: done(scene, ["go", *words], at=folder, limit=5 * LIMIT, env={**os.environ, "GOFLAGS": "-count=1" if "test" in words else "", "GOPROXY": "off"})
     module, example = top / "bindings" / "go", top / "examples" / "go"
     for folder in (module, example):
         scene.check(f"gofmt of {folder.name}", done(scene, ["gofmt", "-l", "."], at=folder), ("", 0))
@@ -187,15 +187,23 @@ def module_of_go_passes_its_tests(scene):
 
 @case
 def crate_of_rust_passes_its_tests(scene):
-    """`cargo test --offline` of bindings/rust, with the example of its page; without the library the build names BPFTAP_LIB."""
-    if is_there(scene) and scene.has("cargo"):
-        scene.start({})
-        words = ["cargo", "test", "--offline", "--quiet", "--manifest-path", ROOT / "bindings" / "rust" / "Cargo.toml"]
-        environment = {**os.environ, "CARGO_TARGET_DIR": str(scene.folder / "target"), "BPFTAP_LIB": str(ARCHIVE.parent)}
-        said, status = done(scene, words, env=environment)
-        scene.check("cargo test", status, 0)
-        if status:
-            scene.check("what it said", said, "")
-        said, status = done(scene, words, env={**environment, "BPFTAP_LIB": "/nosuch"})
-        line = "/nosuch/libbpftap.a is not there: let BPFTAP_LIB name the folder of libbpftap.a, or run ./build bpftap_c in the repository"
-        scene.check("cargo test without the library", (line in said, status != 0), (True, True))
+    """`cargo test` of bindings/rust with the examples of its documentation, which has no warning; without the library the build names
+    BPFTAP_LIB. The lock file is one that Debian's cargo reads."""
+    if not is_there(scene) or not scene.has("cargo", "gcc"):
+        return
+    scene.start({})
+    crate = repository(scene) / "bindings" / "rust"
+    cargo = lambda *words, **more: done(scene, ["cargo", *words, "--offline", "--quiet"], at=crate, limit=5 * LIMIT, env={
+        **bare(), "CARGO_TARGET_DIR": str(scene.folder / "target"), "RUSTDOCFLAGS": "-D warnings", **more})
+    shutil.copytree(ROOT / "docs", crate.parents[1] / "docs")
+    said, status = cargo("test", "--locked")
+    scene.check("cargo test", (said if status else "", status), ("", 0))
+    scene.check("cargo doc", cargo("doc", "--no-deps"), ("", 0))
+    scene.check("the lock file", "\nversion = 3\n" in (crate / "Cargo.lock").read_text(), True)
+    said, status = cargo("test", BPFTAP_LIB="/nosuch")
+    line = "/nosuch/libbpftap.a is not there: let BPFTAP_LIB name the folder of libbpftap.a, or run ./build bpftap_c in the repository"
+    scene.check("cargo test without the library", (line in said, status != 0), (True, True))
+    # What is handed on has the library.
+    scene.check("ship", done(scene, [crate.parent / "ship"]), ("", 0))
+    listed, _ = cargo("package", "--list", "--allow-dirty")
+    scene.check("what is packed", {"native/libbpftap.a", "native/bpftap.h", "src/lib.rs", "build.rs"} <= {*listed.split()}, True)

@@ -34,9 +34,9 @@ def is_there(scene):
     return LIBRARY.is_file()
 
 
-def done(scene, words, at=None, **how):
+def done(scene, words, at=None, limit=LIMIT, **how):
     """Runs words in the scene's folder, or another one; what was printed, and the status."""
-    ended = subprocess.run(words, cwd=at or scene.folder, stdout=subprocess.PIPE, stderr=subprocess.STDOUT, timeout=LIMIT, **how)
+    ended = subprocess.run(words, cwd=at or scene.folder, stdout=subprocess.PIPE, stderr=subprocess.STDOUT, timeout=limit, **how)
     return ended.stdout.decode(errors="replace"), ended.returncode
 
 
