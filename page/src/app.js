@@ -40,15 +40,15 @@ export class App {
     /** @type {Capture | null} */
     this.capture = null;
     this.source = { name: EXAMPLE, file: example };
-    const desk = () => new Desk(startWorker, library.module);
-    this.packetDesk = desk();
+    const desk = (/** @type {boolean} */ yields) => new Desk(startWorker, library.module, yields);
+    this.packetDesk = desk(true);
     this.write = settled(150, () => this.writeLink());
     this.filterView = new FilterView((filter) => this.follow(filter));
     this.graph = new GraphView(() => this.packet.go(this.packet.at));
     this.packet = new PacketView((trace, at) => this.mark(trace, at));
     this.list = new ListView((place) => this.choose(place));
-    this.comparison = new ComparisonView(desk(), (packet, wire) => this.openWitness(packet, wire), this.write);
-    this.listeners = new ListenersView(desk(), this.write);
+    this.comparison = new ComparisonView(desk(false), (packet, wire) => this.openWitness(packet, wire), this.write);
+    this.listeners = new ListenersView(desk(false), this.write);
     this.lessons = new LessonView();
     [this.filterView, this.comparison, this.listeners].forEach((view) => view.use(library));
   }
@@ -116,7 +116,7 @@ export class App {
       find(`show-${name}`).setAttribute("aria-pressed", String(name === view));
     }
     if (view === "listeners" && this.capture) {
-      this.listeners.open(this.capture.file);
+      this.listeners.open(this.capture);
       this.listeners.play();
     }
     this.write();
@@ -185,7 +185,7 @@ export class App {
     const { filter, capture } = this;
     // Once a capture is read, it is explained.
     if (!capture) return;
-    this.packetDesk.leave(new Ended("another question"));
+    this.packetDesk.turnAway();
     this.list.answer(NO_ANSWERS, true);
     if (!filter) return;
     const slow = setTimeout(() => (find("stop-packets").hidden = false), 200);

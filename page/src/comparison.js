@@ -64,7 +64,7 @@ export class ComparisonView {
 
   async compare() {
     const { first } = this, second = this.input.value;
-    this.desk.leave(new Ended("another question"));
+    this.desk.turnAway();
     if (first === null || second.trim() === "") {
       this.say();
       return;

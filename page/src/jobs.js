@@ -66,10 +66,12 @@ export class Desk {
   /**
    * @param {() => Worker} start
    * @param {WebAssembly.Module} module
+   * @param {boolean} yields whether its work looks for the next letter in between; if not, the worker is ended when that comes
    */
-  constructor(start, module) {
+  constructor(start, module, yields) {
     this.start = start;
     this.module = module;
+    this.yields = yields;
     this.number = 0;
     /** @type {Worker | null} */
     this.worker = null;
@@ -84,10 +86,17 @@ export class Desk {
    * @returns {Promise<any>}
    */
   ask(name, given, onNews = () => {}) {
-    this.leave(new Ended("the next question came"));
+    this.turnAway();
     const worker = this.worker || this.open();
     worker.postMessage({ number: ++this.number, name, given });
     return new Promise((resolve, reject) => (this.waiting = { resolve, reject, onNews }));
+  }
+
+  /** Gives up the work that is being done, for the next one. */
+  turnAway() {
+    const why = new Ended("the next question came");
+    if (this.waiting && !this.yields) this.stop(why);
+    else this.leave(why);
   }
 
   /** Whether its worker has been started, and remembers what it was given. */

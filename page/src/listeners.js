@@ -9,6 +9,7 @@ import { hasReports } from "./steps.js";
 /** @typedef {import("./jobs.js").Desk} Desk */
 /** @typedef {import("./steps.js").Plan} Plan */
 /** @typedef {import("./steps.js").Replay} Replay */
+/** @typedef {import("./app.js").Capture} Capture */
 /** A column of the picture: its title says what became of the step, and its lane has a cursor. */
 /** @typedef {{ title: string, place: (isHere: boolean) => void }} Column */
 
@@ -19,19 +20,12 @@ const COLUMN = 10;
  * @type {Record<string, string>}
  */
 const REASONS = {
-  stored: "its record fits into the store",
-  turned: "its record does not fit into the store, which becomes the hold; it goes into the new store",
-  dropped: "its record does not fit into the store, and the hold is not read yet",
-  passed: "the filter rejects it",
+  stored: "there is room for it in the store",
+  turned: "the store becomes the hold",
+  dropped: "there is no room for it in the store, and the hold is not read yet",
   closed: "the listener is closed",
   read: "the hold goes to the reader",
 };
-
-/** @param {string} title as `step 8 arrive capture 0 place 6: 192 stored, 192 held, dropped` */
-function reasonOf(title) {
-  const word = /, (\w+)$/.exec(title);
-  return (word && REASONS[word[1]]) || "";
-}
 
 /**
  * The columns of a lane, each with a frame around it while it is looked at.
@@ -67,7 +61,11 @@ export class ListenersView {
      */
     this.lanes = [];
     this.at = 0;
-    this.file = new Uint8Array();
+    /**
+     * The capture whose packets arrive.
+     * @type {Capture | null}
+     */
+    this.capture = null;
     this.picture = "";
     const play = settled(200, () => this.play());
     [this.listeners, this.script].forEach((area) => area.addEventListener("input", () => {
@@ -96,15 +94,16 @@ export class ListenersView {
     return { listeners: this.listeners.value, script: this.script.value };
   }
 
-  /** @param {Uint8Array} file the capture whose packets arrive */
-  open(file) {
-    this.file = file;
+  /** @param {Capture} capture */
+  open(capture) {
+    this.capture = capture;
   }
 
   async play() {
+    if (!this.capture) return;
     const slow = setTimeout(() => (find("stop-steps").hidden = false), 200);
     try {
-      const { reports, picture } = await this.desk.ask("steps", [this.plan, this.file]);
+      const { reports, picture } = await this.desk.ask("steps", [this.plan, this.capture.file]);
       this.show(reports, picture);
     } catch (why) {
       if (why instanceof Ended && why.message !== "stopped") return;
@@ -157,9 +156,22 @@ export class ListenersView {
     const [head] = columns.length ? columns[0].title.split(":") : [""];
     find("column").textContent = head;
     find("column-answers").replaceChildren(...columns.map(({ title }, number) => {
-      const reason = reasonOf(title);
+      const reason = this.reasonOf(title, number);
       return make("li", {}, `listener ${number}:${title.slice(head.length + 1)}${reason ? ` (${reason})` : ""}`);
     }));
+  }
+
+  /**
+   * Why a listener did what the title of its column says; why its filter rejects a packet, the library says.
+   * @param {string} title as `step 8 arrive capture 0 place 6: 192 stored, 192 held, dropped`
+   * @param {number} listener
+   */
+  reasonOf(title, listener) {
+    const [, place, became] = /(?: place (\d+))?:.*, ([a-z]+)$/.exec(title) || [];
+    if (became !== "passed" || !this.capture || !this.library) return REASONS[became] || "";
+    const { file, records } = this.capture, begin = records.offsets[Number(place)];
+    const expression = (this.listeners.value.split("\n")[listener] || "").split(" ").slice(2).join(" ");
+    return this.library.why(expression, file.subarray(begin, begin + records.captured[Number(place)]), records.wire[Number(place)]).text;
   }
 
   /**

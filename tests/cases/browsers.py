@@ -13,7 +13,7 @@ import urllib.error
 import urllib.request
 
 # How long a browser may take to start, and a page to get ready, in seconds.
-LIMIT = 60
+LIMIT = 180
 # The key under which a driver hands out an element, and codes of keys.
 ELEMENT = "element-6066-11e4-a52e-4f735466cecf"
 KEYS = {"Tab": "\ue004", "ArrowLeft": "\ue012", "ArrowUp": "\ue013", "ArrowRight": "\ue014", "ArrowDown": "\ue015", "End": "\ue010",
