@@ -152,3 +152,21 @@ def versions_agree(scene):
     scene.check("the header", number and int(number[1]), major * 10000 + minor * 100 + patch)
     for path in ("bindings/python/pyproject.toml", "bindings/rust/Cargo.toml"):
         scene.check(path, re.search(r'^version = "(.+)"$', (ROOT / path).read_text(), re.M)[1], version())
+
+
+@case
+def manual_has_each_call(scene):
+    """Each function of the header has a page of the manual, which the header makes; mandoc finds no error in it."""
+    scene.start({})
+    man = ROOT / "man"
+    scene.check("man/library.py --check", done(scene, [man / "library.py", "--check"]), ("", 0))
+    names = set(re.findall(r"^[\w* ]*\b(bpftap_\w+)\(", (INCLUDE / "bpftap.h").read_text(), re.M))
+    pages = {path.stem: path.read_text() for path in man.glob("bpftap_*.3")}
+    scene.check("pages", sorted(pages), sorted(names))
+    others = {name: re.fullmatch(r"\.so man3/(\w+)\.3\n", text) for name, text in pages.items() if text.startswith(".so")}
+    scene.check("pages that name another one", [name for name, found in others.items() if not found or f".Nm {name}\n" not in pages[found[1]]], [])
+    if scene.has("mandoc"):
+        whole = [man / f"{name}.3" for name in pages if name not in others]
+        scene.check("mandoc", done(scene, ["mandoc", "-Tlint", "-Werror", *whole]), ("", 0))
+        text, _ = done(scene, ["mandoc", "-Tutf8", "-O", "width=78", *whole])
+        scene.check("wide lines", [line for line in re.sub(".\b", "", text).splitlines() if len(line) > 80], [])

@@ -97,7 +97,7 @@ pub struct Error {
     pub fault: Fault,
     /// A byte of an expression, an instruction, a line of a listing, or a record, as `docs/FAULTS.md` says of each fault; else 0.
     pub place: u64,
-    /// Which expression [`compare`](crate::compare) refused, 1 or 2; of which listener or capture a fault of [`steps`](crate::steps) is, from
+    /// Which expression [`compare`](crate::compare) refused, 1 or 2; of which listener or capture a fault of [`steps`](crate::steps()) is, from
     /// 0. `None` if another call failed.
     pub number: Option<u32>,
 }
