@@ -8,3 +8,4 @@ pub mod RecordHeader
 pub mod Savefile
 pub mod Sending
 pub mod Writer
+pub mod Faults
