@@ -10,3 +10,4 @@ pub mod Laws
 pub mod Lines
 pub mod Images
 pub mod Naming
+pub mod Faults
