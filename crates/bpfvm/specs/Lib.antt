@@ -5,6 +5,8 @@ pub mod Next
 pub mod Decoding
 pub mod Turns
 pub mod Traces
+pub mod Ends
+pub mod Endings
 pub mod Listing
 pub mod Laws
 pub mod Lines
