@@ -9,3 +9,4 @@ pub mod Savefile
 pub mod Sending
 pub mod Writer
 pub mod Faults
+pub mod Snapshot
