@@ -144,7 +144,7 @@ def script():
         names += re.findall(r"(?:^|, )(\w+) = ", line)
     if twice := {name for name in names if names.count(name) > 1}:
         raise Refused(f"two modules have the name {' '.join(sorted(twice))}")
-    return f'"use strict";\n(() => {{\n{joined}}})();\n'
+    return f'// SPDX-License-Identifier: MIT OR Apache-2.0\n"use strict";\n(() => {{\n{joined}}})();\n'
 
 
 def packed(content):
