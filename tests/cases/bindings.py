@@ -62,6 +62,8 @@ def pip_installs_it(scene):
             scene.check(f"installed from {what[0]}", done(scene, [sys.executable, "-c", shown], env={**bare(), "PYTHONPATH": str(into)}), (f"{version()} True\n", 0))
             about = (into / f"bpftap-{version()}.dist-info" / "METADATA").read_text()
             scene.check("its page", (about.count("\nClassifier: ") > 5, "# bpftap for Python" in about), (True, True))
+            licences = [path.name for path in (into / f"bpftap-{version()}.dist-info" / "licenses").iterdir()]
+            scene.check("its licences", sorted(licences), ["LICENSE-APACHE", "LICENSE-MIT", "NOTICES"])
 
 
 def blocks(page, language):
@@ -155,6 +157,8 @@ def repository(scene):
     top, leave = scene.folder / "top", shutil.ignore_patterns("native", "target", "__pycache__")
     for part in ("bindings", "examples", "include"):
         shutil.copytree(ROOT / part, top / part, ignore=leave)
+    for licence in (*ROOT.glob("LICENSE-*"), ROOT / "NOTICES"):
+        shutil.copy(licence, top)
     shutil.copytree(ARCHIVE.parent, top / "out" / "lib", symlinks=True)
     return top
 
