@@ -1,6 +1,6 @@
 //! Several captures, read in order up to the first fault: the functions under `bpftap explain`.
 
-ghost use Rattle.std.specs.Prelude.{◌≡◌, ◌||◌, false, Ok, IsErr, IsOk};
+ghost use Rattle.std.specs.Prelude.{◌≡◌, ◌||◌, false, true, Ok, IsErr, IsOk};
 ghost use Rattle.cli_text.specs.Sending.{Takes};
 ghost use Rattle.cli_explain.specs.Forms.{counts_in};
 ghost use Rattle.cli_explain.specs.Captures.{ExplainsIn, ExplainsNext, LooksIn, SeeksIn, goes_on, goes_on_to_find, is_found, plus, read_of};
