@@ -191,7 +191,7 @@ def answers_as_the_program_does(scene):
 
 
 # The first line that `bpftap compare` prints of two expressions without a capture.
-DECIDED = {"SAME": "same", "SAME_AS_CAPTURED": "same as captured", "SHORT": "differ only where a frame is cut short", "DIFFER": "differ",
+DECIDED = {"SAME": "same", "SAME_AS_CAPTURED": "same as captured", "SHORT": "differ only where one aborts", "DIFFER": "differ",
            "NOT_DECIDED": "not decided"}
 
 
