@@ -1,17 +1,15 @@
 //! Filters that are compared: expressions and programs.
 
-ghost use Rattle.std.specs.Prelude.{◌≡◌, ◌<◌, IfOk, IfSome, true};
+ghost use Rattle.std.specs.Prelude.{◌≡◌, ◌<◌, IfOk, IfSome, IsTrue};
 ghost use Rattle.filter_meaning.specs.Meaning.{decided};
-ghost use Rattle.filter_same.specs.Filters.{filter_test};
-ghost use Rattle.filter_same.specs.Graphs.{Grew};
-ghost use Rattle.filter_same.specs.Packets.{Means};
+ghost use Rattle.filter_same.specs.Filters.{filter_test, filter_accepts};
+ghost use Rattle.filter_same.specs.Packets.{Means, Extends};
 ghost use Rattle.filter_same.specs.Programs.{ended, program_test};
-ghost use Rattle.filter_same.specs.Same.{packet};
+ghost use Rattle.filter_same.specs.Same.{packet, AcceptSame};
 
-use crate::case::{Case, Refusal};
-use crate::graph::Graph;
-use crate::programs::program;
-use crate::trees::tree;
+use crate::alike::is_same_expr;
+use crate::builder::{Builder, Refusal};
+use crate::depth::{LEVELS, is_shallow};
 use crate::witness::Witness;
 use bpfvm::{How, Program, run_to_end};
 use filter_meaning::{Verdict, evaluate};
@@ -43,25 +41,39 @@ fn program_verdict(program: &Program, witness: &Witness) -> Verdict
 }
 
 impl Filter<'_> {
-    /// A node that says what the filter says of packets of a header length.
+    /// Whether an expression has at most [`LEVELS`] levels, so that what goes down in it needs a bounded stack. A program has none.
+    pub(crate) fn is_shallow(self) -> bool {
+        match self {
+            Filter::Expression(expr) => is_shallow(expr, LEVELS),
+            Filter::Program(_) => true,
+        }
+    }
+
+    /// Whether both are the same expression, or have the same instructions.
+    pub(crate) fn is_same(self, other: Filter<'_>) -> bool
+        ensures { IsTrue result → AcceptSame (filter_accepts self.entry) (filter_accepts other.entry) }
+    {
+        match (self, other) {
+            (Filter::Expression(expr), Filter::Expression(same)) => is_same_expr(expr, same),
+            (Filter::Program(program), Filter::Program(same)) => program.insns() == same.insns(),
+            _ => false,
+        }
+    }
+
+    /// A node that says what the filter says. At most `budget` places of a program are walked.
     pub(crate) fn node(
         self,
-        graph: &mut Graph,
+        builder: &mut Builder,
         alloc: Global,
-        header: Option<u32>,
         budget: usize,
-    ) -> Result<usize, Refusal>
-        requires { IfSome header (λ n. n < 16) }
-        ensures means { IfOk result (Means graph.new (record { header = header; wanted = true }) (filter_test self.entry)) }
-        ensures grew { Grew graph.old graph.new }
+    ) -> Result<u32, Refusal>
+        requires { IfSome builder.old.header (λ n. n < 16) }
+        ensures means { IfOk result (Means builder.new (filter_test self.entry)) }
+        ensures extends { Extends builder.old builder.new }
     {
-        let case = Case {
-            header,
-            wanted: true,
-        };
         match self {
-            Filter::Expression(expr) => tree(graph, case, expr),
-            Filter::Program(insns) => program(graph, alloc, header, insns, budget),
+            Filter::Expression(expr) => builder.tree(expr),
+            Filter::Program(program) => builder.program(alloc, program, budget),
         }
     }
 
