@@ -1,4 +1,4 @@
--- The snapshot length of a command or a line.
+-- The snapshot length that a number stands for.
 use Rattle.std.specs.Prelude.{ℕ, ◌==◌, if◌then◌else◌}
 use Rattle.savefile.specs.declared.record.TheConstants.{MAX_SNAP}
 

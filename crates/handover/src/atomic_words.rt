@@ -1,4 +1,4 @@
-//! The table of a pair: its rule, and what each kind of step says.
+//! The atomic words of a pair, its table with the rule over them, and what each kind of step says.
 
 ghost use Rattle.std.specs.Prelude.{List, [], false};
 ghost use Rattle.handover.specs.declared.calls.Feed.{Feed};
