@@ -1,5 +1,5 @@
 """The words of the command line: those that are no command, and those that ask for help or the version."""
-from .common import HEADER, TCP_RECORD, WHOLE, case, fault_lines
+from .common import HEADER, TCP_RECORD, VERSION, WHOLE, case, fault_lines
 
 WRONG = [
     "",
@@ -30,8 +30,8 @@ def bad_usage_ends_with_one(scene):
 
 # Words that ask for help or the version, and a part of it.
 HELP = [
-    ("--version", b"bpftap 1.3.0, proved in the logic "),
-    ("-V", b"bpftap 1.3.0, "),
+    ("--version", f"bpftap {VERSION}, proved in the logic ".encode()),
+    ("-V", f"bpftap {VERSION}, ".encode()),
     ("--help", b"Examples:\n"),
     ("help cut", b"[default: little]"),
     ("cut -h", b"[default: micro]"),

@@ -6,7 +6,8 @@ from dataclasses import dataclass
 
 from ._filters import FilterError
 from ._errors import raise_fault
-from ._library import in_range, lib, text
+from ._library import in_range, lib, text, utf8
+from ._stacks import deeply
 
 
 class Sameness(enum.IntEnum):
@@ -44,9 +45,8 @@ class Comparison:
 def compare(first: str, second: str, budget: int = 2_000_000) -> Comparison:
     """Decides for every packet that there can be whether two expressions accept it alike. `budget` bounds the decision graphs, and so the
     memory and the time. An expression that is refused is a `FilterError`; its attribute `number` says which one, 1 or 2."""
-    one, other = first.encode(), second.encode()
-    in_range("budget", budget, 2**64 - 1)
-    result, packet = text(lambda to, room: lib.bpftap_compare(one, len(one), other, len(other), budget, to, room))
+    one, other, budget = utf8("first", first), utf8("second", second), in_range("budget", budget, 2**64 - 1)
+    result, packet = deeply(lambda: text(lambda *to: lib.bpftap_compare(one, len(one), other, len(other), budget, *to)))
     try:
         raise_fault(FilterError, result.fault, result.place)
     except FilterError as error:
