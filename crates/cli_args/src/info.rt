@@ -14,7 +14,8 @@ pub struct InfoWords<'a> {
     pub inputs: Vec<&'a str>,
 }
 
-const INFO_EXAMPLES: &str = "info prints a line for each capture: how many packets it has, the sum of their lengths on the wire and of
+const INFO_EXAMPLES: &str =
+    "info prints a line for each capture: how many packets it has, the sum of their lengths on the wire and of
 what was captured, when the first and the last one were captured, how many frames are IPv4, ARP,
 IPv6, have a VLAN tag, or are others, the header's byte order, unit of time and snapshot length,
 and how it ends: Clean, or the fault and its place. A damaged capture is counted up to its fault,
@@ -29,7 +30,10 @@ Exit status: 0 if every capture is whole; 1 bad usage, a capture that is refused
 
 static ARGUMENTS: [Argument; 2] = [
     Argument::Json,
-    Argument::Paths("IN", "Captures to read: classic savefiles of Ethernet frames"),
+    Argument::Paths(
+        "IN",
+        "Captures to read: classic savefiles of Ethernet frames",
+    ),
 ];
 
 /// The subcommand.

@@ -14,7 +14,12 @@ use std::alloc::AllocError;
 fn put_totals(line: &mut String, contents: &Contents) -> Result<(), AllocError>
     ensures { OnOk result (string_bytes line.new ≡ string_bytes line.old ++ totals_text contents.now) }
 {
-    let Contents { packets, len, captured, .. } = *contents;
+    let Contents {
+        packets,
+        len,
+        captured,
+        ..
+    } = *contents;
     write!(line, " packets {packets} len {len} captured {captured}")
 }
 
@@ -41,7 +46,13 @@ fn put_moments(line: &mut String, contents: &Contents) -> Result<(), AllocError>
 fn put_kinds(line: &mut String, kinds: KindCounts) -> Result<(), AllocError>
     ensures { OnOk result (string_bytes line.new ≡ string_bytes line.old ++ kinds_text kinds) }
 {
-    let KindCounts { ipv4, arp, ipv6, vlan, other } = kinds;
+    let KindCounts {
+        ipv4,
+        arp,
+        ipv6,
+        vlan,
+        other,
+    } = kinds;
     write!(line, " ipv4 {ipv4} arp {arp} ipv6 {ipv6}")?;
     write!(line, " vlan {vlan} other {other}")
 }
@@ -72,7 +83,12 @@ fn put_header(line: &mut String, header: Header) -> Result<(), AllocError>
     ensures { OnOk result (string_bytes line.new ≡ string_bytes line.old ++ header_text header) }
 {
     let Header { order, unit, snap } = header;
-    write!(line, " {} {} snap {snap}", order_word(order), unit_word(unit))
+    write!(
+        line,
+        " {} {} snap {snap}",
+        order_word(order),
+        unit_word(unit)
+    )
 }
 
 /// Appends how the capture ends.

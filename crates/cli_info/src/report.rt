@@ -56,11 +56,7 @@ pub fn print_survey<R, O: Write>(
 }
 
 /// Reports a capture whose file failed, and returns the exit status of the survey. Any other fault is in the line that is printed.
-pub fn report_survey<R, E: Write>(
-    survey: &CaptureSurvey<R>,
-    path: &str,
-    err: &mut E,
-) -> Status
+pub fn report_survey<R, E: Write>(survey: &CaptureSurvey<R>, path: &str, err: &mut E) -> Status
     ensures { result ≡ survey_status survey.now.read }
 {
     match survey.read {
