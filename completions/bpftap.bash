@@ -1,7 +1,7 @@
 # Completions of bpftap for bash. Source this file, or let bash-completion find it under the name bpftap.
 
-_bpftap_commands='check explain compare cut split steps run help'
-_bpftap_topics='check explain compare cut split steps run expressions'
+_bpftap_commands='check explain compare info cut split steps run help'
+_bpftap_topics='check explain compare info cut split steps run expressions'
 
 # Whether a value has to follow an option, and what it may be then: words, the name of a file, or anything.
 _bpftap_value() {
@@ -21,7 +21,7 @@ _bpftap_options() {
     check) echo '-d -x --json -s -e -f -h --help' ;;
     explain) echo '-s -e -f -p -q --json -h --help' ;;
     compare) echo '-s -f -q -w -h --help' ;;
-    run) echo '--json -h --help' ;;
+    info | run) echo '--json -h --help' ;;
     cut) echo '-s -e -f -o -u -c -w --json -h --help' ;;
     split) echo '-o -u --json -h --help' ;;
     steps) echo '-v -p --json -h --help' ;;
@@ -49,7 +49,7 @@ _bpftap() {
     '') mapfile -t COMPREPLY < <(compgen -W "$_bpftap_commands" -- "$word") ;;
     help) mapfile -t COMPREPLY < <(compgen -W "$_bpftap_topics" -- "$word") ;;
     # The word of `check` is an expression.
-    explain | compare | cut | split | steps | run) compopt -o default ;;
+    explain | compare | info | cut | split | steps | run) compopt -o default ;;
   esac
 }
 

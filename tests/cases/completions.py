@@ -33,14 +33,14 @@ def offered(*words):
 
 # Words, the last one unfinished, and what is offered for it.
 OFFERED = [
-    ([""], ["check", "explain", "compare", "cut", "split", "steps", "run", "help"]),
+    ([""], ["check", "explain", "compare", "info", "cut", "split", "steps", "run", "help"]),
     (["c"], ["check", "compare", "cut"]),
     (["steps"], ["steps"]),
     (["x"], []),
     (["--v"], ["--version"]),
     (["--hi"], ["--hints"]),
     (["--hints", "c"], ["check", "compare", "cut"]),
-    (["help", ""], ["check", "explain", "compare", "cut", "split", "steps", "run", "expressions"]),
+    (["help", ""], ["check", "explain", "compare", "info", "cut", "split", "steps", "run", "expressions"]),
     (["--hints", "help", "e"], ["explain", "expressions"]),
     (["cut", "--"], ["--json", "--help"]),
     (["cut", "-o", ""], ["little", "big"]),

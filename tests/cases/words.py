@@ -66,7 +66,7 @@ POINTED = [
     ("count in.pcap", b"bpftap cut -c"), ("filter tcp in.pcap out.pcap", b"bpftap cut"), ("read in.pcap", b"bpftap explain"),
     ("merge a.pcap b.pcap", b"mergecap"), ("print in.pcap", b"tcpdump -nr IN"), ("show", b"tcpdump -nr IN"), ("dump x", b"tcpdump -nr IN"),
     ("hexdump in.pcap", b"bpftap explain -p PLACE -e '' IN"), ("diff a b", b"bpftap compare EXPR1 EXPR2 IN"), ("version", b"bpftap --version"),
-    ("info in.pcap", b"capinfos IN"), ("head in.pcap", b"editcap -r -F nsecpcap IN OUT 1-10"), ("assemble x", b"bpftap check -f FILE"),
+    ("head in.pcap", b"editcap -r -F nsecpcap IN OUT 1-10"), ("assemble x", b"bpftap check -f FILE"),
     ("disassemble x", b"bpftap check -d -f FILE"), ("completions bash", b"./install"),
 ]
 

@@ -12,6 +12,7 @@ use cli_faults::FaultStream;
 use cli_faults::file::Inputs;
 use cli_files::late::reserve_std_fd;
 use cli_filter_hints::quotes::{hint_listing_word, hint_unquoted};
+use cli_info::command::info_command;
 use cli_report::HintSink;
 use cli_report::commands::{
     hint_command, hint_dash_output, hint_failed_words, hint_missing, hint_option,
@@ -76,6 +77,11 @@ fn dispatch<
                 hint_dash_output(asked.output, &mut err);
             }
             hint_several(rt.alloc(), words, asked.inputs.as_slice(), status, &mut err)
+        }
+        Ok(Request::Info(words)) => {
+            let inputs = Inputs::Captures(words.inputs.as_slice());
+            let mut err = FaultStream::new(rt.alloc(), err, words.json, inputs);
+            info_command(rt, &words, out, &mut err)
         }
         Ok(Request::Steps(words)) => {
             let inputs = Inputs::Captures(words.inputs.as_slice());

@@ -3,6 +3,7 @@ use crate::check::{CheckWords, bad_check_words, check_usage, check_words};
 use crate::compare::{CompareWords, bad_compare_words, compare_usage, compare_words};
 use crate::cut::{CutWords, bad_cut_words, cut_usage, cut_words};
 use crate::explain::{ExplainWords, bad_explain_words, explain_usage, explain_words};
+use crate::info::{InfoWords, info_usage, info_words};
 use crate::refusal::refusal_of;
 use crate::run::{RunWords, run_usage, run_words};
 use crate::split::{SplitWords, split_usage, split_words};
@@ -21,6 +22,7 @@ pub enum Request<'a> {
     Explain(ExplainWords<'a>),
     Compare(CompareWords<'a>),
     Cut(CutWords<'a>),
+    Info(InfoWords<'a>),
     Steps(StepsWords<'a>),
     Run(RunWords<'a>),
     Split(SplitWords<'a>),
@@ -40,6 +42,7 @@ const EXAMPLES: &str = "Examples:
   bpftap compare 'tcp port 80' 'tcp dst port 80' examples/veth.pcap
   bpftap cut -s 0 -e 'udp port 5353' examples/veth.pcap dns.pcap
   bpftap cut -s 0 -f examples/ip.bpf examples/veth.pcap ip.pcap
+  bpftap info examples/veth.pcap
   bpftap split examples/split/lines.txt examples/veth.pcap
   bpftap steps -v examples/steps/listeners.txt examples/steps/script.txt examples/veth.pcap
   bpftap run examples/run/listeners.txt examples/veth.pcap
@@ -51,8 +54,8 @@ packet, compare -q or without IN finds one that is treated differently; 5 compar
 not decided it.";
 
 /// The subcommands, in the order of the help.
-static SUBCOMMANDS: [&str; 7] = [
-    "check", "explain", "compare", "cut", "split", "steps", "run",
+static SUBCOMMANDS: [&str; 8] = [
+    "check", "explain", "compare", "info", "cut", "split", "steps", "run",
 ];
 
 /// The option that asks for hints, for the help: [`called_words`](crate::hints::called_words) takes it.
@@ -80,6 +83,7 @@ pub(crate) fn subcommand_of<'a>(alloc: Global, name: &str) -> Result<Command<'a>
         "explain" => explain_usage(alloc),
         "compare" => compare_usage(alloc),
         "cut" => cut_usage(alloc),
+        "info" => info_usage(alloc),
         "split" => split_usage(alloc),
         "steps" => steps_usage(alloc),
         _ => run_usage(alloc),
@@ -154,6 +158,14 @@ fn run_request_of<'a>(
     Ok(run_words(alloc, words)?.map(Request::Run))
 }
 
+/// What the words of `info` ask for; nothing if one is missing.
+fn info_request_of<'a>(
+    alloc: Global,
+    words: &ArgMatches<'a>,
+) -> Result<Option<Request<'a>>, AllocError> {
+    Ok(info_words(alloc, words)?.map(Request::Info))
+}
+
 /// What the words of `split` ask for; nothing if one is missing.
 fn split_request_of<'a>(
     alloc: Global,
@@ -171,6 +183,7 @@ fn request_of<'a>(
     match name {
         "steps" => steps_request_of(alloc, words),
         "run" => run_request_of(alloc, words),
+        "info" => info_request_of(alloc, words),
         "split" => split_request_of(alloc, words),
         "explain" => explain_request_of(alloc, words),
         "compare" => compare_request_of(alloc, words),

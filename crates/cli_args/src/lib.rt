@@ -8,6 +8,7 @@ pub mod compare;
 pub mod cut;
 pub mod explain;
 pub mod hints;
+pub mod info;
 pub mod places;
 pub mod refusal;
 pub mod report;

@@ -6,7 +6,7 @@ use crate::stream::{HintSink, give_hint};
 use std::convert::AsStr;
 
 /// How to do what commands of other tools do, by the name that one may try.
-static WAYS: [(&str, &str); 20] = [
+static WAYS: [(&str, &str); 19] = [
     (
         "count",
         "to count packets: bpftap cut -c -s 0 -e EXPR IN /dev/null",
@@ -39,7 +39,6 @@ static WAYS: [(&str, &str); 20] = [
         "to compare two filters: bpftap compare EXPR1 EXPR2 IN",
     ),
     ("version", "to print the version: bpftap --version"),
-    ("info", "to describe a capture: capinfos IN"),
     ("head", FIRST_PACKETS),
     (
         "assemble",
