@@ -16,7 +16,7 @@ def test_all_is_ethernet_of_a_known_type():
 
 def test_each_rejected_packet_says_why():
     udp = Filter("udp port 5353")
-    reasons = [udp.why(packet.data, packet.wire) for packet in read(CAPTURE) if not udp.matches(packet.data, packet.wire)]
+    reasons = [udp.why(packet) for packet in read(CAPTURE) if not udp.matches(packet)]
     assert reasons and all(reason.startswith(("No ", "Abort ")) for reason in reasons)
 
 

@@ -7,7 +7,7 @@ import subprocess
 from .build import MADE
 from .common import LIMIT, PROGRAM, ROOT, Seen, case
 from .manual import PAGES, examples
-from .release import Clone
+from .release import Clone, Within
 
 DOCUMENTS = ["README.md", "CHANGELOG.md", "docs", "examples"]
 
@@ -38,9 +38,9 @@ def source_in(scene, **program):
     return clone
 
 
-def install(scene, source, *words, path="/usr/bin:/bin", program="install"):
-    """Runs `install` of a source folder, in the case's folder, without the toolchain."""
-    return source.run(*words, program=program, env={**source.bare(), "PATH": path})
+def install(scene, source, *words, path="/usr/bin:/bin", shell="/bin/bash", program="install"):
+    """Runs `install` of a source folder, in the case's folder, without the toolchain, as a user of this shell."""
+    return source.run(*words, program=program, env={**source.bare(), "PATH": path, "SHELL": shell})
 
 
 def put_below(prefix):
@@ -92,13 +92,9 @@ def all_that_is_released_is_put(scene):
 
 @case
 def zsh_is_pointed_to_its_completions(scene):
-    """If there is a zsh, `install` says which folder its fpath needs, but not for a prefix of the system's."""
-    source, shells = source_in(scene), scene.folder / "shells"
-    shells.mkdir()
-    (shells / "zsh").write_text("#!/bin/sh\n")
-    (shells / "zsh").chmod(0o755)
-    prefix = scene.folder / "own"
-    seen = install(scene, source, str(prefix), path=f"{shells}:{prefix}/bin:/usr/bin:/bin")
+    """To a user of zsh `install` says which folder its fpath needs."""
+    source, prefix = source_in(scene), scene.folder / "own"
+    seen = install(scene, source, str(prefix), path=f"{prefix}/bin:/usr/bin:/bin", shell="/usr/bin/zsh")
     reported = f"install: for zsh, put fpath+=({prefix}/share/zsh/site-functions) before compinit in ~/.zshrc\n"
     scene.check("reported", (seen.err, seen.status), (reported.encode(), 0))
 
@@ -147,6 +143,37 @@ def without_a_program_nothing_is_put(scene):
     line = f"bpftap: the toolchain's command 'rt' is not on the PATH\ninstall: nothing was put under {scene.folder}/there\n"
     scene.check("install", install(scene, source, "there"), Seen(b"", line.encode(), 1))
     scene.check("put", put_below(scene.folder / "there"), set())
+
+
+@case
+def what_was_changed_is_not_installed(scene):
+    """A released file that was changed since it was unpacked is neither installed nor packaged, though the launcher runs the program."""
+    source = source_in(scene)
+    source.call()
+    unpacked = next((source.folder / "out" / "released").iterdir())
+    (unpacked / "lib").mkdir()
+    (unpacked / "lib" / "libbpftap.a").write_text("another\n")
+    line = f"bpftap: {unpacked} is not what release/SHA256SUMS says\n"
+    seen = install(scene, source, str(scene.folder / "there"))
+    scene.check("install", seen, Seen(b"", f"{line}install: nothing was put under {scene.folder}/there\n".encode(), 1))
+    scene.check("put", put_below(scene.folder / "there"), set())
+    seen = install(scene, source, str(scene.folder / "packages"), program="package")
+    scene.check("package", (line.encode() in seen.err, seen.out, seen.status), (True, b"", 1))
+
+
+@case
+def a_clone_that_is_installed_may_have_any_path(scene):
+    """A newline and a backslash in the path of the clone or of the prefix change nothing."""
+    for name in ["a\nb", "c\\d"]:
+        scene.start({})
+        top = scene.folder / name
+        top.mkdir()
+        source = source_in(Within(scene, top))
+        seen = install(scene, source, str(top / "put"))
+        scene.check(f"status in {name!r}", seen.status, 0)
+        scene.check(f"put in {name!r}", put_below(top / "put"), set(PUT))
+        scene.check(f"printed in {name!r}", seen.out.decode(), "".join(f"{top}/put/{name}\n" for name in PUT))
+        scene.check(f"removed in {name!r}", (install(scene, source, "--remove", str(top / "put")).status, put_below(top / "put")), (0, set()))
 
 
 @case

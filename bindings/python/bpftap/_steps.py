@@ -5,8 +5,9 @@ import html
 from collections.abc import Iterable, Iterator, Sequence
 from dataclasses import dataclass, field
 
-from ._captures import Capture, CaptureError, Packet
-from ._listeners import Listener, Message
+from ._captures import Capture, CaptureError
+from ._listeners import Listener
+from ._packets import Message, Packet
 
 
 @dataclass(frozen=True)
