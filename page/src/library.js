@@ -176,10 +176,9 @@ export class Library extends Memory {
    * @param {Uint8Array} insns
    * @param {Uint8Array} packet
    * @param {number} wire
-   * @returns {Trace | null}
+   * @returns {Trace}
    */
   trace(insns, packet, wire) {
-    if (!this.has("trace")) return null;
     return this.within((take) => {
       const result = take(24), to = take(MOST_INSNS * EXECUTED_SIZE), program = this.putProgram(take, insns);
       this.call("trace", BigInt(result), ...program, ...words(this.put(take, packet)), wire, BigInt(to), BigInt(MOST_INSNS));
@@ -200,7 +199,6 @@ export class Library extends Memory {
    * @returns {Look[]}
    */
   looks(expression, packet, wire) {
-    if (!this.has("looks")) return [];
     return this.within((take) => {
       const result = take(24), to = take(MOST_LOOKS * LOOK_SIZE), text = words(this.putText(take, expression));
       this.call("looks", BigInt(result), ...text, ...words(this.put(take, packet)), wire, BigInt(to), BigInt(MOST_LOOKS));

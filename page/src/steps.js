@@ -12,15 +12,12 @@ import { words } from "./memory.js";
  */
 /** @typedef {{ fault: number, number: number, place: number, text: string }} Replay */
 
-/** @type {Replay} */
-export const NO_REPLAY = { fault: OK, number: 0, place: 0, text: "" };
-
 const REPORTS_ROOM = 1 << 20;
 
 /**
  * Plays the steps, and returns what a call of bpftap.h writes of them, with the fault of a capture that ends early beside it.
  * @param {Library} library
- * @param {"steps" | "picture"} name
+ * @param {"steps" | "steps_answers" | "picture"} name
  * @param {Plan} plan
  * @param {Uint8Array} capture
  * @returns {Replay}
