@@ -90,7 +90,7 @@ def page(date, functions, comment, used, others):
         parts += [part] if part else []
     first = re.split(r"[.:](?: |$)", re.sub(r" \([^)]*\)|`", "", parts[0]))[0]
     yield from [r'.\" Made by man/library.py from include/bpftap.h.', f".Dd {date}", f".Dt {names[0].upper()} 3", ".Os", ".Sh NAME"]
-    yield from [f".Nm {name} ," for name in names[:-1]] + [f".Nm {names[-1]}", f".Nd {first[0].lower()}{first[1:]}", ".Sh LIBRARY", ".Lb libbpftap"]
+    yield from [f".Nm {name} ," for name in names[:-1]] + [f".Nm {names[-1]}", f".Nd {first[0].lower()}{first[1:]}", ".Sh LIBRARY", r"libbpftap (\-lbpftap)"]
     yield from [".Sh SYNOPSIS", *synopsis(functions), ".Sh DESCRIPTION"]
     for number, part in enumerate(parts):
         yield from [".Pp"] if number else []

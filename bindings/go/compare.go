@@ -11,8 +11,8 @@ const (
 	Same Sameness = C.BPFTAP_SAME
 	// SameAsCaptured: so it is of packets of which no more bytes were captured than were on the wire.
 	SameAsCaptured Sameness = C.BPFTAP_SAME_AS_CAPTURED
-	// Short: one accepts a packet on which the other aborts; of packets of which no more bytes were captured than were on the wire, none gets
-	// Yes from one and No from the other.
+	// Short: they differ only where one aborts: one accepts the packet, which is too short for the other; of packets of which no more bytes
+	// were captured than were on the wire, none gets Yes from one and No from the other.
 	Short Sameness = C.BPFTAP_SHORT
 	// Differ: one answers Yes to a packet, and the other No.
 	Differ Sameness = C.BPFTAP_DIFFER

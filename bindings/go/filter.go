@@ -114,8 +114,9 @@ type Span struct {
 func (f *Filter) RunSpans(memory []byte, spans []Span) []uint32 {
 	answers := make([]uint32, len(spans))
 	if len(spans) > 0 {
-		C.bpftap_run_spans(insnsOf(f.insns), C.size_t(len(f.insns)), bytesOf(memory), C.size_t(len(memory)), (*C.struct_bpftap_span)(unsafe.Pointer(&spans[0])),
+		C.bpftap_program_run_spans(f.program, bytesOf(memory), C.size_t(len(memory)), (*C.struct_bpftap_span)(unsafe.Pointer(&spans[0])),
 			C.size_t(len(spans)), (*C.uint32_t)(unsafe.Pointer(&answers[0])), C.size_t(len(answers)))
+		runtime.KeepAlive(f)
 	}
 	return answers
 }

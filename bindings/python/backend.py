@@ -38,13 +38,20 @@ def _library():
     raise SystemExit(f"{paths[-1]} is not there: run ./build bpftap_c, or let BPFTAP_LIBRARY name the file")
 
 
+def _licences():
+    """The licences, of an sdist or of the repository."""
+    names = ("LICENSE-APACHE", "LICENSE-MIT", "NOTICES")
+    return {name: (HERE if (HERE / name).is_file() else HERE.parents[1]).joinpath(name).read_bytes() for name in names}
+
+
 def _package():
     return {f"{NAME}/{path.name}": path.read_bytes() for path in sorted((HERE / NAME).iterdir()) if path.suffix in (".py", ".typed")}
 
 
 def _metadata():
-    rows = [("Metadata-Version", "2.1"), ("Name", NAME), ("Version", _field("version")), ("Summary", _field("description")),
+    rows = [("Metadata-Version", "2.4"), ("Name", NAME), ("Version", _field("version")), ("Summary", _field("description")),
             ("Keywords", ",".join(_field("keywords"))), *(("Classifier", line) for line in _field("classifiers")),
+            ("License-Expression", _field("license")), *(("License-File", name) for name in _licences()),
             ("Requires-Python", _field("requires-python")), ("Description-Content-Type", "text/markdown")]
     page = (HERE / _field("readme")).read_text()
     return ("".join(f"{name}: {value}\n" for name, value in rows) + f"\n{page}").encode()
@@ -55,6 +62,7 @@ def _wheel(folder, files):
     about = f"{NAME}-{_field('version')}.dist-info"
     tags = "".join(f"Tag: py3-none-{platform}\n" for platform in TAG.rpartition("-")[2].split("."))
     files = {**files, f"{about}/METADATA": _metadata(), f"{about}/WHEEL": f"Wheel-Version: 1.0\nGenerator: bpftap\nRoot-Is-Purelib: false\n{tags}".encode()}
+    files.update({f"{about}/licenses/{name}": text for name, text in _licences().items()})
     rows = [f"{path},sha256={base64.urlsafe_b64encode(hashlib.sha256(data).digest()).rstrip(b'=').decode()},{len(data)}" for path, data in files.items()]
     files[f"{about}/RECORD"] = "\n".join([*rows, f"{about}/RECORD,,", ""]).encode()
     name = f"{NAME}-{_field('version')}-{TAG}.whl"
@@ -87,7 +95,7 @@ def build_editable(wheel_directory, config_settings=None, metadata_directory=Non
 def build_sdist(sdist_directory, config_settings=None):
     top = f"{NAME}-{_field('version')}"
     files = {path: (HERE / path).read_bytes() for path in ("README.md", "TESTING.md", "backend.py", "pyproject.toml", "tests/test_bpftap.py")}
-    files = {**files, **_package(), f"{NAME}/{LIBRARY}": _library(), "PKG-INFO": _metadata()}
+    files = {**files, **_package(), **_licences(), f"{NAME}/{LIBRARY}": _library(), "PKG-INFO": _metadata()}
     with gzip.GzipFile(pathlib.Path(sdist_directory) / f"{top}.tar.gz", "wb", mtime=SECONDS) as packed, tarfile.open(
             fileobj=packed, mode="w", format=tarfile.PAX_FORMAT) as archive:
         for path, data in sorted(files.items()):

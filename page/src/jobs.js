@@ -21,6 +21,7 @@ function jobsOf(library) {
     compare: (/** @type {string} */ first, /** @type {string} */ second, /** @type {number} */ budget) => library.compare(first, second, budget),
     steps: (/** @type {Plan} */ plan, /** @type {Uint8Array} */ capture) => ({
       reports: replay(library, "steps", plan, capture),
+      answers: replay(library, "steps_answers", plan, capture),
       picture: replay(library, "picture", plan, capture),
     }),
   };

@@ -76,6 +76,14 @@ export class Library extends Memory {
     }
   }
 
+  /**
+   * Whether the library has a call.
+   * @param {string} name
+   */
+  has(name) {
+    return `bpftap_${name}` in this.calls;
+  }
+
   version() {
     return this.textOf("version", () => []).text;
   }
@@ -159,6 +167,7 @@ export class Library extends Memory {
    * @param {string} expression
    */
   hint(fault, place, expression) {
+    if (!this.has("hint")) return "";
     return this.textOf("hint", (take) => [fault, BigInt(place), ...words(this.putText(take, expression))]).text;
   }
 

@@ -10,38 +10,39 @@ import { hasReports } from "./steps.js";
 /** @typedef {import("./steps.js").Plan} Plan */
 /** @typedef {import("./steps.js").Replay} Replay */
 /** @typedef {import("./app.js").Capture} Capture */
-/** A column of the picture: its title says what became of the step, and its lane has a cursor. */
-/** @typedef {{ title: string, place: (isHere: boolean) => void }} Column */
+/**
+ * What the library says of a step: a line of its own, and one for each listener that it reaches.
+ * @typedef {{ head: string, answers: string[] }} Step
+ */
 
 const COLUMN = 10;
 
 /**
- * Why a listener did so, by the last word of a column's title.
- * @type {Record<string, string>}
+ * The steps of `bpftap steps -v`: lines of answers are indented.
+ * @param {string} text
  */
-const REASONS = {
-  stored: "there is room for it in the store",
-  turned: "the store becomes the hold",
-  dropped: "there is no room for it in the store, and the hold is not read yet",
-  closed: "the listener is closed",
-  read: "the hold goes to the reader",
-};
+function stepsOf(text) {
+  /** @type {Step[]} */
+  const steps = [];
+  for (const line of text.split("\n").filter(Boolean)) {
+    if (line.startsWith(" ")) steps[steps.length - 1].answers.push(line.trim());
+    else steps.push({ head: line, answers: [] });
+  }
+  return steps;
+}
 
 /**
- * The columns of a lane, each with a frame around it while it is looked at.
+ * A frame in a lane of the picture, which goes to the column of a step.
  * @param {SVGSVGElement} lane
- * @returns {Column[]}
+ * @returns {(step: number) => void}
  */
-function columnsOf(lane) {
-  const height = lane.viewBox.baseVal.height, cursor = makeSvg("rect", { class: "cursor", y: 0, width: COLUMN - 1, height, visibility: "hidden" });
+function cursorOf(lane) {
+  const cursor = makeSvg("rect", { class: "cursor", y: 0, width: COLUMN - 1, height: lane.viewBox.baseVal.height });
   lane.append(cursor);
-  return [...lane.querySelectorAll("title")].map((title, number) => ({
-    title: title.textContent || "",
-    place: (isHere) => {
-      cursor.setAttribute("x", String(number * COLUMN));
-      cursor.setAttribute("visibility", isHere ? "visible" : "hidden");
-    },
-  }));
+  return (step) => {
+    cursor.setAttribute("x", String(step * COLUMN));
+    cursor.scrollIntoView({ block: "nearest", inline: "nearest" });
+  };
 }
 
 export class ListenersView {
@@ -55,11 +56,13 @@ export class ListenersView {
     this.listeners = find("listeners-text");
     /** @type {HTMLTextAreaElement} */
     this.script = find("script-text");
+    /** @type {Step[]} */
+    this.steps = [];
     /**
-     * A list of columns for each listener.
-     * @type {Column[][]}
+     * One for each listener.
+     * @type {((step: number) => void)[]}
      */
-    this.lanes = [];
+    this.cursors = [];
     this.at = 0;
     /**
      * The capture whose packets arrive.
@@ -103,8 +106,7 @@ export class ListenersView {
     if (!this.capture) return;
     const slow = setTimeout(() => (find("stop-steps").hidden = false), 200);
     try {
-      const { reports, picture } = await this.desk.ask("steps", [this.plan, this.capture.file]);
-      this.show(reports, picture);
+      this.show(await this.desk.ask("steps", [this.plan, this.capture.file]));
     } catch (why) {
       if (why instanceof Ended && why.message !== "stopped") return;
       find("steps-fault").textContent = why instanceof Ended ? "Stopped." : `The library stopped in this call: ${/** @type {Error} */ (why).message}.`;
@@ -114,18 +116,16 @@ export class ListenersView {
     }
   }
 
-  /**
-   * @param {Replay} reports
-   * @param {Replay} picture
-   */
-  show(reports, picture) {
+  /** @param {{ reports: Replay, answers: Replay, picture: Replay }} played */
+  show({ reports, answers, picture }) {
     const { fault, number, place } = reports, library = /** @type {Library} */ (this.library);
     find("steps-fault").textContent = fault === OK ? "" : `${library.faultText(fault, place)}${number ? ` (listener or capture ${number})` : ""}`;
     if (!hasReports(reports)) return;
     find("reports").textContent = reports.text;
+    this.steps = stepsOf(answers.text);
     this.picture = picture.text;
     this.drawPicture();
-    this.go(Math.min(this.at, this.last));
+    this.go(this.at);
   }
 
   /** Shows the picture in a root of its own: its style is taken out of its text, which the policy of the page would refuse. */
@@ -137,12 +137,7 @@ export class ListenersView {
 .cursor { fill: none; stroke: #000; stroke-width: 3px; vector-effect: non-scaling-stroke }`);
     root.adoptedStyleSheets = [sheet];
     root.replaceChildren(document.importNode(documentElement, true));
-    this.lanes = [...root.querySelectorAll("g > svg")].map((lane) => columnsOf(/** @type {SVGSVGElement} */ (lane)));
-  }
-
-  /** The number of the last step. */
-  get last() {
-    return this.lanes.length ? this.lanes[0].length - 1 : 0;
+    this.cursors = [...root.querySelectorAll("g > svg")].map((lane) => cursorOf(/** @type {SVGSVGElement} */ (lane)));
   }
 
   /**
@@ -150,28 +145,11 @@ export class ListenersView {
    * @param {number} to
    */
   go(to) {
-    this.at = Math.max(0, Math.min(this.last, to));
-    const columns = this.lanes.map((lane) => lane[this.at]).filter(Boolean);
-    columns.forEach((column) => column.place(true));
-    const [head] = columns.length ? columns[0].title.split(":") : [""];
-    find("column").textContent = head;
-    find("column-answers").replaceChildren(...columns.map(({ title }, number) => {
-      const reason = this.reasonOf(title, number);
-      return make("li", {}, `listener ${number}:${title.slice(head.length + 1)}${reason ? ` (${reason})` : ""}`);
-    }));
-  }
-
-  /**
-   * Why a listener did what the title of its column says; why its filter rejects a packet, the library says.
-   * @param {string} title as `step 8 arrive capture 0 place 6: 192 stored, 192 held, dropped`
-   * @param {number} listener
-   */
-  reasonOf(title, listener) {
-    const [, place, became] = /(?: place (\d+))?:.*, ([a-z]+)$/.exec(title) || [];
-    if (became !== "passed" || !this.capture || !this.library) return REASONS[became] || "";
-    const { file, records } = this.capture, begin = records.offsets[Number(place)];
-    const expression = (this.listeners.value.split("\n")[listener] || "").split(" ").slice(2).join(" ");
-    return this.library.why(expression, file.subarray(begin, begin + records.captured[Number(place)]), records.wire[Number(place)]).text;
+    this.at = Math.max(0, Math.min(this.steps.length - 1, to));
+    const step = this.steps[this.at] || { head: "", answers: [] };
+    this.cursors.forEach((look) => look(this.at));
+    find("column").textContent = step.head;
+    find("column-answers").replaceChildren(...step.answers.map((answer) => make("li", {}, answer)));
   }
 
   /**

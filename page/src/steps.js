@@ -17,7 +17,7 @@ const REPORTS_ROOM = 1 << 20;
 /**
  * Plays the steps, and returns what a call of bpftap.h writes of them, with the fault of a capture that ends early beside it.
  * @param {Library} library
- * @param {"steps" | "picture"} name
+ * @param {"steps" | "steps_answers" | "picture"} name
  * @param {Plan} plan
  * @param {Uint8Array} capture
  * @returns {Replay}

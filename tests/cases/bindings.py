@@ -1,12 +1,13 @@
 """The packages over the library for C: Python, Rust and Go, with their examples and those in C."""
 import os
+import pathlib
 import re
 import shutil
 import sys
 
 from .common import LIMIT, ROOT, VETH, case, records
 from .library import ARCHIVE, LIBRARY, STRICT, done, is_there, passes
-from .linking import version
+from .linking import installed, version
 
 
 PYTHON = ROOT / "bindings" / "python"
@@ -61,6 +62,8 @@ def pip_installs_it(scene):
             scene.check(f"installed from {what[0]}", done(scene, [sys.executable, "-c", shown], env={**bare(), "PYTHONPATH": str(into)}), (f"{version()} True\n", 0))
             about = (into / f"bpftap-{version()}.dist-info" / "METADATA").read_text()
             scene.check("its page", (about.count("\nClassifier: ") > 5, "# bpftap for Python" in about), (True, True))
+            licences = [path.name for path in (into / f"bpftap-{version()}.dist-info" / "licenses").iterdir()]
+            scene.check("its licences", sorted(licences), ["LICENSE-APACHE", "LICENSE-MIT", "NOTICES"])
 
 
 def blocks(page, language):
@@ -154,8 +157,35 @@ def repository(scene):
     top, leave = scene.folder / "top", shutil.ignore_patterns("native", "target", "__pycache__")
     for part in ("bindings", "examples", "include"):
         shutil.copytree(ROOT / part, top / part, ignore=leave)
+    for licence in (*ROOT.glob("LICENSE-*"), ROOT / "NOTICES"):
+        shutil.copy(licence, top)
     shutil.copytree(ARCHIVE.parent, top / "out" / "lib", symlinks=True)
     return top
+
+
+@case
+def first_answers_come_as_the_page_says(scene):
+    """The lines of docs/LIBRARY.md for C, Python, Rust and Go, in a clone whose library is already under ~/.local: each prints what the page says."""
+    if not is_there(scene) or not scene.has("gcc", "pkg-config", "cargo", "go"):
+        return
+    scene.start({})
+    top, home = repository(scene), installed(scene)
+    environment = {**bare(), "HOME": str(scene.folder), "CARGO_NET_OFFLINE": "true", "GOPROXY": "off", "GOFLAGS": "",
+                   "GOCACHE": done(scene, ["go", "env", "GOCACHE"])[0].strip()}
+    for name in ("CARGO_HOME", "RUSTUP_HOME"):
+        folder = pathlib.Path.home() / f".{name.partition('_')[0].lower()}"
+        if folder.is_dir():
+            environment.setdefault(name, str(folder))
+    (scene.folder / ".local").symlink_to(home)
+    for block in blocks(ROOT / "docs" / "LIBRARY.md", "sh"):
+        lines = [line for line in block.splitlines() if not line.startswith("./install")]
+        wanted = lines[-1].rpartition("# ")[2]
+        if "venv" in block and done(scene, [sys.executable, "-c", "import ensurepip"])[1]:
+            scene.leave("python3 has no venv")
+            continue
+        shutil.rmtree(top / "first", ignore_errors=True)
+        said, status = done(scene, ["sh", "-ec", "\n".join(lines)], at=top, limit=5 * LIMIT, env=environment)
+        scene.check(lines[-1], (said.splitlines()[-1:], status), ([wanted], 0))
 
 
 @case

@@ -59,7 +59,7 @@ def calls_do_what_the_header_says(scene):
     if not is_there(scene):
         return
     scene.start({})
-    for name in ("calls", "listeners"):
+    for name in ("calls", "listeners", "programs"):
         for words in WAYS:
             if scene.has(words[0]):
                 program = compiled(scene, words, name)
@@ -191,7 +191,7 @@ def answers_as_the_program_does(scene):
 
 
 # The first line that `bpftap compare` prints of two expressions without a capture.
-DECIDED = {"SAME": "same", "SAME_AS_CAPTURED": "same as captured", "SHORT": "differ only where a frame is cut short", "DIFFER": "differ",
+DECIDED = {"SAME": "same", "SAME_AS_CAPTURED": "same as captured", "SHORT": "differ only where one aborts", "DIFFER": "differ",
            "NOT_DECIDED": "not decided"}
 
 
@@ -325,7 +325,7 @@ def numbers_have_the_names_of_faults(scene):
     scene.start({})
     header = (ROOT / "include" / "bpftap.h").read_text().partition("enum bpftap_fault {")[2].partition("};")[0]
     numbers = {int(number): name for name, number in re.findall(r"BPFTAP_(\w+) = (\d+)", header)}
-    camel = {number: "".join(word.capitalize() for word in name.removeprefix("RECORD_").removeprefix("STEPS_").split("_")) for number, name in numbers.items()}
+    camel = {number: "".join(word.capitalize() for word in name.split("_")) for number, name in numbers.items()}
     seen = python(scene, "names.py", map(str, camel)).splitlines()
     scene.check("names", seen, list(camel.values()))
     explained = set(re.findall(r"\w+", (ROOT / "docs" / "FAULTS.md").read_text()))

@@ -30,6 +30,9 @@ static const char *owner(uint32_t fault) {
 static void print_fault(struct bpftap_replay replay) {
     char text[64];
     bpftap_fault_text(replay.fault, replay.place, text, sizeof text);
+    /* The two names that the program prints otherwise. */
+    if (replay.fault == BPFTAP_STEPS_TOO_MANY) strcpy(text, "TooMany");
+    if (replay.fault == BPFTAP_RECORD_TOO_LONG) snprintf(text, sizeof text, "TooLong %zu", replay.place);
     const char *of = owner(replay.fault);
     if (of)
         fprintf(stderr, "bpftap: %s %u %s\n", of, replay.number, text);

@@ -47,7 +47,7 @@ function capture([text, size]) {
 
 function steps([listeners, script, text]) {
   const plan = { listeners, script }, file = bytes(text);
-  return ["steps", "picture"].map((name) => {
+  return ["steps", "steps_answers", "picture"].map((name) => {
     const { fault, number, place, text: written } = replay(library, name, plan, file);
     return [fault, number, place, digest(written)];
   });

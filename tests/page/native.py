@@ -37,7 +37,7 @@ CALLS = {
     "looks": (Result, [TEXT, SIZE, TEXT, SIZE, U32, ctypes.c_void_p, SIZE]), "compare": (Comparison, [TEXT, SIZE, TEXT, SIZE, SIZE, TEXT, SIZE]),
     "open": (Reader, [TEXT, SIZE]), "next": (Record, [TEXT, SIZE, ctypes.POINTER(Reader)]), "cut": (Result, [TEXT, SIZE, *INSNS, U32, TEXT, SIZE]),
     "put_header": (Result, [U32, U32, U32, TEXT, SIZE]), "put": (Result, [U32, U32, ctypes.POINTER(Record), TEXT, SIZE, ctypes.c_void_p, SIZE]),
-    **{name: (Replay, [TEXT, SIZE, TEXT, SIZE, ctypes.POINTER(Capture), SIZE, TEXT, SIZE]) for name in ("steps", "picture")},
+    **{name: (Replay, [TEXT, SIZE, TEXT, SIZE, ctypes.POINTER(Capture), SIZE, TEXT, SIZE]) for name in ("steps", "steps_answers", "picture")},
 }
 library = ctypes.CDLL(sys.argv[1])
 for name, (answer, given) in CALLS.items():
@@ -125,7 +125,7 @@ def capture(text, size):
 def replay(listeners, script, text):
     file, answers = bytes.fromhex(text), []
     captures = Capture(file, len(file))
-    for name in ("steps", "picture"):
+    for name in ("steps", "steps_answers", "picture"):
         it = call(name, *sized(listeners.encode()), *sized(script.encode()), ctypes.byref(captures), 1, memory, ROOM)
         answers.append([it.fault, it.number, it.place, digest(written(it.size))])
     return answers

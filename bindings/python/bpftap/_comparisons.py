@@ -14,9 +14,9 @@ class Sameness(enum.IntEnum):
     """What is decided of two expressions.
 
     `SAME`: both accept the same packets, of every captured length and every length on the wire. `SAME_AS_CAPTURED`: so it is of packets of
-    which no more bytes were captured than were on the wire. `SHORT`: one accepts a packet on which the other aborts; of packets of which no
-    more bytes were captured than were on the wire, none gets Yes from one and No from the other. `DIFFER`: one answers Yes to a packet, and
-    the other No. `NOT_DECIDED`: nothing is claimed."""
+    which no more bytes were captured than were on the wire. `SHORT`: they differ only where one aborts: one accepts the packet, which is too
+    short for the other; of packets of which no more bytes were captured than were on the wire, none gets Yes from one and No from the
+    other. `DIFFER`: one answers Yes to a packet, and the other No. `NOT_DECIDED`: nothing is claimed."""
     SAME = 0
     SAME_AS_CAPTURED = 1
     SHORT = 2

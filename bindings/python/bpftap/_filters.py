@@ -128,7 +128,7 @@ class Filter:
     def _run_joined(self, part):
         memory, sizes, answers = b"".join(part), array("I", [*map(len, part)]), array("I", bytes(4 * len(part)))
         where = [(numbers.buffer_info()[0], len(numbers)) for numbers in (sizes, answers)]
-        _raised(lib.bpftap_run_joined(self._insns, self._size, memory, len(memory), *where[0], *where[1]))
+        _raised(lib.bpftap_program_run_joined(self._at, memory, len(memory), *where[0], *where[1]))
         return answers
 
     def _run_parts(self, part, wires):
@@ -151,7 +151,7 @@ class Filter:
             count = spans_size // 16
             answers = array("I", bytes(4 * count))
             if count:
-                _raised(lib.bpftap_run_spans(self._insns, self._size, content, size, where, count, answers.buffer_info()[0], count))
+                _raised(lib.bpftap_program_run_spans(self._at, content, size, where, count, answers.buffer_info()[0], count))
         return answers
 
     def decide(self, packet: Packet | bytes, wire: int | None = None) -> tuple[Verdict, str]:

@@ -451,7 +451,7 @@ class Captures(unittest.TestCase):
                     call(given)
 
     def test_what_may_not_be_written(self):
-        for packet, name in [(Packet(b"", 0, 0, 10**9), "BadFraction"), (Packet(bytes(262145), 0), "TooLong")]:
+        for packet, name in [(Packet(b"", 0, 0, 10**9), "BadFraction"), (Packet(bytes(262145), 0), "RecordTooLong")]:
             with self.assertRaises(CaptureError) as caught:
                 bpftap._captures.encode([self.PACKETS[0], packet])
             self.assertEqual((caught.exception.name, caught.exception.place), (name, 1))

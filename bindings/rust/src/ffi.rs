@@ -135,9 +135,9 @@ extern "C" {
     pub fn bpftap_program_size() -> usize;
     pub fn bpftap_program_init(program: *mut u8, insns: *const Insn, size: usize) -> u32;
     pub fn bpftap_program_run(program: *const u8, packet: *const u8, captured: usize, wire: u32) -> u32;
-    pub fn bpftap_run_each(insns: *const Insn, size: usize, packets: *const Packet, count: usize, answers: *mut u32, room: usize) -> Result;
-    pub fn bpftap_run_spans(
-        insns: *const Insn, size: usize, memory: *const u8, memory_size: usize, spans: *const Span, count: usize, answers: *mut u32, room: usize,
+    pub fn bpftap_program_run_each(program: *const u8, packets: *const Packet, count: usize, answers: *mut u32, room: usize) -> Result;
+    pub fn bpftap_program_run_spans(
+        program: *const u8, memory: *const u8, memory_size: usize, spans: *const Span, count: usize, answers: *mut u32, room: usize,
     ) -> Result;
     pub fn bpftap_why(text: *const u8, text_size: usize, packet: *const u8, captured: usize, wire: u32, to: *mut u8, room: usize) -> Reason;
     pub fn bpftap_compare(

@@ -165,16 +165,16 @@ impl Filter {
         let given: Vec<_> =
             packets.iter().map(|packet| ffi::Packet { bytes: packet.data.as_ptr(), captured: packet.data.len(), wire: packet.wire }).collect();
         let mut answers = vec![0; packets.len()];
-        let (insns, size, count) = (self.insns.as_ptr(), self.insns.len(), given.len());
-        unsafe { ffi::bpftap_run_each(insns, size, given.as_ptr(), count, answers.as_mut_ptr(), count) };
+        let (program, count) = (self.program.as_ptr().cast(), given.len());
+        unsafe { ffi::bpftap_program_run_each(program, given.as_ptr(), count, answers.as_mut_ptr(), count) };
         answers
     }
 
     /// What the filter answers to each packet of a memory, in one call. [`Packets::spans`](crate::Packets::spans) are those of a capture.
     pub fn run_spans(&self, memory: &[u8], spans: &[Span]) -> Vec<u32> {
         let mut answers = vec![0; spans.len()];
-        let (insns, size, count) = (self.insns.as_ptr(), self.insns.len(), spans.len());
-        unsafe { ffi::bpftap_run_spans(insns, size, memory.as_ptr(), memory.len(), spans.as_ptr(), count, answers.as_mut_ptr(), count) };
+        let (program, count) = (self.program.as_ptr().cast(), spans.len());
+        unsafe { ffi::bpftap_program_run_spans(program, memory.as_ptr(), memory.len(), spans.as_ptr(), count, answers.as_mut_ptr(), count) };
         answers
     }
 

@@ -25,17 +25,24 @@ use Rattle.bpftap_c.specs.Outcome.{capture_code, capture_place, code_of, number_
 abbrev pub texts_of : List BpftapCapture → List (List ℕ)
 texts_of captures = map (λ c. c.bytes.now) captures
 
--- The two texts say listeners and steps. Their replay gave reports, no fault applies, and these are the reports in this form.
-pub record IsReported (form : LineForm) (listeners script : List ℕ) (captures : List (List ℕ)) (text : List ℕ) (record_fault : Option (ℕ × RecordFault)) : Type 0 where
+-- The two texts say listeners and steps. Their replay gave these reports, and no fault applies.
+pub record IsPlayed (listeners script : List ℕ) (captures : List (List ℕ)) (reports : List Report) (record_fault : Option (ℕ × RecordFault)) : Type 0 where
   pub specs : List Spec
   pub steps : List Step
   pub of_listeners : IsFileOf IsListenerLine listeners specs
   pub of_script : IsFileOf IsStepLine script steps
   pub playlist : List PlacedPacket
-  pub reports : List Report
   pub replays : Replays captures specs steps playlist record_fault reports
   pub none_stands : NoneStands captures specs steps
-  pub is : text ≡ reports_in form reports
+
+-- the reports in this form
+abbrev pub IsReported : LineForm → List ℕ → List ℕ → List (List ℕ) → List ℕ → Option (ℕ × RecordFault) → Type 0
+IsReported form listeners script captures text record_fault =
+    (reports : List Report) × IsPlayed listeners script captures reports record_fault × (text ≡ reports_in form reports)
+
+-- some text, the steps being played
+abbrev pub IsDrawn : List ℕ → List ℕ → List (List ℕ) → Option (ℕ × RecordFault) → Type 0
+IsDrawn listeners script captures record_fault = (reports : List Report) × IsPlayed listeners script captures reports record_fault
 
 -- Why there are no reports: the first bad line, the first fault of the replay that applies, or out of memory.
 abbrev pub IsUnplayed : List ℕ → List ℕ → List (List ℕ) → Failure → Type 0
@@ -56,6 +63,13 @@ replay_of put (Some f) =
 -- what a call returns if there are no reports
 abbrev pub no_replay : Failure → BpftapReplay
 no_replay failure = record { fault = code_of failure; number = number_of failure; size = size_of failure; place = place_of failure }
+
+-- A text is put, the steps being played. Or they are not, and all is as it was.
+abbrev pub PutsPicture : List ℕ → List ℕ → List (List ℕ) → List ℕ → List ℕ → BpftapReplay → Type 0
+PutsPicture listeners script captures old new told =
+    ((text : List ℕ) × (record_fault : Option (ℕ × RecordFault)) × (put : BpftapResult) × IsDrawn listeners script captures record_fault
+    × PutsText text old new put × (told ≡ replay_of put record_fault))
+    ⊎ ((failure : Failure) × IsUnplayed listeners script captures failure × (told ≡ no_replay failure) × (new ≡ old))
 
 -- The reports are put in this form. Or there are none, and all is as it was.
 abbrev pub PutsReports : LineForm → List ℕ → List ℕ → List (List ℕ) → List ℕ → List ℕ → BpftapReplay → Type 0

@@ -8,8 +8,8 @@ use Rattle.bpftap_c.proofs.Buffering.{short_none}
 use Rattle.bpftap_c.proofs.messages.next_message.Goals as goal
 use Rattle.bpftap_c.proofs.messages.next_message.Goals.{then-at-text-via-then-at-text, then-at-text-via-else-at-text+then-text-at-lt-FIELDS_LEN}
 
-pub returns-then-at-text : goal.returns-then-at-text
-returns-then-at-text c are =
+pub returns-then-at-text-clause-message : goal.returns-then-at-text-clause-message
+returns-then-at-text-clause-message c are =
     let text = c.args.text.now in
     let at = c.args.offset.now in
     let short : length (drop at text) < 32 = elim c.then-at-text.branch [
@@ -18,8 +18,8 @@ returns-then-at-text c are =
     ] in
     inr (short_none (drop at text) are short, c.no_message.ensures, refl)
 
-pub returns-then-size-rest : goal.returns-then-size-rest
-returns-then-size-rest c are =
+pub returns-then-size-rest-clause-message : goal.returns-then-size-rest-clause-message
+returns-then-size-rest-clause-message c are =
     let text = c.args.text.now in
     let at = c.args.offset.now in
     let rest = c.split_at.result.1.now in
@@ -29,8 +29,8 @@ returns-then-size-rest c are =
     let k = read_at 4 8 c.read_u32-captured.result rest c.read_u32-captured.ensures in
     absurd (omega (arith, s.fits, ap size k, c.record_size-size.ensures, c.if-size-rest.true))
 
-pub returns : goal.returns
-returns c are =
+pub returns-clause-message : goal.returns-clause-message
+returns-clause-message c are =
     let text = c.args.text.now in
     let at = c.args.offset.now in
     let rest = c.split_at.result.1.now in
