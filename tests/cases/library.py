@@ -311,6 +311,11 @@ def steps_of_c_print_what_steps_prints(scene):
         objects = scene.run(f"steps --json {words}")
         ended = subprocess.run([program, "--json", *words.split()], cwd=scene.folder, capture_output=True, timeout=LIMIT)
         scene.check(f"steps --json {words}", (ended.stdout, ended.stderr, ended.returncode), (objects.out, wanted.err, objects.status))
+        # `steps -v` prints the answers and then the reports.
+        for flags, reports in (([], wanted), (["--json"], objects)):
+            ended = subprocess.run([program, "--answers" + "".join(flags).replace("--", "-"), *words.split()], cwd=scene.folder, capture_output=True, timeout=LIMIT)
+            both = scene.run(["steps", "-v", *flags, *words.split()])
+            scene.check(f"steps -v {flags} {words}", (ended.stdout + reports.out, ended.stderr, ended.returncode), (both.out, wanted.err, both.status))
     for files, printed in random_replays(scene) if program else []:
         scene.check(scene.read("listeners").decode(), done(scene, [program, *files]), (printed, 0))
         objects = scene.run(["steps", "--json", *files]).out.decode()
