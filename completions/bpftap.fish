@@ -13,12 +13,13 @@ complete -c bpftap -n __fish_use_subcommand -a steps -d 'Play a script to listen
 complete -c bpftap -n __fish_use_subcommand -a run -d 'Replay captures in threads'
 complete -c bpftap -n __fish_use_subcommand -a help -d 'Print help of a command'
 
-complete -c bpftap -n '__fish_seen_subcommand_from help' -a 'check explain compare cut split steps run'
+complete -c bpftap -n '__fish_seen_subcommand_from help' -a 'check explain compare cut split steps run expressions'
 
 complete -c bpftap -n '__fish_seen_subcommand_from check; and not __fish_seen_subcommand_from help' -s d -d 'Print instructions by name'
 complete -c bpftap -n '__fish_seen_subcommand_from check; and not __fish_seen_subcommand_from help' -s x -d 'Print the expression as it was read'
 complete -c bpftap -n '__fish_seen_subcommand_from check; and not __fish_seen_subcommand_from help' -l json -d 'Print an object of JSON'
 complete -c bpftap -n '__fish_seen_subcommand_from check; and not __fish_seen_subcommand_from help' -s s -x -d 'Snapshot length that the program returns'
+complete -c bpftap -n '__fish_seen_subcommand_from check; and not __fish_seen_subcommand_from help' -s e -x -d 'Filter expression'
 complete -c bpftap -n '__fish_seen_subcommand_from check; and not __fish_seen_subcommand_from help' -s f -r -F -d 'Filter program'
 complete -c bpftap -n '__fish_seen_subcommand_from check; and not __fish_seen_subcommand_from help' -s h -l help -d 'Print help'
 
@@ -45,6 +46,7 @@ complete -c bpftap -n '__fish_seen_subcommand_from cut; and not __fish_seen_subc
 complete -c bpftap -n '__fish_seen_subcommand_from cut; and not __fish_seen_subcommand_from help' -s o -x -a 'little big' -d 'Byte order of OUT'
 complete -c bpftap -n '__fish_seen_subcommand_from cut; and not __fish_seen_subcommand_from help' -s u -x -a 'micro nano' -d 'Unit of the time stamps of OUT'
 complete -c bpftap -n '__fish_seen_subcommand_from cut; and not __fish_seen_subcommand_from help' -s c -d 'Print how many packets were written'
+complete -c bpftap -n '__fish_seen_subcommand_from cut; and not __fish_seen_subcommand_from help' -s w -r -F -d 'Capture to write; all other words are read'
 complete -c bpftap -n '__fish_seen_subcommand_from cut; and not __fish_seen_subcommand_from help' -l json -d 'Report counts and faults as JSON'
 complete -c bpftap -n '__fish_seen_subcommand_from cut; and not __fish_seen_subcommand_from help' -s h -l help -d 'Print help'
 

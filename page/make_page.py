@@ -144,7 +144,7 @@ def script():
         names += re.findall(r"(?:^|, )(\w+) = ", line)
     if twice := {name for name in names if names.count(name) > 1}:
         raise Refused(f"two modules have the name {' '.join(sorted(twice))}")
-    return f'"use strict";\n(() => {{\n{joined}}})();\n'
+    return f'// SPDX-License-Identifier: MIT OR Apache-2.0\n"use strict";\n(() => {{\n{joined}}})();\n'
 
 
 def packed(content):
@@ -155,8 +155,9 @@ def digest(text):
     return base64.b64encode(hashlib.sha256(text.encode()).digest()).decode()
 
 
-def page_of(module):
-    parts = {"script": script(), "style": (HERE / "style.css").read_text(), "module": packed(module), "example": packed(EXAMPLE.read_bytes())}
+def page_of(module, scripts=None):
+    """The page of a module, with its own scripts if no others are named."""
+    parts = {"script": scripts or script(), "style": (HERE / "style.css").read_text(), "module": packed(module), "example": packed(EXAMPLE.read_bytes())}
     parts["policy"] = POLICY.format(script=digest(parts["script"]), style=digest(parts["style"]))
     if "</script" in parts["script"] or "</style" in parts["style"]:
         raise Refused("a script or the style ends the element that it is in")

@@ -2,7 +2,7 @@
 
 import { captureJobs } from "./packets.js";
 import { Library } from "./library.js";
-import { replay } from "./steps.js";
+import { NO_REPLAY, replay } from "./steps.js";
 
 /** @typedef {import("./library.js").Comparison} Comparison */
 /** @typedef {import("./steps.js").Plan} Plan */
@@ -21,7 +21,7 @@ function jobsOf(library) {
     compare: (/** @type {string} */ first, /** @type {string} */ second, /** @type {number} */ budget) => library.compare(first, second, budget),
     steps: (/** @type {Plan} */ plan, /** @type {Uint8Array} */ capture) => ({
       reports: replay(library, "steps", plan, capture),
-      picture: replay(library, "picture", plan, capture),
+      picture: library.has("picture") ? replay(library, "picture", plan, capture) : NO_REPLAY,
     }),
   };
 }

@@ -76,6 +76,14 @@ export class Library extends Memory {
     }
   }
 
+  /**
+   * Whether the library has a call.
+   * @param {string} name
+   */
+  has(name) {
+    return `bpftap_${name}` in this.calls;
+  }
+
   version() {
     return this.textOf("version", () => []).text;
   }
@@ -159,6 +167,7 @@ export class Library extends Memory {
    * @param {string} expression
    */
   hint(fault, place, expression) {
+    if (!this.has("hint")) return "";
     return this.textOf("hint", (take) => [fault, BigInt(place), ...words(this.putText(take, expression))]).text;
   }
 
@@ -167,9 +176,10 @@ export class Library extends Memory {
    * @param {Uint8Array} insns
    * @param {Uint8Array} packet
    * @param {number} wire
-   * @returns {Trace}
+   * @returns {Trace | null}
    */
   trace(insns, packet, wire) {
+    if (!this.has("trace")) return null;
     return this.within((take) => {
       const result = take(24), to = take(MOST_INSNS * EXECUTED_SIZE), program = this.putProgram(take, insns);
       this.call("trace", BigInt(result), ...program, ...words(this.put(take, packet)), wire, BigInt(to), BigInt(MOST_INSNS));
@@ -190,6 +200,7 @@ export class Library extends Memory {
    * @returns {Look[]}
    */
   looks(expression, packet, wire) {
+    if (!this.has("looks")) return [];
     return this.within((take) => {
       const result = take(24), to = take(MOST_LOOKS * LOOK_SIZE), text = words(this.putText(take, expression));
       this.call("looks", BigInt(result), ...text, ...words(this.put(take, packet)), wire, BigInt(to), BigInt(MOST_LOOKS));

@@ -75,10 +75,10 @@ export class ListView {
     const option = (/** @type {string} */ value, /** @type {string} */ text) => make("option", { value, selected: value === kept }, text);
     const kept = this.only.value, order = texts.map((_, number) => number).sort((one, other) => of[other] - of[one]);
     this.only.replaceChildren(
-      option("", `all ${count}`),
+      option("", "all"),
       ...VERDICTS.map((verdict, number) => option(verdict, `${all[number]} ${verdict}`)),
       ...order.slice(0, 100).map((number) => option("=" + texts[number], `${of[number]}: ${texts[number]}`)));
-    find("counts").textContent = `${count} packets: ${all[1]} Yes, ${all[0]} No, ${all[2]} Abort`;
+    find("counts").textContent = count ? `${count} packets: ${all[1]} Yes, ${all[0]} No, ${all[2]} Abort` : "";
   }
 
   /** Takes the packets that are wanted into the list. */

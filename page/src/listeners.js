@@ -10,8 +10,10 @@ import { hasReports } from "./steps.js";
 /** @typedef {import("./steps.js").Plan} Plan */
 /** @typedef {import("./steps.js").Replay} Replay */
 /** @typedef {import("./app.js").Capture} Capture */
-/** A column of the picture: its title says what became of the step, and its lane has a cursor. */
-/** @typedef {{ title: string, place: (isHere: boolean) => void }} Column */
+/**
+ * A column of the picture: its title says what became of the step; `look` puts the frame of its lane around it.
+ * @typedef {{ title: string, look: () => void }} Column
+ */
 
 const COLUMN = 10;
 
@@ -37,9 +39,10 @@ function columnsOf(lane) {
   lane.append(cursor);
   return [...lane.querySelectorAll("title")].map((title, number) => ({
     title: title.textContent || "",
-    place: (isHere) => {
+    look: () => {
       cursor.setAttribute("x", String(number * COLUMN));
-      cursor.setAttribute("visibility", isHere ? "visible" : "hidden");
+      cursor.setAttribute("visibility", "visible");
+      cursor.scrollIntoView({ block: "nearest", inline: "nearest" });
     },
   }));
 }
@@ -124,7 +127,7 @@ export class ListenersView {
     if (!hasReports(reports)) return;
     find("reports").textContent = reports.text;
     this.picture = picture.text;
-    this.drawPicture();
+    if (picture.text) this.drawPicture();
     this.go(Math.min(this.at, this.last));
   }
 
@@ -152,7 +155,7 @@ export class ListenersView {
   go(to) {
     this.at = Math.max(0, Math.min(this.last, to));
     const columns = this.lanes.map((lane) => lane[this.at]).filter(Boolean);
-    columns.forEach((column) => column.place(true));
+    columns.forEach((column) => column.look());
     const [head] = columns.length ? columns[0].title.split(":") : [""];
     find("column").textContent = head;
     find("column-answers").replaceChildren(...columns.map(({ title }, number) => {

@@ -104,17 +104,16 @@ export class PacketView {
     find("looks-table").hidden = looks.length === 0;
     find("bytes").replaceChildren();
     if (packet) this.showBytes(packet, markedBytes(packet, looks), FIRST_BYTES);
-    if (filter && packet && this.trace) this.showReason(library.why(filter.expression, packet.bytes, packet.wire), this.trace);
+    if (filter && packet) this.showReason(library.why(filter.expression, packet.bytes, packet.wire));
     this.go(this.last);
   }
 
-  /**
-   * @param {import("./library.js").Reason} why
-   * @param {Trace} trace
-   */
-  showReason(why, { answer, steps }) {
-    const count = `${steps.length} instruction${steps.length === 1 ? "" : "s"}`;
-    find("reason").replaceChildren(make("strong", { class: VERDICTS[why.verdict] }, why.text), `: the program answers ${answer} after ${count}`);
+  /** @param {import("./library.js").Reason} why */
+  showReason(why) {
+    find("reason").replaceChildren(make("strong", { class: VERDICTS[why.verdict] }, why.text));
+    if (!this.trace) return;
+    const { answer, steps } = this.trace, count = `${steps.length} instruction${steps.length === 1 ? "" : "s"}`;
+    find("reason").append(`: the program answers ${answer} after ${count}`);
   }
 
   /**

@@ -12,6 +12,9 @@ import { words } from "./memory.js";
  */
 /** @typedef {{ fault: number, number: number, place: number, text: string }} Replay */
 
+/** @type {Replay} */
+export const NO_REPLAY = { fault: OK, number: 0, place: 0, text: "" };
+
 const REPORTS_ROOM = 1 << 20;
 
 /**

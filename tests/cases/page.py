@@ -10,11 +10,15 @@ import subprocess
 import sys
 import time
 
-from . import browsers, library
+from . import library
 from .common import HEADER, IP_RECORD, LIMIT, ROOT, TORN, VETH, case, records
 
 SOURCES = ROOT / "page"
 HARNESS = ROOT / "tests" / "page"
+sys.path[:0] = [str(SOURCES), str(HARNESS)]
+import browsers
+import make_page
+
 # The page that the variable BPFTAP_PAGE names, the one that was made here, or the released one.
 NAMED = [pathlib.Path(path).resolve() for path in [os.environ.get("BPFTAP_PAGE")] if path]
 PAGE = next((path for path in [*NAMED, ROOT / "out" / "page" / "bpftap.html", ROOT / "release" / "bpftap.html"] if path.is_file()), None)
@@ -46,8 +50,8 @@ def scripts_are_checked(scene):
     if scene.has("tsc"):
         scene.check("tsc", printed(scene, ["tsc", "-p", SOURCES]), ("", 0))
     if scene.has("eslint"):
-        words = ["eslint", "--no-eslintrc", "-c", SOURCES / ".eslintrc.json", "-f", "unix", SOURCES / "src"]
-        scene.check("eslint", printed(scene, words, env=NODE), ("", 0))
+        done = subprocess.run(["eslint", "-f", "unix", "src"], cwd=SOURCES, env=NODE, capture_output=True, text=True, timeout=LIMIT)
+        scene.check("eslint", (done.stdout, done.stderr, done.returncode), ("", "", 0))
 
 
 @case
@@ -78,19 +82,16 @@ WRONG_MODULES = {
 @case
 def other_modules_are_refused(scene):
     """A module in a form that is not known, with an intrinsic of x86 or with imports, and a file that is none: a sentence says so."""
-    sys.path.insert(0, str(SOURCES))
-    import make_page
-    refused = lambda call, *given: why(make_page, call, *given)
     for name, (text, wanted) in WRONG_MODULES.items():
-        scene.check(name, wanted in refused(make_page.retargeted, text), True)
+        scene.check(name, wanted in why(make_page.retargeted, text), True)
     scene.start({"text.bc": "no module"})
-    said = refused(make_page.module_of, scene.folder / "text.bc", scene.folder, scene.folder)
+    said = why(make_page.module_of, scene.folder / "text.bc", scene.folder, scene.folder)
     scene.check("a text", "is no LLVM module" in said, True)
     imports = b"\0asm\1\0\0\0" + b"\x01\x04\x01\x60\0\0" + b"\x02\x07\x01\x01a\x01b\x00\x00"
-    scene.check("an import", "imports" in refused(make_page.lower.lowered, imports), True)
+    scene.check("an import", "imports" in why(make_page.lower.lowered, imports), True)
 
 
-def why(make_page, call, *given):
+def why(call, *given):
     """Why a call refuses what it is given."""
     try:
         call(*given)
@@ -147,10 +148,12 @@ def module_answers_as_the_native_library(scene):
 
 @case
 def refused_memory_is_no_trap(scene):
-    """Each allocation of some calls fails in turn: the call returns NoMemory and gives all back."""
+    """Each allocation of some calls fails in turn: the call returns NoMemory and gives all back. An address above 4 GiB traps, and the library
+    goes on anew."""
     if is_there(scene) and scene.has("node"):
         scene.start({"module": part("module")})
-        scene.check("refused", printed(scene, ["node", HARNESS / "refused.js", "module"]), ("enough allocations were refused\n", 0))
+        wanted = "enough allocations were refused\nstopped, and went on\n"
+        scene.check("refused", printed(scene, ["node", HARNESS / "refused.js", "module"]), (wanted, 0))
 
 
 class Visit:
@@ -334,13 +337,18 @@ def follow_lesson(visit):
 
 
 def survive_trap(visit):
-    """A call that traps: the page says so, and goes on."""
-    visit.open("#e=ip")
+    """A call that traps, as none should: the page says so, and goes on with the next filter. The scripts are made to call so."""
+    plain, trapping = "library.compile(expression);", 'expression === "trap" ? library.call("image", 8n, 1n << 50n, 8n, 8n, 8n) : library.compile(expression);'
+    scripts = make_page.script()
+    visit.scene.put({"trap.html": make_page.page_of(part("module"), scripts.replace(plain, trapping, 1))})
+    visit.check("a call that traps", plain in scripts, True)
+    visit.browser.open(f"file://{visit.scene.folder}/trap.html#e=ip")
     visit.wait_for("counts", "Yes")
-    visit.run("document.getElementById('filter').value = arguments[0]; document.getElementById('filter').dispatchEvent(new Event('input'))",
-              "not " * 2000 + "ip")
+    visit.filter("trap")
+    visit.check_has("it is said", "stopped", "The library stopped in this call (image: ")
     visit.filter("arp")
     visit.check_has("the next filter", "counts", "253 packets: 7 Yes")
+    visit.check("nothing more is said", visit.run("return document.getElementById('stopped').hidden"), True)
 
 
 def stay_quiet(visit):

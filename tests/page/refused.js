@@ -1,8 +1,9 @@
 // refused.js MODULE: each allocation of some calls fails in turn. Prints a line for each call that then does anything but return NoMemory, give
-// back what it took, and answer as before once there is memory again.
+// back what it took, and answer as before once there is memory again. Then a call with an address above 4 GiB, which traps.
 
 import { readFileSync } from "node:fs";
 import { Library, OK } from "../../page/src/library.js";
+import { Stopped } from "../../page/src/memory.js";
 
 const NO_MEMORY = 1, EVERYTHING = 2n ** 64n - 1n;
 const library = new Library(new WebAssembly.Module(readFileSync(process.argv[2])));
@@ -46,3 +47,11 @@ for (const [name, prepare] of Object.entries(CALLS)) {
   });
 }
 console.log(`${refused > 20 ? "enough" : "too few"} allocations were refused`);
+
+try {
+  library.call("image", BigInt(8), 1n << 50n, 1n, 1n << 51n, 100n);
+  console.log("did not stop");
+} catch (why) {
+  const isNew = library.calls.page_used() === 0n && library.compile(text).fault === OK;
+  console.log(why instanceof Stopped && isNew ? "stopped, and went on" : `stopped otherwise: ${why}`);
+}

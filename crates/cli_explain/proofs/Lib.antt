@@ -1,5 +1,6 @@
 pub mod Answered
 pub mod Printing
 pub mod Seeking
-pub mod Several
 pub mod Ranging
+pub mod Rows
+pub mod Visits

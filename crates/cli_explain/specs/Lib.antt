@@ -1,4 +1,5 @@
 pub mod Filter
+pub mod Dumps
 pub mod Answers
 pub mod Printed
 pub mod Forms

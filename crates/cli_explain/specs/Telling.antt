@@ -4,7 +4,7 @@ use Rattle.savefile.specs.declared.fault.Fault.{Fault}
 use Rattle.cli_text.specs.declared.status.Status.{Status}
 use Rattle.cli_text.specs.declared.status.Status.TheVariants.{Clean, Negative, Refused, Failed}
 use Rattle.cli_text.specs.Telling.{fault_status}
-use Rattle.cli_explain.specs.declared.captures.Stop.{Stop}
+use Rattle.cli_walk.specs.declared.walk.Stop.{Stop}
 use Rattle.cli_explain.specs.declared.each.Unprinted.{Unprinted}
 use Rattle.cli_explain.specs.declared.each.Unprinted.TheVariants.{NoMemory, Output}
 
@@ -26,12 +26,12 @@ found_status (Ok false) = Refused
 found_status (Err fault) = fault_status fault
 
 -- of the capture that ended the reading of several
-abbrev pub stop_status : {A R : Type 0} → Result A (Stop R) → Status
+abbrev pub stop_status : {A : Type 0} → Result A Stop → Status
 stop_status (Ok done) = Clean
 stop_status (Err stop) = fault_status stop.fault
 
 -- of a packet that was looked for in several captures: that there is none is an answer, and no fault
-abbrev pub sought_status : {R : Type 0} → Result Bool (Stop R) → Status
+abbrev pub sought_status : Result Bool Stop → Status
 sought_status (Ok true) = Clean
 sought_status (Ok false) = Negative
 sought_status (Err stop) = fault_status stop.fault

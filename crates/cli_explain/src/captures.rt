@@ -1,107 +1,177 @@
 //! Several captures, read in order up to the first fault: the functions under `bpftap explain`.
 
-ghost use Rattle.std.specs.Prelude.{◌≡◌, ◌||◌, true, false, Err, is_err, IsErr, IsOk};
-ghost use Rattle.savefile.specs.declared.fault.Fault.{Fault};
+ghost use Rattle.std.specs.Prelude.{◌≡◌, ◌||◌, false, true, Ok, IsErr, IsOk};
 ghost use Rattle.cli_text.specs.Sending.{Takes};
 ghost use Rattle.cli_explain.specs.Forms.{counts_in};
-ghost use Rattle.cli_explain.specs.Captures.{ExplainsIn, SeeksIn, no_counts, plus, stop};
+ghost use Rattle.cli_explain.specs.Captures.{ExplainsIn, ExplainsNext, LooksIn, SeeksIn, goes_on, goes_on_to_find, is_found, plus, read_of};
 
 use crate::each::{Explained, Unprinted, VerdictCounts, explain_lines, print_counts};
 use crate::filter::AskedFilter;
 use crate::form::PacketForm;
 use crate::seek::{PacketTest, Sought, find_first};
+use cli_walk::{Stop, Visited, Visitor, Walk, visit_captures};
 use savefile::{Fault, Source};
 use std::alloc::Global;
 use std::io::Write;
 
-/// The capture that ended the reading of several.
+/// Looks in each capture for a packet that passes a test.
+#[derive(Clone, Copy)]
+struct Search<'t, T> {
+    alloc: Global,
+    test: &'t T,
+}
+
+/// Whether the next capture is read after one in which a packet was looked for.
+fn goes_on_to_find(found: Result<bool, Fault>) -> Result<bool, Fault>
+    ensures { result ≡ goes_on_to_find found }
+{
+    match found {
+        Ok(found) => Ok(!found),
+        Err(fault) => Err(fault),
+    }
+}
+
+impl<R: Source, T: PacketTest> Visitor<R, (), ()> for Search<'_, T> {
+    ghost visits = { λ search _ _ _ from v _ _. LooksIn R.left (T.passed search.test.now) from v };
+
+    fn visit(&self, _number: usize, capture: R, _state: &mut (), _out: &mut ()) -> Visited<R> {
+        let Sought { source, found } = find_first(self.alloc, capture, self.test);
+        Visited {
+            source,
+            goes_on: goes_on_to_find(found),
+        }
+    }
+}
+
+/// What looking for a packet in several captures came to.
 #[derive(Debug, Drop)]
-pub struct Stop<R> {
-    /// Its number, from 0.
-    pub number: usize,
-    pub fault: Fault,
-    pub source: R,
+pub struct SoughtCaptures<R> {
+    /// The sources of the captures, in order. Those after the last one that was read are as they were.
+    pub sources: Vec<R>,
+    /// Whether a capture has such a packet; or the capture that could not be read so far.
+    pub found: Result<bool, Stop>,
+}
+
+/// Whether a packet was found in a walk that ended so.
+fn is_found(end: Result<bool, Stop>) -> Result<bool, Stop>
+    ensures { result ≡ is_found end }
+{
+    match end {
+        Ok(is_over) => Ok(!is_over),
+        Err(stop) => Err(stop),
+    }
 }
 
 /// Looks for the first packet that passes a test, capture by capture. It prints nothing.
 ///
-/// It returns `Ok(true)` at that packet, and then no further capture is read; `Ok(false)` if no capture has such a packet; or the first
-/// capture that could not be read to its end, if none before it has one.
+/// `found` is `Ok(true)` at that packet, and then no further capture is read; `Ok(false)` if no capture has such a packet; or the first
+/// capture that could not be read to its end, if none before it has one. If memory is refused for the sources, it is [`Fault::NoMemory`] of
+/// capture 0, and none is read.
 pub fn find_in_captures<R: Source + Drop, T: PacketTest>(
     alloc: Global,
     captures: Vec<R>,
     test: &T,
-) -> Result<bool, Stop<R>>
-    ensures { SeeksIn R.left (T.passed test.now) 0 captures.items result }
+) -> SoughtCaptures<R>
+    ensures { SeeksIn R.left R.failures (T.passed test.now) captures.items result }
 {
-    let mut number = 0;
-    for capture in captures {
-        let Sought { source, found } = find_first(alloc, capture, test);
-        match found {
-            Ok(true) => return Ok(true),
-            Ok(false) => number += 1,
-            Err(fault) => {
-                return Err(Stop {
-                    number,
-                    fault,
-                    source,
-                });
-            }
+    let search = Search { alloc, test };
+    let Walk { sources, end } = visit_captures(alloc, captures, &search, &mut (), &mut ());
+    SoughtCaptures {
+        sources,
+        found: is_found(end),
+    }
+}
+
+/// What was printed of the captures so far.
+#[derive(Debug, Drop)]
+pub struct ExplainedTotals {
+    /// Whether the header of a capture was read.
+    pub opened: bool,
+    /// Of the packets of all captures whose lines were printed, if all was printed.
+    pub counts: VerdictCounts,
+    /// Whether all was printed.
+    pub printed: Result<(), Unprinted>,
+}
+
+impl ExplainedTotals {
+    /// What was printed, once one capture more was.
+    fn after(
+        &self,
+        opened: bool,
+        counts: VerdictCounts,
+        printed: Result<(), Unprinted>,
+    ) -> ExplainedTotals
+        ensures opened { result.opened ≡ (self.now.opened || opened) }
+        ensures counts { result.counts ≡ plus self.now.counts counts }
+        ensures printed { result.printed ≡ printed }
+    {
+        ExplainedTotals {
+            opened: self.opened || opened,
+            counts: self.counts.plus(counts),
+            printed,
         }
     }
-    Ok(false)
 }
 
 /// What explaining several captures came to.
 #[derive(Debug, Drop)]
 pub struct ExplainedCaptures<R> {
-    /// Whether the header of a capture was read.
-    pub opened: bool,
-    /// Of the packets of all captures whose lines were printed, if all was printed.
-    pub counts: VerdictCounts,
+    /// The sources of the captures, in order. Those after the last one that was read are as they were.
+    pub sources: Vec<R>,
+    pub totals: ExplainedTotals,
     /// The capture that ended the reading, if one did.
-    pub read: Result<(), Stop<R>>,
-    /// Whether all was printed.
-    pub printed: Result<(), Unprinted>,
+    pub read: Result<(), Stop>,
 }
 
-impl<R: Drop> ExplainedCaptures<R> {
-    /// Whether no further capture is read.
-    fn is_over(&self) -> bool
-        ensures { result ≡ (is_err self.now.read || is_err self.now.printed) }
-    {
-        self.read.is_err() || self.printed.is_err()
-    }
+/// Prints the lines of each capture.
+#[derive(Clone, Copy)]
+struct Explainer<'f> {
+    alloc: Global,
+    filter: &'f AskedFilter,
+    form: PacketForm,
+}
 
-    /// What explaining came to, once one capture more was explained, of this number.
-    fn after(self, number: usize, next: Explained<R>) -> ExplainedCaptures<R>
-        ensures opened { result.opened ≡ (self.opened || next.opened) }
-        ensures counts { result.counts ≡ plus self.counts next.counts }
-        ensures read { IsOk next.read → IsOk result.read }
-        ensures fault { (fault : Fault) → next.read ≡ Err fault → result.read ≡ Err (stop number fault next.source) }
-        ensures printed { result.printed ≡ next.printed }
-    {
+/// Whether the next capture is read after one that was read and printed so.
+pub fn goes_on(read: Result<(), Fault>, printed: &Result<(), Unprinted>) -> Result<bool, Fault>
+    ensures { result ≡ goes_on read printed.now }
+{
+    match read {
+        Ok(()) => Ok(printed.is_ok()),
+        Err(fault) => Err(fault),
+    }
+}
+
+/// The capture that ended the reading, if one did, of a walk that ended so.
+pub fn read_of(end: Result<bool, Stop>) -> Result<(), Stop>
+    ensures { result ≡ read_of end }
+{
+    match end {
+        Ok(_) => Ok(()),
+        Err(stop) => Err(stop),
+    }
+}
+
+impl<R: Source, O: Write> Visitor<R, ExplainedTotals, O> for Explainer<'_> {
+    ghost visits = { λ e n t o from v t' o'. ExplainsNext R.left e.form e.filter.now n t (O.contents o) from v t' (O.contents o') };
+
+    fn visit(
+        &self,
+        number: usize,
+        capture: R,
+        totals: &mut ExplainedTotals,
+        out: &mut O,
+    ) -> Visited<R> {
+        let form = self.form.of_capture(number);
         let Explained {
             source,
             opened,
             counts,
             read,
             printed,
-        } = next;
-        let read = match read {
-            Ok(()) => Ok(()),
-            Err(fault) => Err(Stop {
-                number,
-                fault,
-                source,
-            }),
-        };
-        ExplainedCaptures {
-            opened: self.opened || opened,
-            counts: self.counts.plus(counts),
-            read,
-            printed,
-        }
+        } = explain_lines(self.alloc, capture, self.filter, form, out);
+        let goes_on = goes_on(read, &printed);
+        *totals = totals.after(opened, counts, printed);
+        Visited { source, goes_on }
     }
 }
 
@@ -109,7 +179,7 @@ impl<R: Drop> ExplainedCaptures<R> {
 /// count from 0 in each capture. An object of JSON has the capture's number, from 0.
 ///
 /// The first fault ends the reading, and the lines of the packets before it are printed. If `printed` has a fault, `read` is `Ok`, since
-/// no further packet was read.
+/// no further packet was read. If memory is refused for the sources, `read` is [`Fault::NoMemory`] of capture 0, and none is read.
 pub fn explain_captures<R: Source + Drop, O: Write>(
     alloc: Global,
     captures: Vec<R>,
@@ -117,56 +187,41 @@ pub fn explain_captures<R: Source + Drop, O: Write>(
     form: PacketForm,
     out: &mut O,
 ) -> ExplainedCaptures<R>
-    ensures { ExplainsIn R.left form filter.now 0 false no_counts captures.items (O.contents out.old) (O.contents out.new) result }
+    ensures { ExplainsIn R.left R.failures O.contents form filter.now captures.items out.old out.new result }
 {
-    let mut end = ExplainedCaptures {
+    let mut totals = ExplainedTotals {
         opened: false,
         counts: VerdictCounts::NONE,
-        read: Ok(()),
         printed: Ok(()),
     };
-    let mut number = 0;
-    for capture in captures {
-        let form = form.of_capture(number);
-        end = end.after(number, explain_lines(alloc, capture, filter, form, out));
-        if end.is_over() {
-            return end;
-        }
-        number += 1;
+    let explainer = Explainer {
+        alloc,
+        filter,
+        form,
+    };
+    let Walk { sources, end } = visit_captures(alloc, captures, &explainer, &mut totals, out);
+    ExplainedCaptures {
+        sources,
+        totals,
+        read: read_of(end),
     }
-    end
 }
 
 /// Prints the counts of all captures, if a header was read and all lines were printed.
-pub fn print_totals<R: Drop, O: Write>(
+pub fn print_totals<O: Write>(
     alloc: Global,
-    ended: ExplainedCaptures<R>,
+    totals: ExplainedTotals,
     form: PacketForm,
     out: &mut O,
-) -> ExplainedCaptures<R>
-    ensures opened { result.opened ≡ ended.opened }
-    ensures counts { result.counts ≡ ended.counts }
-    ensures read { result.read ≡ ended.read }
-    ensures none { ended.opened ≡ false → (result ≡ ended) × (out.new ≡ out.old) }
-    ensures failed { IsErr ended.printed → (result ≡ ended) × (out.new ≡ out.old) }
-    ensures prints { ended.opened ≡ true → IsOk ended.printed →
-        Takes (O.contents out.old) (O.contents out.new) result.printed (counts_in form ended.counts.packets ended.counts.yes ended.counts.no ended.counts.abort) }
+) -> Result<(), Unprinted>
+    ensures none { totals.opened ≡ false → (result ≡ totals.printed) × (out.new ≡ out.old) }
+    ensures failed { IsErr totals.printed → (result ≡ totals.printed) × (out.new ≡ out.old) }
+    ensures prints { totals.opened ≡ true → IsOk totals.printed →
+        Takes (O.contents out.old) (O.contents out.new) result (counts_in form totals.counts.packets totals.counts.yes totals.counts.no totals.counts.abort) }
 {
-    let ExplainedCaptures {
-        opened,
-        counts,
-        read,
-        printed,
-    } = ended;
-    let printed = if opened && printed.is_ok() {
-        print_counts(counts, form, &mut String::new(alloc), out)
+    if totals.opened && totals.printed.is_ok() {
+        print_counts(totals.counts, form, &mut String::new(alloc), out)
     } else {
-        printed
-    };
-    ExplainedCaptures {
-        opened,
-        counts,
-        read,
-        printed,
+        totals.printed
     }
 }

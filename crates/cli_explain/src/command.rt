@@ -1,7 +1,9 @@
 //! `bpftap explain`, over files.
 
-use crate::captures::{explain_captures, find_in_captures, print_totals};
-use crate::hints::{hint_capture, hint_place};
+use crate::captures::{
+    ExplainedCaptures, SoughtCaptures, explain_captures, find_in_captures, print_totals,
+};
+use crate::hints::{hint_capture, hint_place, hint_stop};
 use crate::paths::check_paths;
 use crate::plan::read_filter;
 use crate::range::explain_range;
@@ -115,12 +117,16 @@ fn explain_all<F: Screen, R: Read + Drop, O: Write, E: HintSink>(
 ) -> Status {
     let paths = job.words.inputs.as_slice();
     let form = form_of(job.words);
-    let ended = explain_captures(job.alloc, captures, &job.filter, form, out);
+    let ExplainedCaptures {
+        sources,
+        totals,
+        read,
+    } = explain_captures(job.alloc, captures, &job.filter, form, out);
     job.watch.erase();
-    let ended = print_totals(job.alloc, ended, form, out);
-    let status = report_captures(&ended, paths, err);
-    if let Err(stop) = &ended.read {
-        hint_capture(paths, stop.number, stop.fault, &stop.source, err);
+    let printed = print_totals(job.alloc, totals, form, out);
+    let status = report_captures(&printed, read, paths, err);
+    if let Err(stop) = read {
+        hint_stop(paths, stop, sources.as_slice(), err);
     }
     status
 }
@@ -132,11 +138,11 @@ fn ask_quietly<F: Screen, R: Read + Drop, E: HintSink>(
     err: &mut E,
 ) -> Status {
     let paths = job.words.inputs.as_slice();
-    let sought = find_in_captures(job.alloc, captures, &job.filter);
+    let SoughtCaptures { sources, found } = find_in_captures(job.alloc, captures, &job.filter);
     job.watch.erase();
-    let status = report_sought(&sought, paths, err);
-    if let Err(stop) = &sought {
-        hint_capture(paths, stop.number, stop.fault, &stop.source, err);
+    let status = report_sought(found, paths, err);
+    if let Err(stop) = found {
+        hint_stop(paths, stop, sources.as_slice(), err);
     }
     status
 }

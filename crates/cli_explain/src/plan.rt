@@ -1,5 +1,8 @@
 //! The filter that the arguments of `explain` ask for.
 
+ghost use Rattle.std.specs.Prelude.{IfOk};
+ghost use Rattle.cli_explain.specs.Filter.{IsOfExpression};
+
 use crate::AskedFilter;
 use crate::filter::{of_expression, of_program};
 use cli_args::explain::ExplainWords;
@@ -15,7 +18,9 @@ pub fn read_expression<R: AllocGlobal, E: HintSink>(
     expr: &str,
     snap: u32,
     err: &mut E,
-) -> Result<AskedFilter, Status> {
+) -> Result<AskedFilter, Status>
+    ensures { IfOk result (IsOfExpression expr.now snap) }
+{
     match of_expression(rt.alloc(), expr, snap) {
         Ok(filter) => Ok(filter),
         Err(fault) => {

@@ -5,11 +5,11 @@ ghost use Rattle.cli_text.specs.Status.{greater};
 ghost use Rattle.cli_text.specs.Telling.{fault_status};
 ghost use Rattle.cli_explain.specs.Telling.{printed_status, read_status, found_status, sought_status, stop_status};
 
-use crate::captures::{ExplainedCaptures, Stop};
 use crate::each::{Explained, Unprinted};
 use crate::one::Found;
 use cli_text::report::{fault_status, report_at, report_fault, report_unwritten};
 use cli_text::{CaptureFaultText, Status};
+use cli_walk::Stop;
 use savefile::Fault;
 use std::io::Write;
 
@@ -74,8 +74,8 @@ pub fn report_capture<E: Write>(paths: &[&str], number: usize, fault: Fault, err
 }
 
 /// Reports the capture that ended the reading, if one did, and answers the exit status.
-pub fn report_stop<R, E: Write>(read: &Result<(), Stop<R>>, paths: &[&str], err: &mut E) -> Status
-    ensures { result ≡ stop_status read.now }
+pub fn report_stop<E: Write>(read: Result<(), Stop>, paths: &[&str], err: &mut E) -> Status
+    ensures { result ≡ stop_status read }
 {
     match read {
         Ok(()) => Status::Clean,
@@ -85,27 +85,24 @@ pub fn report_stop<R, E: Write>(read: &Result<(), Stop<R>>, paths: &[&str], err:
 
 /// Reports what was not printed of several captures and then the one that ended the reading, if there are these, and answers the greatest
 /// exit status that applies.
-pub fn report_captures<R, E: Write>(
-    ended: &ExplainedCaptures<R>,
+pub fn report_captures<E: Write>(
+    printed: &Result<(), Unprinted>,
+    read: Result<(), Stop>,
     paths: &[&str],
     err: &mut E,
 ) -> Status
-    ensures { result ≡ greater (printed_status ended.now.printed) (stop_status ended.now.read) }
+    ensures { result ≡ greater (printed_status printed.now) (stop_status read) }
 {
-    let printed = report_printed(&ended.printed, err);
-    printed.max(report_stop(&ended.read, paths, err))
+    let status = report_printed(printed, err);
+    status.max(report_stop(read, paths, err))
 }
 
 /// Reports the capture that ended the reading, if one did, and answers the exit status of looking for a packet: [`Status::Clean`] if one was
 /// found, [`Status::Negative`] if all captures were read and none was.
-pub fn report_sought<R, E: Write>(
-    sought: &Result<bool, Stop<R>>,
-    paths: &[&str],
-    err: &mut E,
-) -> Status
-    ensures { result ≡ sought_status sought.now }
+pub fn report_sought<E: Write>(found: Result<bool, Stop>, paths: &[&str], err: &mut E) -> Status
+    ensures { result ≡ sought_status found }
 {
-    match sought {
+    match found {
         Ok(true) => Status::Clean,
         Ok(false) => Status::Negative,
         Err(stop) => report_capture(paths, stop.number, stop.fault, err),

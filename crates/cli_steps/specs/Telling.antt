@@ -14,11 +14,10 @@ use Rattle.tap_steps.specs.declared.step.Step.{Step}
 abbrev pub IsStillTold : List ℕ → List ℕ → Type 0
 IsStillTold told still = (still ≡ told) ⊎ (told ≡ told_line (codes "Device standard output") ++ still)
 
--- Steps were played, and printed to what took this so far. What was reported of it in memory, and still is, standard error took.
-pub record TellsPlayed (form : LineForm) (explained traced : Bool) (captures : List (List ℕ)) (specs : List Spec) (steps : List Step) (old new : Option (List ℕ))
+-- Steps were played, and printed to what took `before` before, and `after` now. What was reported of it in memory, and still is, standard
+-- error took.
+pub record TellsPlayed (form : LineForm) (explained traced : Bool) (captures : List (List ℕ)) (specs : List Spec) (steps : List Step) (before after old new : Option (List ℕ))
     (outcome : Outcome) (replayed : Result Replayed Fault) : Type 0 where
-  pub before : Option (List ℕ)
-  pub after : Option (List ℕ)
   pub told : List ℕ
   pub played : Outcome
   pub plays : PlaysAs form explained traced captures specs steps (streams before (Some [])) (streams after (Some told)) played replayed

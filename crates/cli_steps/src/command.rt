@@ -1,6 +1,9 @@
 //! `bpftap steps`, over files.
 
-ghost use Rattle.std.specs.Prelude.{◌≡◌, false, map};
+ghost use Rattle.std.specs.Prelude.{◌≡◌, Err, codes, false, map};
+ghost use Rattle.cli_text.specs.Sending.{Takes};
+ghost use Rattle.cli_text.specs.Telling.{told_line};
+ghost use Rattle.tap.specs.declared.fault.Fault.TheVariants as tap_fault;
 ghost use Rattle.cli_steps.specs.Playing.{is_explained, is_traced};
 ghost use Rattle.cli_steps.specs.Telling.{IsStillTold, TellsPlayed};
 
@@ -12,7 +15,7 @@ use crate::plan::{StepsPlan, read_plan};
 use crate::steps::{Detail, Printing, Replayed, play_plan_in};
 use cli_args::steps::StepsWords;
 use cli_files::piped::Piped;
-use cli_files::reading::read_file;
+use cli_files::reading::read_text;
 use cli_json::LineForm;
 use cli_report::failures::hint_output;
 use cli_report::files::hint_returns;
@@ -45,10 +48,25 @@ fn omit_unread_output(report: &[u8], is_unread: bool) -> &[u8]
     }
 }
 
+/// Standard output, with what it did.
+type NotedOutput<'o, O> = BufWriter<FailureProbe<Piped<'o, O>>>;
+
+/// What is printed to, and may be a pipe that nobody reads any more.
+pub trait Output: Write {
+    /// Whether a write found that nobody reads any more.
+    fn is_unread(&self) -> bool;
+}
+
+impl<O: Write> Output for NotedOutput<'_, O> {
+    fn is_unread(&self) -> bool {
+        self.get_ref().get_ref().is_unread()
+    }
+}
+
 /// Plays a plan, and prints by pieces. That nobody reads what is printed any more is not reported.
 ///
-/// If no hints are wanted, standard error took what [`play_plan_in`] reports, but for that.
-pub fn play<O: Write, E: HintSink>(
+/// Standard output and standard error took what [`play_plan_in`] prints and reports, but for that.
+pub fn play<O: Output, E: Write>(
     alloc: Global,
     printing: Printing,
     plan: &StepsPlan,
@@ -56,42 +74,52 @@ pub fn play<O: Write, E: HintSink>(
     out: &mut O,
     err: &mut E,
 ) -> (Outcome, Result<Replayed, tap::Fault>)
-    ensures { E.takes_hints err.old ≡ false → TellsPlayed printing.form (is_explained printing.detail) (is_traced printing.detail)
-        (map (λ c. c.now) captures.now) plan.now.specs.items plan.now.steps.items (E.contents err.old) (E.contents err.new) result.0 result.1 }
+    ensures { TellsPlayed printing.form (is_explained printing.detail) (is_traced printing.detail)
+        (map (λ c. c.now) captures.now) plan.now.specs.items plan.now.steps.items
+        (O.contents out.old) (O.contents out.new) (E.contents err.old) (E.contents err.new) result.0 result.1 }
 {
-    let hinted = err.takes_hints();
-    let mut noted = FailureProbe::new(Piped::new(out));
-    let (Ok(mut report), Ok(mut printed)) = (
-        Vec::with_capacity(alloc, REPORT),
-        BufWriter::with_capacity(alloc, OUTPUT_BUFFER, &mut noted),
-    ) else {
-        let outcome = Outcome {
-            status: Status::Refused,
-            told: report_line(FaultText(tap::Fault::NoMemory), err),
-        };
-        return (outcome, Err(tap::Fault::NoMemory));
+    let Ok(mut report) = Vec::with_capacity(alloc, REPORT) else {
+        return refuse_memory(err);
     };
-    let (outcome, replayed) = play_plan_in(
-        alloc,
-        printing,
-        plan,
-        captures,
-        &mut printed,
-        &mut report,
-    );
-    drop(printed);
-    let sent = send(
-        omit_unread_output(report.as_slice(), noted.get_ref().is_unread()),
-        err,
-    );
-    if hinted {
-        hint_output(&noted, err);
-    }
+    let (outcome, replayed) = play_plan_in(alloc, printing, plan, captures, out, &mut report);
+    let sent = send(omit_unread_output(report.as_slice(), out.is_unread()), err);
     let outcome = Outcome {
         status: outcome.status,
         told: outcome.told.and(sent),
     };
     (outcome, replayed)
+}
+
+/// Reports that memory was refused before anything was played.
+fn refuse_memory<E: Write>(err: &mut E) -> (Outcome, Result<Replayed, tap::Fault>)
+    ensures told { Takes (E.contents err.old) (E.contents err.new) result.0.told (told_line (codes "NoMemory")) }
+    ensures status { result.0.status ≡ Status.Refused }
+    ensures fault { result.1 ≡ Err tap_fault.NoMemory }
+{
+    let outcome = Outcome {
+        status: Status::Refused,
+        told: report_line(FaultText(tap::Fault::NoMemory), err),
+    };
+    (outcome, Err(tap::Fault::NoMemory))
+}
+
+/// [`play`], with a buffer in front of standard output, and hints on how that failed.
+fn play_buffered<O: Write, E: HintSink>(
+    alloc: Global,
+    printing: Printing,
+    plan: &StepsPlan,
+    captures: &[&[u8]],
+    out: &mut O,
+    err: &mut E,
+) -> (Status, Result<Replayed, tap::Fault>) {
+    let noted = FailureProbe::new(Piped::new(out));
+    let Ok(mut printed) = BufWriter::with_capacity(alloc, OUTPUT_BUFFER, noted) else {
+        let (outcome, refused) = refuse_memory(err);
+        return (outcome.status, refused);
+    };
+    let (outcome, replayed) = play(alloc, printing, plan, captures, &mut printed, err);
+    hint_output(printed.get_ref(), err);
+    (outcome.status, replayed)
 }
 
 /// Reads the plan, and reports the first bad line. `Err` is the exit status then.
@@ -172,8 +200,8 @@ fn prepare<R: Files + AllocGlobal, E: HintSink>(
     words: &StepsWords<'_>,
     err: &mut E,
 ) -> Result<Job, Status> {
-    let listeners = read_file(rt, words.listeners, err)?;
-    let script = read_file(rt, words.script, err)?;
+    let listeners = read_text(rt, words.listeners, err)?;
+    let script = read_text(rt, words.script, err)?;
     let plan = read_lines(rt.alloc(), listeners.as_slice(), script.as_slice(), err)?;
     check_paths(rt, words, err)?;
     let texts = read_captures(rt, words.inputs.as_slice(), err)?;
@@ -203,7 +231,14 @@ fn play_and_report<R: Files + AllocGlobal, O: Write, E: HintSink>(
         return report_fault(Fault::NoMemory, Status::Refused, err);
     };
     let captures = captures.as_slice();
-    let (outcome, replayed) = play(rt.alloc(), printing_of(words), plan, captures, out, err);
+    let (status, replayed) = play_buffered(
+        rt.alloc(),
+        printing_of(words),
+        plan,
+        captures,
+        out,
+        err,
+    );
     hint_replay(
         rt.alloc(),
         script.as_slice(),
@@ -214,7 +249,7 @@ fn play_and_report<R: Files + AllocGlobal, O: Write, E: HintSink>(
     );
     let drawn = draw_wanted(rt, words, plan, replayed, err);
     hint_returns("LISTENERS", listeners.as_slice(), err);
-    outcome.status.max(drawn)
+    status.max(drawn)
 }
 
 /// `bpftap steps`: LISTENERS and SCRIPT are read, and the paths are compared, before a capture is read. The script is played once.

@@ -13,7 +13,7 @@ use crate::graph::Graph;
 use crate::programs::program;
 use crate::trees::tree;
 use crate::witness::Witness;
-use bpfvm::{Insn, NoMemory, Program, code, trace};
+use bpfvm::{How, Program, run_to_end};
 use filter_meaning::{Verdict, evaluate};
 use filter_tree::Expr;
 use std::alloc::Global;
@@ -25,17 +25,6 @@ pub enum Filter<'a> {
     Program(&'a Program),
 }
 
-/// The verdict of a run that an instruction ends.
-fn ended(insn: &Insn, answer: u32) -> Verdict
-    ensures { result ≡ ended insn.now answer }
-{
-    match insn.code {
-        code::RET_K => decided(answer > 0),
-        code::RET_A => decided(answer > 0),
-        _ => Verdict::Abort,
-    }
-}
-
 /// Yes or No.
 fn decided(says: bool) -> Verdict
     ensures { result ≡ decided says }
@@ -44,18 +33,13 @@ fn decided(says: bool) -> Verdict
 }
 
 /// What a program says of a packet. Bytes past the captured ones are an Abort, though the machine answers 0.
-fn program_verdict(alloc: Global, program: &Program, witness: &Witness) -> Result<Verdict, NoMemory>
-    ensures { IfOk result (λ v. v ≡ program_test program.now (packet witness.now)) }
+fn program_verdict(program: &Program, witness: &Witness) -> Verdict
+    ensures { result ≡ program_test program.now (packet witness.now) }
 {
-    let run = trace(alloc, program, &witness.bytes, witness.wire)?;
-    // Each run executes an instruction of the program, so there is a last one.
-    let Some((last, _)) = run.executed.as_slice().split_last() else {
-        return Err(NoMemory);
-    };
-    let Some(insn) = program.insns().get(last.place) else {
-        return Err(NoMemory);
-    };
-    Ok(ended(insn, run.answer))
+    match run_to_end(program, &witness.bytes, witness.wire).how {
+        How::Returned(answer) => decided(answer > 0),
+        How::NotCaptured | How::ZeroDivisor => Verdict::Abort,
+    }
 }
 
 impl Filter<'_> {
@@ -82,12 +66,12 @@ impl Filter<'_> {
     }
 
     /// What the filter says of a packet.
-    pub(crate) fn verdict(self, alloc: Global, witness: &Witness) -> Result<Verdict, NoMemory>
-        ensures { IfOk result (λ v. v ≡ filter_test self.entry (packet witness.now)) }
+    pub(crate) fn verdict(self, witness: &Witness) -> Verdict
+        ensures { result ≡ filter_test self.entry (packet witness.now) }
     {
         match self {
-            Filter::Expression(expr) => Ok(evaluate(expr, &witness.bytes, witness.wire)),
-            Filter::Program(program) => program_verdict(alloc, program, witness),
+            Filter::Expression(expr) => evaluate(expr, &witness.bytes, witness.wire),
+            Filter::Program(program) => program_verdict(program, witness),
         }
     }
 }

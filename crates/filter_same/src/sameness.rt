@@ -105,7 +105,7 @@ pub fn decide_filters(
     ensures { IfOk result (HoldsOfFilters first.entry second.entry) }
 {
     match find_all(alloc, first, second, budget) {
-        Ok(found) => sameness_of(alloc, first, second, found),
+        Ok(found) => Ok(sameness_of(first, second, found)),
         Err(Refusal::Memory) => Err(NoMemory),
         Err(Refusal::Relation) => Ok(Sameness::NotDecided(Cause::Relation)),
         Err(_) => Ok(Sameness::NotDecided(Cause::Budget)),
@@ -113,30 +113,25 @@ pub fn decide_filters(
 }
 
 /// What is known by a finding, once both filters have judged its packet.
-fn sameness_of(
-    alloc: Global,
-    first: Filter<'_>,
-    second: Filter<'_>,
-    found: Finding,
-) -> Result<Sameness, NoMemory>
+fn sameness_of(first: Filter<'_>, second: Filter<'_>, found: Finding) -> Sameness
     requires { Claims (filter_test first) (filter_test second) found.claim }
-    ensures { IfOk result (HoldsOfFilters first.entry second.entry) }
+    ensures { HoldsOfFilters first.entry second.entry result }
 {
     let Finding { claim, witness } = found;
     match (claim, witness) {
-        (Claim::Same, _) => Ok(Sameness::Same),
-        (Claim::SameAsCaptured, _) => Ok(Sameness::SameAsCaptured),
+        (Claim::Same, _) => Sameness::Same,
+        (Claim::SameAsCaptured, _) => Sameness::SameAsCaptured,
         (Claim::NeverApart, Some(witness)) => {
-            let one = first.verdict(alloc, &witness)?;
-            let other = second.verdict(alloc, &witness)?;
-            Ok(short(one, other, witness))
+            let one = first.verdict(&witness);
+            let other = second.verdict(&witness);
+            short(one, other, witness)
         }
         (Claim::Nothing, Some(witness)) => {
-            let one = first.verdict(alloc, &witness)?;
-            let other = second.verdict(alloc, &witness)?;
-            Ok(apart(one, other, witness))
+            let one = first.verdict(&witness);
+            let other = second.verdict(&witness);
+            apart(one, other, witness)
         }
-        (_, None) => Ok(Sameness::NotDecided(Cause::Graphs)),
+        (_, None) => Sameness::NotDecided(Cause::Graphs),
     }
 }
 
