@@ -1,3 +1,4 @@
+/* SPDX-License-Identifier: MIT OR Apache-2.0 */
 /* The calls that read expressions, on a thread of their own if those are long: they may need more stack than a thread has. Such a call also
  * returns NO_MEMORY if there is no memory for the thread. */
 #include <bpftap.h>

@@ -1,3 +1,4 @@
+# SPDX-License-Identifier: MIT OR Apache-2.0
 """bpftap: the proved filter compiler, filter machine, capture cutter and tap.
 
     >>> from bpftap import Filter

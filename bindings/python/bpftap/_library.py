@@ -1,3 +1,4 @@
+# SPDX-License-Identifier: MIT OR Apache-2.0
 """The C library through ctypes: its types, its functions, and where it is found."""
 import contextlib
 import ctypes

@@ -1,3 +1,4 @@
+# SPDX-License-Identifier: MIT OR Apache-2.0
 """The package, by Python's own unittest: what its page says, and every error."""
 import array
 import copy

@@ -1,3 +1,4 @@
+// SPDX-License-Identifier: MIT OR Apache-2.0
 //! What `bpftap.h` declares, as far as it is used.
 use crate::Span;
 

@@ -1,3 +1,4 @@
+// SPDX-License-Identifier: MIT OR Apache-2.0
 //! The crate over the real capture of `examples/`, and its errors.
 use std::io;
 
