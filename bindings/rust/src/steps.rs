@@ -60,6 +60,17 @@ pub fn steps(listeners: &str, script: &str, captures: &[&[u8]]) -> Result<Replay
     play(ffi::bpftap_steps, listeners, script, captures)
 }
 
+/// Does the same, and returns the picture that `bpftap steps -p` draws, as SVG.
+///
+/// ```
+/// let replay = bpftap::picture("96 4096\n", "flush 0\n", &[])?;
+/// assert!(replay.reports.starts_with("<svg"));
+/// # Ok::<(), bpftap::Error>(())
+/// ```
+pub fn picture(listeners: &str, script: &str, captures: &[&[u8]]) -> Result<Replay, Error> {
+    play(ffi::bpftap_picture, listeners, script, captures)
+}
+
 /// Does the same, and returns the reports as JSON Lines, as `bpftap steps --json` prints them.
 ///
 /// ```
