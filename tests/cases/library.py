@@ -71,6 +71,18 @@ def calls_do_what_the_header_says(scene):
 
 
 @case
+def nothing_beside_is_touched(scene):
+    """Random calls whose memory lies between guard pages, read and written, with room for all and with room for one item less."""
+    if is_there(scene) and scene.has("gcc"):
+        scene.start({})
+        program, chance = compiled(scene, ["gcc", "-std=c11", "-O1"], "guards"), random.Random(23)
+        texts = "".join(f"{expression(chance)}\n" for _ in range(3000))
+        if program:
+            ended = subprocess.run([program, VETH, "3000"], input=texts.encode(), stdout=subprocess.PIPE, timeout=LIMIT)
+            scene.check("guards", (ended.stdout.decode(), ended.returncode), ("", 0))
+
+
+@case
 def threads_do_not_meet(scene):
     """Two threads with a program and a listener each, and with a program that both run."""
     if is_there(scene) and scene.has("gcc"):
