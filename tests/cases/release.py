@@ -13,6 +13,8 @@ from .common import LIMIT, ROOT, Seen, case
 
 ARCHIVE = "release/bpftap-x86_64-linux.tar.gz"
 RELEASED, BUILT = b"bpftap 1.2.3, a stand-in\nreleased, reproduced by the gate\n", b"bpftap 1.2.3, a stand-in\nbuilt and proved here\n"
+# A program that needs another system.
+OLD = "#!/bin/sh\necho \"libc.so.6: version \\`GLIBC_2.34' not found\" >&2\nexit 1\n"
 # The program that runs, if one does, leaves a mark.
 MARKS = MADE.replace("#!/bin/sh\n", '#!/bin/sh\ntouch "$HOME/ran"\n')
 
@@ -35,6 +37,11 @@ class Clone(Source):
 
     def answer(self, *words):
         return Seen(f"here: {self.scene.folder}, words: {' '.join(words)}\n".encode(), b"", 7)
+
+    def unpacked(self):
+        """The folder of the released files."""
+        self.lib("unpack", ARCHIVE.removeprefix("release/"))
+        return next((self.folder / "out" / "released").iterdir())
 
     def is_unpacked_in(self, folder):
         return sorted(path.name for path in folder.glob("released/*/bin/bpftap"))
@@ -159,7 +166,7 @@ def a_damaged_archive_is_refused(scene):
         archive.write_bytes(text)
         refused(scene, clone, f"{len(text)} bytes", damaged)
     archive.write_bytes(whole)
-    sums.write_text(named.replace("# archive ", "# archive 0"))
+    change(sums, named.index(f"  {ARCHIVE.removeprefix('release/')}") - 1)
     refused(scene, clone, "another checksum of the archive", damaged)
     sums.write_text(named)
     change(sums, named.index("  bin/bpftap") - 1)
@@ -188,7 +195,7 @@ def an_archive_has_what_is_listed_and_no_more(scene):
     clone = Clone(scene, MARKS)
     sums = clone.folder / "release" / "SHA256SUMS"
     named = sums.read_text()
-    sums.write_text("".join(line for line in named.splitlines(True) if line.startswith("#")))
+    sums.write_text("".join(line for line in named.splitlines(True) if not line.startswith("# in ")))
     seen = clone.call("check", "ip")
     scene.check("not listed", (seen.err.endswith(b" is not what release/SHA256SUMS says\n"), seen.status), (True, 125))
     sums.write_text(named)
@@ -199,8 +206,8 @@ def an_archive_has_what_is_listed_and_no_more(scene):
     (clone.home / "elsewhere").chmod(0o755)
     (tree / "bin" / "bpftap").symlink_to(clone.home / "elsewhere")
     subprocess.run(["tar", "-czf", clone.folder / ARCHIVE, "-C", tree, "."], check=True, timeout=LIMIT)
-    digest = hashlib.sha256((clone.folder / ARCHIVE).read_bytes()).hexdigest()
-    sums.write_text("".join(f"# archive {digest}\n" if line.startswith("# archive") else line for line in named.splitlines(True)))
+    digest, name = hashlib.sha256((clone.folder / ARCHIVE).read_bytes()).hexdigest(), ARCHIVE.removeprefix("release/")
+    sums.write_text("".join(f"{digest}  {name}\n" if line.endswith(f"  {name}\n") else line for line in named.splitlines(True)))
     seen = clone.call("check", "ip")
     scene.check("a link", (seen.err.endswith(b" is not what release/SHA256SUMS says\n"), seen.status), (True, 125))
     scene.check("run", (clone.home / "ran").exists(), False)
@@ -231,16 +238,57 @@ def a_machine_that_cannot_run_it_is_reported(scene):
     clone = Clone(scene, MARKS)
     tools = scene.folder / "tools"
     tools.mkdir()
-    (tools / "uname").write_text("#!/bin/sh\necho Linux aarch64\n")
+    (tools / "uname").write_text("#!/bin/sh\necho Linux riscv64\n")
     (tools / "uname").chmod(0o755)
     build = "./build proves and builds one, with the toolchain"
     there = {**clone.bare(), "PATH": f"{tools}:/usr/bin:/bin"}
-    line = f"bpftap: the released program is for x86-64 Linux, and this is Linux aarch64: {build}\n"
+    line = f"bpftap: no released program is for Linux riscv64: {build}\n"
     scene.check("another processor", clone.run(program="bpftap", env=there), Seen(b"", line.encode(), 125))
-    clone.release("#!/bin/sh\necho \"libc.so.6: version \\`GLIBC_2.34' not found\" >&2\nexit 1\n")
-    refused(scene, clone, "an old system", f"the released program does not run here: it is for glibc 2.34 and later. {build}")
+    clone.release(OLD)
+    refused(scene, clone, "an old system", "the released program does not run here: that for x86-64 needs glibc 2.34 or later, and a processor of "
+            f"x86-64-v2. {build}")
     scene.check("a build", clone.run().status, 0)
     scene.check("what was built", clone.call("--version").out, BUILT)
+
+
+def also_released(clone, programs):
+    """Makes a release of the same sources with a program for each of these targets too."""
+    key = clone.lib("sources_key").out.decode().strip()
+    for target, program in programs.items():
+        made = clone.folder / "out" / "targets" / key / target / "bin" / "bpftap"
+        made.parent.mkdir(parents=True)
+        made.write_text(program)
+        made.chmod(0o755)
+        made.parent.parent.with_name(f"{target}.by").write_text("made by hand\n")
+    shutil.copytree(clone.unpacked(), clone.folder / "out" / "built" / key)
+    clone.lib("pack")
+    shutil.rmtree(clone.folder / "out")
+
+
+@case
+def each_machine_runs_the_program_for_it(scene):
+    """Where the first program does not run the static one is taken, and on another processor the one for that; each is checked as the first is."""
+    clone = Clone(scene, OLD)
+    static = MADE.replace("a stand-in", "static")
+    also_released(clone, {"x86_64-linux-static": static, "aarch64-linux": static.replace("static", "of another machine")})
+    sums = (clone.folder / "release" / "SHA256SUMS").read_text()
+    scene.check("how it was made", "# aarch64-linux made by hand\n" in sums, True)
+    words = ["sha256sum", "--quiet", "--check", "SHA256SUMS"]
+    scene.check("checksums", subprocess.run(words, cwd=clone.folder / "release", timeout=LIMIT).returncode, 0)
+    wanted = b"bpftap 1.2.3, static\nreleased, of bpftap-x86_64-linux-static.tar.gz\n"
+    scene.check("static", (clone.call("--version").out, clone.call("--version").out), (wanted, wanted))
+    tools = scene.folder / "tools"
+    tools.mkdir()
+    (tools / "uname").write_text("#!/bin/sh\necho Linux aarch64\n")
+    (tools / "uname").chmod(0o755)
+    shutil.rmtree(clone.folder / "out")
+    there = {**clone.bare(), "PATH": f"{tools}:/usr/bin:/bin"}
+    wanted = b"bpftap 1.2.3, of another machine\nreleased, of bpftap-aarch64-linux.tar.gz\n"
+    scene.check("another machine", clone.run("--version", program="bpftap", env=there).out, wanted)
+    shutil.rmtree(clone.folder / "out")
+    change(clone.folder / "release" / "bpftap-x86_64-linux-static.tar.gz", 4)
+    damaged = "release/bpftap-x86_64-linux-static.tar.gz is damaged: its SHA-256 is not the one in release/SHA256SUMS"
+    refused(scene, clone, "a damaged one", damaged)
 
 
 @case
@@ -527,7 +575,7 @@ def a_release_is_made_by_one_command(scene):
     seen = source.run("--release")
     archive, sums = source.folder / ARCHIVE, source.folder / "release" / "SHA256SUMS"
     first = archive.read_bytes(), sums.read_bytes()
-    printed = f"{ARCHIVE} has {len(first[0])} bytes; release/SHA256SUMS says:\n".encode() + first[1]
+    printed = f"{len(first[0])} bytes in archives; release/SHA256SUMS says:\n".encode() + first[1]
     scene.check("printed, and the status", (seen.out, seen.status), (printed, 0))
     scene.check("of", first[1].decode().splitlines()[1], "# toolchain kit 1")
     scene.check("compared", source.run().err, b"the released program is what these sources give\n")
