@@ -1,3 +1,4 @@
+# SPDX-License-Identifier: MIT OR Apache-2.0
 # The version is that of bpftap.pc. A newer minor version serves one that asks for an older one.
 file(STRINGS "${CMAKE_CURRENT_LIST_DIR}/../../pkgconfig/bpftap.pc" _bpftap_line REGEX "^Version: ")
 string(REPLACE "Version: " "" PACKAGE_VERSION "${_bpftap_line}")

@@ -1,3 +1,4 @@
+# SPDX-License-Identifier: MIT OR Apache-2.0
 # find_package(bpftap) gives bpftap::bpftap, the shared library, and bpftap::static, the archive. CMake then knows where the shared
 # library lies, so that a program of a build finds it.
 get_filename_component(_bpftap_prefix "${CMAKE_CURRENT_LIST_DIR}/../../.." ABSOLUTE)

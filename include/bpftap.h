@@ -12,15 +12,15 @@
  *
  *   - A text, a capture or an array is a pointer and the number of its items. A text need not end with a zero byte.
  *   - What a call writes goes into memory of the caller. It takes that memory as a pointer and the number of items that it has room
- *     for, and writes nothing past those. A call that fails writes nothing there, but for these: bpftap_cut, bpftap_steps,
- *     bpftap_steps_json and bpftap_picture write what comes before a record that cannot be read; bpftap_program_init a program that rejects
- *     every packet; bpftap_listener_open a closed listener.
+ *     for, and writes nothing past those. A call that fails writes nothing there, but for these: bpftap_cut, bpftap_picture and the calls
+ *     bpftap_steps.. write what comes before a record that cannot be read; bpftap_program_init a program that rejects every packet;
+ *     bpftap_listener_open a closed listener.
  *   - A text that a call writes is followed by a zero byte. `size` does not count that byte, but there has to be room for it.
  *   - Nothing is kept between calls, and nothing that is allocated is handed out. There is no global state, and nothing is printed.
  *     Calls may run at the same time in different threads.
  *   - 128 KiB of stack are enough for a call that reads no expression. bpftap_compile, bpftap_print, bpftap_why, bpftap_looks,
- *     bpftap_compare, bpftap_steps, bpftap_steps_json and bpftap_picture need 512 KiB for expressions of up to 1,000 bytes, and 2 MiB for
- *     any: give 2 MiB to a thread that takes expressions from outside. If both expressions of bpftap_compare ask for many bytes, it needs
+ *     bpftap_compare, bpftap_picture and the calls bpftap_steps.. need 512 KiB for expressions of up to 1,000 bytes, and 2 MiB for any:
+ *     give 2 MiB to a thread that takes expressions from outside. If both expressions of bpftap_compare ask for many bytes, it needs
  *     2 MiB for expressions of up to 1,000 bytes each, and 16 MiB for any. This is measured, not proved.
  *
  * What the caller owes
@@ -491,6 +491,14 @@ struct bpftap_replay bpftap_steps(const char *listeners, size_t listeners_size, 
  * names its listener. Faults are those of bpftap_steps. */
 struct bpftap_replay bpftap_steps_json(const char *listeners, size_t listeners_size, const char *script, size_t script_size,
                                        const struct bpftap_capture *captures, size_t count, char *to, size_t room);
+
+/* Does the same, and writes what `bpftap steps -v` prints before its reports: a line for each step, and below it one for each listener that
+ * the step reaches, with what it answered, and why. As JSON Lines an object for each of these, with the number of its step.
+ * Faults are those of bpftap_steps. */
+struct bpftap_replay bpftap_steps_answers(const char *listeners, size_t listeners_size, const char *script, size_t script_size,
+                                          const struct bpftap_capture *captures, size_t count, char *to, size_t room);
+struct bpftap_replay bpftap_steps_answers_json(const char *listeners, size_t listeners_size, const char *script, size_t script_size,
+                                               const struct bpftap_capture *captures, size_t count, char *to, size_t room);
 
 /* Does the same, and writes the picture that `bpftap steps -p` draws: SVG, with a lane for each listener over the steps, what each step
  * found in the store and in the hold, and what became of it. Faults are those of bpftap_steps. */

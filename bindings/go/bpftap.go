@@ -1,3 +1,5 @@
+// SPDX-License-Identifier: MIT OR Apache-2.0
+
 // Package bpftap has the proved filter compiler, filter machine and capture cutter of bpftap, by cgo over its C library.
 //
 // A Filter is a filter expression as of pcap-filter(7), compiled, or a program that was handed in. A Reader goes through the packets of a

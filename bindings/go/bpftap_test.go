@@ -1,3 +1,5 @@
+// SPDX-License-Identifier: MIT OR Apache-2.0
+
 package bpftap_test
 
 import (
@@ -162,6 +164,24 @@ func TestProgramsAndListings(t *testing.T) {
 	_, _, err = listed.Why(udp, 38)
 	_, other2 := listed.Canonical()
 	same(t, "no expression", []bool{errors.Is(err, bpftap.NotText), errors.Is(other2, bpftap.NotText)}, []bool{true, true})
+}
+
+func TestRunsAreTraced(t *testing.T) {
+	listed, _ := bpftap.FromListing(listing)
+	traced, err := listed.Trace(udp, 38)
+	same(t, "Trace", []any{traced, err}, []any{[]bpftap.Executed{{Place: 0, Accumulator: 2048}, {Place: 1, Accumulator: 2048}, {Place: 2, Accumulator: 2048}}, nil})
+	traced, _ = listed.Trace(nil, 38)
+	same(t, "a load past the end", traced, []bpftap.Executed{{}})
+	// A = 7, M[3] = A, return A.
+	stores, _ := bpftap.FromInsns([]bpftap.Insn{{K: 7}, {Code: 2, K: 3}, {Code: 0x16}})
+	traced, _ = stores.Trace(udp, 38)
+	same(t, "a store", traced[1], bpftap.Executed{Place: 1, Accumulator: 7, Stored: true, Cell: 3, Value: 7})
+	looks, err := compiled(t, "ether proto 0x800").Looks(udp, 38)
+	same(t, "Looks", []any{looks, err}, []any{[]bpftap.Look{{Offset: 12, Size: 2}}, nil})
+	looks, _ = compiled(t, strings.TrimSuffix(strings.Repeat("ether[30] = 10 and ", 80), " and ")).Looks(udp, 38)
+	same(t, "many", len(looks), 80)
+	_, err = listed.Looks(udp, 38)
+	refused(t, err, bpftap.NotText, 0, "NotText 0")
 }
 
 func TestLongExpressionsHaveStackEnough(t *testing.T) {

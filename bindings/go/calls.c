@@ -1,3 +1,4 @@
+/* SPDX-License-Identifier: MIT OR Apache-2.0 */
 #include "calls.h"
 #include <pthread.h>
 
@@ -75,6 +76,29 @@ struct bpftap_reason calls_why(const char *text, size_t size, const uint8_t *pac
     struct why call = {text, size, packet, captured, wire, to, room, {BPFTAP_NO_MEMORY, 0, 0, 0}};
     size > SHORT ? deeply(why, &call) : (void)why(&call);
     return call.reason;
+}
+
+struct looks {
+    const char *text;
+    size_t size;
+    const uint8_t *packet;
+    size_t captured;
+    uint32_t wire;
+    struct bpftap_look *to;
+    size_t room;
+    struct bpftap_result result;
+};
+
+static void *looks(void *with) {
+    struct looks *call = with;
+    call->result = bpftap_looks(call->text, call->size, call->packet, call->captured, call->wire, call->to, call->room);
+    return NULL;
+}
+
+struct bpftap_result calls_looks(const char *text, size_t size, const uint8_t *packet, size_t captured, uint32_t wire, struct bpftap_look *to, size_t room) {
+    struct looks call = {text, size, packet, captured, wire, to, room, {BPFTAP_NO_MEMORY, 0, 0}};
+    size > SHORT ? deeply(looks, &call) : (void)looks(&call);
+    return call.result;
 }
 
 struct compare {

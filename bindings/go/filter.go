@@ -1,3 +1,5 @@
+// SPDX-License-Identifier: MIT OR Apache-2.0
+
 package bpftap
 
 // #include <stdlib.h>
@@ -147,6 +149,60 @@ func (f *Filter) Why(packet []byte, wire uint32) (Verdict, string, error) {
 	})
 	_, part, _ := strings.Cut(line, " ")
 	return verdict, part, err
+}
+
+// An Executed is an instruction that was executed, and what the machine holds after it.
+type Executed struct {
+	Place              int
+	Accumulator, Index uint32
+	// Stored says whether it stored Value into Cell of scratch memory.
+	Stored      bool
+	Cell, Value uint32
+}
+
+// Trace is which instructions a run over a packet executes, in order.
+func (f *Filter) Trace(packet []byte, wire uint32) ([]Executed, error) {
+	to := make([]C.struct_bpftap_executed, MaxInsns)
+	traced := C.bpftap_trace(insnsOf(f.insns), C.size_t(len(f.insns)), bytesOf(packet), C.size_t(len(packet)), C.uint32_t(wire), &to[0], MaxInsns)
+	if err := errorOf(traced.fault, uint64(traced.place)); err != nil {
+		return nil, err
+	}
+	made := make([]Executed, traced.size)
+	for at := range made {
+		made[at] = Executed{Place: int(to[at].place), Accumulator: uint32(to[at].accumulator), Index: uint32(to[at].index)}
+		if to[at].cell != C.BPFTAP_NO_CELL {
+			made[at].Stored, made[at].Cell, made[at].Value = true, uint32(to[at].cell), uint32(to[at].value)
+		}
+	}
+	return made, nil
+}
+
+// A Look is what a test looked at: Size bytes of the frame from byte Offset on, captured or not; or, if both are 0, the length on the wire.
+type Look struct{ Offset, Size int }
+
+// Looks is what the expression looks at of a packet: what each primitive or relation does that is asked, from left to right. Of a program
+// without an expression it is NotText.
+func (f *Filter) Looks(packet []byte, wire uint32) ([]Look, error) {
+	if !f.compiled {
+		return nil, &Error{Fault: NotText}
+	}
+	expression, size := textOf(f.expression)
+	for room := 64; ; {
+		to := make([]C.struct_bpftap_look, room)
+		result := C.calls_looks(expression, size, bytesOf(packet), C.size_t(len(packet)), C.uint32_t(wire), &to[0], C.size_t(room))
+		if result.fault == C.BPFTAP_NO_ROOM {
+			room = int(result.size)
+			continue
+		}
+		if err := errorOf(result.fault, uint64(result.place)); err != nil {
+			return nil, err
+		}
+		made := make([]Look, result.size)
+		for at := range made {
+			made[at] = Look{int(to[at].offset), int(to[at].size)}
+		}
+		return made, nil
+	}
 }
 
 // Expression is the one that was compiled, or "" of a program.

@@ -1,3 +1,4 @@
+# SPDX-License-Identifier: MIT OR Apache-2.0
 """Builds the wheel and the sdist, with Python's standard library only, so that `pip install` needs no network (PEP 517, PEP 660).
 
 Both have the package and the C library: that of BPFTAP_LIBRARY, else the one of an sdist, else the one that `./build bpftap_c` makes in
@@ -40,8 +41,7 @@ def _library():
 
 def _licences():
     """The licences, of an sdist or of the repository."""
-    names = ("LICENSE-APACHE", "LICENSE-MIT", "NOTICES")
-    return {name: (HERE if (HERE / name).is_file() else HERE.parents[1]).joinpath(name).read_bytes() for name in names}
+    return {name: (HERE if (HERE / name).is_file() else HERE.parents[1]).joinpath(name).read_bytes() for name in _field("license-files")}
 
 
 def _package():

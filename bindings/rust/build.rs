@@ -1,3 +1,4 @@
+// SPDX-License-Identifier: MIT OR Apache-2.0
 //! Links the C library: `BPFTAP_LIB` names its folder, else it is `native` of a crate that was handed on, or that of the repository, which
 //! `./build bpftap_c` makes.
 use std::path::PathBuf;

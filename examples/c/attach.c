@@ -1,3 +1,4 @@
+/* SPDX-License-Identifier: MIT OR Apache-2.0 */
 /* Hands a filter to the kernel: a packet socket that receives only what the expression accepts (Linux; it needs CAP_NET_RAW). Without that
  * right a datagram socket takes the program instead, which shows that the kernel accepts it.
  *

@@ -1,3 +1,4 @@
+/* SPDX-License-Identifier: MIT OR Apache-2.0 */
 /* A file as a whole, for the examples that read captures. */
 #include <stdint.h>
 #include <stdio.h>

@@ -1,3 +1,4 @@
+/* SPDX-License-Identifier: MIT OR Apache-2.0 */
 /* Keeps the packets of a capture that a filter accepts: filter EXPRESSION IN OUT
  *
  *     cc -o filter filter.c -lbpftap

@@ -1,3 +1,4 @@
+/* SPDX-License-Identifier: MIT OR Apache-2.0 */
 /* Shows which packets a slow reader loses: tap EXPRESSION CAPTURE EVERY
  *
  *     cc -o tap tap.c -lbpftap

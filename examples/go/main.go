@@ -1,3 +1,5 @@
+// SPDX-License-Identifier: MIT OR Apache-2.0
+
 // Count prints how many packets of a capture an expression accepts, and what rejects the others:
 //
 //	go run . 'udp port 5353' ../veth.pcap

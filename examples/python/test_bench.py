@@ -1,3 +1,4 @@
+# SPDX-License-Identifier: MIT OR Apache-2.0
 """A test bench: a device is to send its answers from port 53, and the capture of a run is checked. Run it by pytest, or by itself.
 
     BPFTAP_CAPTURE=examples/veth.pcap python3 examples/python/test_bench.py

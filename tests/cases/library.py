@@ -71,6 +71,18 @@ def calls_do_what_the_header_says(scene):
 
 
 @case
+def nothing_beside_is_touched(scene):
+    """Random calls whose memory lies between guard pages, read and written, with room for all and with room for one item less."""
+    if is_there(scene) and scene.has("gcc"):
+        scene.start({})
+        program, chance = compiled(scene, ["gcc", "-std=c11", "-O1"], "guards"), random.Random(23)
+        texts = "".join(f"{expression(chance)}\n" for _ in range(3000))
+        if program:
+            ended = subprocess.run([program, VETH, "3000"], input=texts.encode(), stdout=subprocess.PIPE, timeout=LIMIT)
+            scene.check("guards", (ended.stdout.decode(), ended.returncode), ("", 0))
+
+
+@case
 def threads_do_not_meet(scene):
     """Two threads with a program and a listener each, and with a program that both run."""
     if is_there(scene) and scene.has("gcc"):
@@ -311,6 +323,11 @@ def steps_of_c_print_what_steps_prints(scene):
         objects = scene.run(f"steps --json {words}")
         ended = subprocess.run([program, "--json", *words.split()], cwd=scene.folder, capture_output=True, timeout=LIMIT)
         scene.check(f"steps --json {words}", (ended.stdout, ended.stderr, ended.returncode), (objects.out, wanted.err, objects.status))
+        # `steps -v` prints the answers and then the reports.
+        for flags, reports in (([], wanted), (["--json"], objects)):
+            ended = subprocess.run([program, "--answers" + "".join(flags).replace("--", "-"), *words.split()], cwd=scene.folder, capture_output=True, timeout=LIMIT)
+            both = scene.run(["steps", "-v", *flags, *words.split()])
+            scene.check(f"steps -v {flags} {words}", (ended.stdout + reports.out, ended.stderr, ended.returncode), (both.out, wanted.err, both.status))
     for files, printed in random_replays(scene) if program else []:
         scene.check(scene.read("listeners").decode(), done(scene, [program, *files]), (printed, 0))
         objects = scene.run(["steps", "--json", *files]).out.decode()

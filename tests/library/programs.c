@@ -210,6 +210,8 @@ static void takes_null(void) {
     CHECK(bpftap_listener_open(&listener) == BPFTAP_OK && bpftap_listener_arrive(&listener, 96, 0, &record, NULL, 0) == BPFTAP_STORED);
     CHECK(bpftap_steps(NULL, 0, NULL, 0, NULL, 0, text, sizeof room).size == 0 && bpftap_steps(NULL, 0, NULL, 0, NULL, 0, NULL, 0).fault == BPFTAP_NO_ROOM);
     CHECK(bpftap_steps_json(NULL, 0, NULL, 0, NULL, 0, text, sizeof room).size == 0);
+    CHECK(bpftap_steps_answers(NULL, 0, NULL, 0, NULL, 0, text, sizeof room).size == 0);
+    CHECK(bpftap_steps_answers_json(NULL, 0, NULL, 0, NULL, 0, NULL, 0).fault == BPFTAP_NO_ROOM);
     CHECK(bpftap_picture(NULL, 0, NULL, 0, NULL, 0, NULL, 0).fault == BPFTAP_NO_ROOM);
     CHECK(bpftap_fault_text(BPFTAP_SYNTAX, 3, NULL, 0).fault == BPFTAP_NO_ROOM && bpftap_version(NULL, 0).fault == BPFTAP_NO_ROOM);
     free(program);

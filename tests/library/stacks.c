@@ -73,6 +73,11 @@ static void *steps_json(void *unused) {
     return unused;
 }
 
+static void *answers(void *unused) {
+    play(bpftap_steps_answers);
+    return unused;
+}
+
 static void *picture(void *unused) {
     play(bpftap_picture);
     return unused;
@@ -96,7 +101,7 @@ static void *others(void *unused) {
     return unused;
 }
 
-static void *(*const CALLS[])(void *) = {compile, print, why, looks, compare, steps, steps_json, picture, others};
+static void *(*const CALLS[])(void *) = {compile, print, why, looks, compare, steps, steps_json, answers, picture, others};
 
 /* How much of a stack of this size a call touches. */
 static size_t touched(void *(*call)(void *), uint8_t *stack, size_t size) {

@@ -1,3 +1,4 @@
+# SPDX-License-Identifier: MIT OR Apache-2.0
 """What tests ask of packets."""
 from __future__ import annotations
 

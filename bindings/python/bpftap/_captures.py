@@ -1,3 +1,4 @@
+# SPDX-License-Identifier: MIT OR Apache-2.0
 """Captures: pcap files of Ethernet frames."""
 from __future__ import annotations
 
@@ -12,7 +13,7 @@ from collections.abc import Callable, Iterable, Iterator
 
 from ._errors import Fault, raise_fault
 from ._filters import Filter, FilterError, filter_of
-from ._library import MAX_SNAP, Insn, Record, buffer_of, bytes_of, in_range, lib, room_of, view_of
+from ._library import MAX_SNAP, NO_MEMORY, Insn, Record, buffer_of, bytes_of, in_range, lib, room_of, view_of
 from ._packets import Packet
 
 SECOND = 10**9
@@ -73,6 +74,8 @@ class Capture:
             raise_fault(CaptureError, self._reader.fault, 0)
             # One call reads all records: a cut that keeps none of them. What is read below was read by the library before.
             end = lib.bpftap_cut(memory, size, NONE, 1, 0, ctypes.create_string_buffer(24), 24)
+        if end.fault == NO_MEMORY:
+            raise_fault(CaptureError, end.fault, 0)
         self._fields = struct.Struct(">4I" if self.big_endian else "<4I").unpack_from
         self._end, self._size = (end.fault, end.place), size
         if end.fault:

@@ -1,3 +1,4 @@
+# SPDX-License-Identifier: MIT OR Apache-2.0
 """Filters."""
 from __future__ import annotations
 
@@ -6,8 +7,9 @@ import enum
 import itertools
 from array import array
 from collections.abc import Collection, Iterable, Sequence
-from typing import TYPE_CHECKING, Any
+from typing import TYPE_CHECKING, Any, NamedTuple
 
+from . import _library
 from ._errors import Fault, raise_fault
 from ._library import MAX_INSNS, MAX_SNAP, Insn, buffer_of, in_range, int_of, lib, program_run, text, utf8
 from ._packets import Packet, parts_of
@@ -34,6 +36,22 @@ class Verdict(enum.IntEnum):
 def _raised(result):
     raise_fault(FilterError, result.fault, result.place)
     return result
+
+
+class Executed(NamedTuple):
+    """An instruction that was executed, and what the machine holds after it: `cell` is the cell of scratch memory that it stored `value` into,
+    or `None`."""
+    place: int
+    accumulator: int
+    index: int
+    cell: int | None = None
+    value: int = 0
+
+
+class Look(NamedTuple):
+    """What a test looked at: `size` bytes of the frame from byte `offset` on, captured or not; or, if both are 0, the length on the wire."""
+    offset: int
+    size: int
 
 
 # How many packets are handed over at once: what they take stays in the processor's cache.
@@ -167,6 +185,27 @@ class Filter:
         """What the expression answers to a packet and what decides, as `No tcp port 80`."""
         verdict, part = self.decide(packet, wire)
         return f"{verdict.name.capitalize()} {part}"
+
+    def trace(self, packet: Packet | bytes, wire: int | None = None) -> list[Executed]:
+        """Which instructions a run over a packet executes, in order."""
+        packet, wire = parts_of(packet, wire)
+        to = (_library.Executed * MAX_INSNS)()
+        size = _raised(lib.bpftap_trace(self._insns, self._size, packet, len(packet), wire, to, MAX_INSNS)).size
+        return [Executed(one.place, one.accumulator, one.index, None if one.cell == _library.NO_CELL else one.cell, one.value) for one in to[:size]]
+
+    def looks(self, packet: Packet | bytes, wire: int | None = None) -> list[Look]:
+        """What the expression looks at of a packet: what each primitive or relation does that is asked, from left to right."""
+        if self.expression is None:
+            raise TypeError("a program has no expression to explain")
+        code, (packet, wire) = utf8("expression", self.expression), parts_of(packet, wire)
+        room = 64
+        while True:
+            to = (_library.Look * room)()
+            result = reading(code, lambda: lib.bpftap_looks(code, len(code), packet, len(packet), wire, to, room))
+            if result.fault != _library.NO_ROOM:
+                break
+            room = result.size
+        return [Look(one.offset, one.size) for one in to[: _raised(result).size]]
 
     @property
     def program(self) -> list[tuple[int, int, int, int]]:

@@ -1,3 +1,4 @@
+# SPDX-License-Identifier: MIT OR Apache-2.0
 """The C library through ctypes: its types, its functions, and where it is found."""
 import contextlib
 import ctypes
@@ -9,6 +10,7 @@ from ctypes import POINTER, c_bool, c_char_p, c_int, c_size_t, c_ssize_t, c_uint
 MAX_INSNS = 512
 MAX_SNAP = 262144
 MAX_CAPACITY = 1048576
+NO_CELL = 16
 
 OK, NO_MEMORY, NO_ROOM, END = 0, 1, 2, 4
 
@@ -24,6 +26,18 @@ class Result(ctypes.Structure):
 
 class Reason(ctypes.Structure):
     _fields_ = [("fault", c_uint32), ("verdict", c_uint32), ("size", c_size_t), ("place", c_size_t)]
+
+
+class Traced(ctypes.Structure):
+    _fields_ = [("fault", c_uint32), ("answer", c_uint32), ("size", c_size_t), ("place", c_size_t)]
+
+
+class Executed(ctypes.Structure):
+    _fields_ = [("place", c_size_t), ("accumulator", c_uint32), ("index", c_uint32), ("cell", c_uint32), ("value", c_uint32)]
+
+
+class Look(ctypes.Structure):
+    _fields_ = [("offset", c_size_t), ("size", c_size_t)]
 
 
 class Comparison(ctypes.Structure):
@@ -102,6 +116,8 @@ _FUNCTIONS = {
     "program_run": (c_uint32, [c_void_p, *_BYTES, c_uint32]),
     "program_run_spans": (Result, [c_void_p, *_BYTES, c_void_p, c_size_t, c_void_p, c_size_t]),
     "program_run_joined": (Result, [c_void_p, *_BYTES, c_void_p, c_size_t, c_void_p, c_size_t]),
+    "trace": (Traced, [*_INSNS, *_BYTES, c_uint32, *_ROOM]),
+    "looks": (Result, [*_BYTES, *_BYTES, c_uint32, *_ROOM]),
     "why": (Reason, [*_BYTES, *_BYTES, c_uint32, *_ROOM]),
     "compare": (Comparison, [*_BYTES, *_BYTES, c_size_t, *_ROOM]),
     "open": (Reader, _BYTES),

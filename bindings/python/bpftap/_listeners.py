@@ -1,3 +1,4 @@
+# SPDX-License-Identifier: MIT OR Apache-2.0
 """Listeners of a packet tap."""
 from __future__ import annotations
 

@@ -1,3 +1,4 @@
+# SPDX-License-Identifier: MIT OR Apache-2.0
 """Steps that are played to listeners over captures."""
 from __future__ import annotations
 

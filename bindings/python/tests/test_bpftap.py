@@ -1,3 +1,4 @@
+# SPDX-License-Identifier: MIT OR Apache-2.0
 """The package, by Python's own unittest: what its page says, and every error."""
 import array
 import copy
@@ -194,6 +195,23 @@ class Filters(unittest.TestCase):
                 with self.assertRaisesRegex(TypeError, f"^packet is of type {type(packet).__name__}, which is not bytes-like$"):
                     call(packet)
         self.assertEqual(tap.received, 8)
+
+    def test_a_trace_has_each_instruction(self):
+        listed = Filter.from_listing(LISTING)
+        self.assertEqual(listed.trace(UDP), [bpftap.Executed(0, 2048, 0), bpftap.Executed(1, 2048, 0), bpftap.Executed(2, 2048, 0)])
+        self.assertEqual([one.place for one in listed.trace(b"")], [0])
+        # A = 7, M[3] = A, X = M[3], return A.
+        stores = Filter.from_program([(0, 0, 0, 7), (2, 0, 0, 3), (0x61, 0, 0, 3), (0x16, 0, 0, 0)])
+        self.assertEqual(stores.trace(UDP), [(0, 7, 0, None, 0), (1, 7, 0, 3, 7), (2, 7, 7, None, 0), (3, 7, 7, None, 0)])
+        self.assertEqual(len(Filter.from_program([(0, 0, 0, 0)] * 511 + [(6, 0, 0, 0)]).trace(UDP)), 512)
+
+    def test_looks_are_the_bytes_that_decide(self):
+        self.assertEqual(Filter("ether proto 0x800").looks(UDP), [bpftap.Look(12, 2)])
+        self.assertEqual(Filter("len > 30").looks(Packet(UDP, 60)), [(0, 0)])
+        many = " and ".join(["ether[30] = 10"] * 80)
+        self.assertEqual(Filter(many).looks(UDP), [(30, 1)] * 80)
+        with self.assertRaisesRegex(TypeError, "no expression"):
+            Filter.from_listing(LISTING).looks(UDP)
 
     def test_long_texts_are_whole(self):
         longest = Filter.from_program([(6, 0, 0, 262144)] * 512)

@@ -1,3 +1,4 @@
+// SPDX-License-Identifier: MIT OR Apache-2.0
 //! Captures: pcap files of Ethernet frames.
 use std::{fmt, io};
 

@@ -1,3 +1,4 @@
+// SPDX-License-Identifier: MIT OR Apache-2.0
 //! Whether two expressions accept the same packets.
 use crate::stack::deeply;
 use crate::{ffi, Error, Fault};

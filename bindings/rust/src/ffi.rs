@@ -1,8 +1,10 @@
+// SPDX-License-Identifier: MIT OR Apache-2.0
 //! What `bpftap.h` declares, as far as it is used.
-use crate::Span;
+use crate::{Look, Span};
 
 pub const NO_ROOM: u32 = 2;
 pub const END: u32 = 4;
+pub const NO_CELL: u32 = 16;
 
 /// An instruction: `struct bpf_insn` of bpf(4), `struct sock_filter` of Linux.
 ///
@@ -58,6 +60,24 @@ pub struct Reason {
     pub verdict: u32,
     pub size: usize,
     pub place: usize,
+}
+
+#[repr(C)]
+pub struct Traced {
+    pub fault: u32,
+    pub answer: u32,
+    pub size: usize,
+    pub place: usize,
+}
+
+#[repr(C)]
+#[derive(Clone, Copy, Default)]
+pub struct Executed {
+    pub place: usize,
+    pub accumulator: u32,
+    pub index: u32,
+    pub cell: u32,
+    pub value: u32,
 }
 
 #[repr(C)]
@@ -139,6 +159,10 @@ extern "C" {
     pub fn bpftap_program_run_spans(
         program: *const u8, memory: *const u8, memory_size: usize, spans: *const Span, count: usize, answers: *mut u32, room: usize,
     ) -> Result;
+    pub fn bpftap_trace(
+        insns: *const Insn, size: usize, packet: *const u8, captured: usize, wire: u32, to: *mut Executed, room: usize,
+    ) -> Traced;
+    pub fn bpftap_looks(text: *const u8, text_size: usize, packet: *const u8, captured: usize, wire: u32, to: *mut Look, room: usize) -> Result;
     pub fn bpftap_why(text: *const u8, text_size: usize, packet: *const u8, captured: usize, wire: u32, to: *mut u8, room: usize) -> Reason;
     pub fn bpftap_compare(
         first: *const u8, first_size: usize, second: *const u8, second_size: usize, budget: usize, to: *mut u8, room: usize,
@@ -153,6 +177,10 @@ extern "C" {
         room: usize,
     ) -> Replay;
     pub fn bpftap_steps_json(
+        listeners: *const u8, listeners_size: usize, script: *const u8, script_size: usize, captures: *const Capture, count: usize, to: *mut u8,
+        room: usize,
+    ) -> Replay;
+    pub fn bpftap_picture(
         listeners: *const u8, listeners_size: usize, script: *const u8, script_size: usize, captures: *const Capture, count: usize, to: *mut u8,
         room: usize,
     ) -> Replay;

@@ -1,3 +1,4 @@
+// SPDX-License-Identifier: MIT OR Apache-2.0
 //! Filters.
 use std::fmt;
 
@@ -44,6 +45,30 @@ pub struct Span {
     pub captured: u32,
     /// Its length on the wire.
     pub wire: u32,
+}
+
+/// An instruction that was executed, and what the machine holds after it. [`Filter::trace`] has an example.
+#[derive(Clone, Copy, Debug, PartialEq, Eq)]
+pub struct Executed {
+    /// The instruction, counted from 0.
+    pub place: usize,
+    /// The accumulator.
+    pub accumulator: u32,
+    /// The index register.
+    pub index: u32,
+    /// The cell of scratch memory that it stored into, and what, if it stored.
+    pub stored: Option<(u32, u32)>,
+}
+
+/// What a test looked at: `size` bytes of the frame from byte `offset` on, captured or not; or, if both are 0, the length on the wire.
+/// [`Filter::looks`] has an example.
+#[repr(C)]
+#[derive(Clone, Copy, Debug, Default, PartialEq, Eq)]
+pub struct Look {
+    /// Where the bytes begin.
+    pub offset: usize,
+    /// How many there are.
+    pub size: usize,
 }
 
 /// A part of a program's memory, which is aligned as the library wants it.
@@ -205,6 +230,52 @@ impl Filter {
             _ => Verdict::No,
         };
         Ok((verdict, part.to_owned()))
+    }
+
+    /// Which instructions a run over a packet executes, in order.
+    ///
+    /// ```
+    /// use bpftap::{Executed, Filter};
+    ///
+    /// let traced = Filter::from_listing("2\n0 0 0 7\n22 0 0 0\n")?.trace(&[], 0)?;
+    /// assert_eq!(traced[0], Executed { place: 0, accumulator: 7, index: 0, stored: None });
+    /// # Ok::<(), bpftap::Error>(())
+    /// ```
+    pub fn trace(&self, packet: &[u8], wire: u32) -> Result<Vec<Executed>, Error> {
+        let mut to = [ffi::Executed::default(); MAX_INSNS];
+        let (insns, size, data) = (self.insns.as_ptr(), self.insns.len(), packet.as_ptr());
+        let traced = unsafe { ffi::bpftap_trace(insns, size, data, packet.len(), wire, to.as_mut_ptr(), MAX_INSNS) };
+        Error::check(traced.fault, traced.place as u64)?;
+        let stored = |one: &ffi::Executed| Some((one.cell, one.value)).filter(|_| one.cell != ffi::NO_CELL);
+        let executed = |one: &ffi::Executed| Executed { place: one.place, accumulator: one.accumulator, index: one.index, stored: stored(one) };
+        Ok(to[..traced.size].iter().map(executed).collect())
+    }
+
+    /// What the expression looks at of a packet: what each primitive or relation does that is asked, from left to right. Of a program without
+    /// an expression it is `NotText`.
+    ///
+    /// ```
+    /// use bpftap::{Filter, Look};
+    ///
+    /// assert_eq!(Filter::new("ether proto 0x800")?.looks(&[0; 60], 60)?, [Look { offset: 12, size: 2 }]);
+    /// # Ok::<(), bpftap::Error>(())
+    /// ```
+    pub fn looks(&self, packet: &[u8], wire: u32) -> Result<Vec<Look>, Error> {
+        let expression = self.text()?;
+        reading(expression, || {
+            let mut to = vec![Look::default(); 64];
+            loop {
+                let (text, size, data, captured) = (expression.as_ptr(), expression.len(), packet.as_ptr(), packet.len());
+                let made = unsafe { ffi::bpftap_looks(text, size, data, captured, wire, to.as_mut_ptr(), to.len()) };
+                if made.fault == ffi::NO_ROOM {
+                    to.resize(made.size, Look::default());
+                    continue;
+                }
+                Error::check(made.fault, made.place as u64)?;
+                to.truncate(made.size);
+                return Ok(to);
+            }
+        })
     }
 
     /// The expression that was compiled, if the filter is of one.

@@ -1,4 +1,5 @@
 #![doc = include_str!("../README.md")]
+// SPDX-License-Identifier: MIT OR Apache-2.0
 #![warn(missing_docs)]
 
 mod capture;
@@ -14,9 +15,9 @@ pub use capture::{cut, CutError, Form, Packet, Packets, Writer};
 pub use comparison::{compare, Cause, Sameness, Witness};
 pub use error::{Error, Fault};
 pub use ffi::Insn;
-pub use filter::{check, Filter, Span, Verdict};
+pub use filter::{check, Executed, Filter, Look, Span, Verdict};
 pub use listener::{Fed, Listener, Message, Messages, Mode, MAX_CAPACITY};
-pub use steps::{steps, steps_json, Replay};
+pub use steps::{picture, steps, steps_json, Replay};
 
 /// The most captured bytes of a packet.
 pub const MAX_SNAP: u32 = 262_144;

@@ -1,3 +1,4 @@
+// SPDX-License-Identifier: MIT OR Apache-2.0
 //! Steps that are played to listeners over captures.
 use crate::stack::deeply;
 use crate::{ffi, Error, Fault};
@@ -57,6 +58,17 @@ fn refused(error: Error, reports: String) -> Result<Replay, Error> {
 /// ```
 pub fn steps(listeners: &str, script: &str, captures: &[&[u8]]) -> Result<Replay, Error> {
     play(ffi::bpftap_steps, listeners, script, captures)
+}
+
+/// Does the same, and returns the picture that `bpftap steps -p` draws, as SVG.
+///
+/// ```
+/// let replay = bpftap::picture("96 4096\n", "flush 0\n", &[])?;
+/// assert!(replay.reports.starts_with("<svg"));
+/// # Ok::<(), bpftap::Error>(())
+/// ```
+pub fn picture(listeners: &str, script: &str, captures: &[&[u8]]) -> Result<Replay, Error> {
+    play(ffi::bpftap_picture, listeners, script, captures)
 }
 
 /// Does the same, and returns the reports as JSON Lines, as `bpftap steps --json` prints them.

@@ -1,9 +1,10 @@
+// SPDX-License-Identifier: MIT OR Apache-2.0
 //! The crate over the real capture of `examples/`, and its errors.
 use std::io;
 
 use bpftap::{
-    check, compare, cut, steps, steps_json, Cause, CutError, Error, Fault, Fed, Filter, Form, Insn, Listener, Mode, Packet, Packets, Sameness,
-    Span, Verdict, Writer,
+    check, compare, cut, steps, steps_json, Cause, CutError, Error, Executed, Fault, Fed, Filter, Form, Insn, Listener, Look, Mode, Packet, Packets,
+    Sameness, Span, Verdict, Writer,
 };
 
 /// 253 Ethernet frames; tcpdump counts 67 with UDP port 5353.
@@ -125,6 +126,18 @@ fn batches_answer_as_runs_do() {
     assert_eq!((dns.run_each(&[]), dns.run_spans(&[], &[])), (vec![], vec![]));
     assert_eq!(Filter::new("").unwrap().run_spans(&[], &[Span { offset: 9, captured: 9, wire: 9 }]), [bpftap::MAX_SNAP]);
     assert_eq!(Packets::new(&VETH[..200]).unwrap().spans().unwrap_err().to_string(), "TornRecord 2");
+}
+
+#[test]
+fn runs_are_traced() {
+    let listed = Filter::from_listing("4\n40 0 0 12\n21 0 1 2048\n6 0 0 96\n6 0 0 0\n").unwrap();
+    let places = |packet: &[u8]| listed.trace(packet, 38).unwrap().iter().map(|one| one.place).collect::<Vec<_>>();
+    assert_eq!((places(&UDP), places(&[])), (vec![0, 1, 2], vec![0]));
+    let stores = Filter::from_listing("3\n0 0 0 7\n2 0 0 3\n22 0 0 0\n").unwrap().trace(&UDP, 38).unwrap();
+    assert_eq!(stores[1], Executed { place: 1, accumulator: 7, index: 0, stored: Some((3, 7)) });
+    let many = vec!["ether[30] = 10"; 80].join(" and ");
+    assert_eq!(Filter::new(&many).unwrap().looks(&UDP, 38).unwrap(), [Look { offset: 30, size: 1 }; 80]);
+    assert_eq!(listed.looks(&UDP, 38).unwrap_err().fault, Fault::NotText);
 }
 
 #[test]

@@ -1,14 +1,17 @@
 -- Steps that are played to listeners over captures.
 use Rattle.std.specs.Prelude.{◌≡◌, ◌==◌, ◌⊎◌, ℕ, List, Option, Some, None, map, if◌then◌else◌}
 use Rattle.savefile.specs.declared.fault.Fault.{Fault as RecordFault}
+use Rattle.tap_steps.specs.declared.answer.Answered.{Answered}
 use Rattle.tap_steps.specs.declared.filters.Spec.{Spec}
 use Rattle.tap_steps.specs.declared.step.Step.{Step}
 use Rattle.tap_steps.specs.declared.playlist.PlacedPacket.{PlacedPacket}
 use Rattle.tap_steps.specs.declared.report.Report.{Report}
+use Rattle.tap.specs.Answers.{Traces}
 use Rattle.tap.specs.Headline.{Replays}
 use Rattle.tap.specs.Refusals.{IsFirst, NoneStands}
 use Rattle.cli_json.specs.declared.form.LineForm.{LineForm}
 use Rattle.cli_text.specs.Files.{IsFileOf}
+use Rattle.cli_steps.specs.Answers.{ArePrintedAnswers}
 use Rattle.cli_steps.specs.Listeners.{IsListenerLine}
 use Rattle.cli_steps.specs.Script.{IsStepLine}
 use Rattle.cli_steps.specs.Stepping.{IsRefusedFiles}
@@ -40,6 +43,13 @@ abbrev pub IsReported : LineForm → List ℕ → List ℕ → List (List ℕ) �
 IsReported form listeners script captures text record_fault =
     (reports : List Report) × IsPlayed listeners script captures reports record_fault × (text ≡ reports_in form reports)
 
+-- the answers of each listener to its own steps in this form, the steps being played
+abbrev pub IsAnswered : LineForm → List ℕ → List ℕ → List (List ℕ) → List ℕ → Option (ℕ × RecordFault) → Type 0
+IsAnswered form listeners script captures text record_fault =
+    (reports : List Report) × (played : IsPlayed listeners script captures reports record_fault) × (answers : List (List Answered))
+    × Traces captures played.specs played.steps played.playlist record_fault answers
+    × ArePrintedAnswers form played.specs played.steps played.playlist answers text
+
 -- some text, the steps being played
 abbrev pub IsDrawn : List ℕ → List ℕ → List (List ℕ) → Option (ℕ × RecordFault) → Type 0
 IsDrawn listeners script captures record_fault = (reports : List Report) × IsPlayed listeners script captures reports record_fault
@@ -68,6 +78,13 @@ no_replay failure = record { fault = code_of failure; number = number_of failure
 abbrev pub PutsPicture : List ℕ → List ℕ → List (List ℕ) → List ℕ → List ℕ → BpftapReplay → Type 0
 PutsPicture listeners script captures old new told =
     ((text : List ℕ) × (record_fault : Option (ℕ × RecordFault)) × (put : BpftapResult) × IsDrawn listeners script captures record_fault
+    × PutsText text old new put × (told ≡ replay_of put record_fault))
+    ⊎ ((failure : Failure) × IsUnplayed listeners script captures failure × (told ≡ no_replay failure) × (new ≡ old))
+
+-- The answers are put in this form. Or there are none, and all is as it was.
+abbrev pub PutsAnswers : LineForm → List ℕ → List ℕ → List (List ℕ) → List ℕ → List ℕ → BpftapReplay → Type 0
+PutsAnswers form listeners script captures old new told =
+    ((text : List ℕ) × (record_fault : Option (ℕ × RecordFault)) × (put : BpftapResult) × IsAnswered form listeners script captures text record_fault
     × PutsText text old new put × (told ≡ replay_of put record_fault))
     ⊎ ((failure : Failure) × IsUnplayed listeners script captures failure × (told ≡ no_replay failure) × (new ≡ old))
 

@@ -21,6 +21,7 @@ mod outcome;
 mod pictures;
 mod programs;
 mod reasons;
+mod step_answers;
 mod steps;
 mod texts;
 mod traces;

@@ -4,8 +4,9 @@ ghost use Rattle.std.specs.Prelude.{◌≡◌};
 ghost use Rattle.bpftap_c.specs.Buffers.{text_of};
 ghost use Rattle.bpftap_c.specs.Messages.{no_message, GivesMessage, LiesWithin};
 
-use crate::buffers::{BpftapBuffer, FIELDS_LEN, record_size};
+use crate::buffers::{BpftapBuffer, FIELDS_LEN};
 use byteorder::{ByteOrder, LittleEndian};
+use listener::size;
 
 /// A message of a batch.
 #[repr(C)]
@@ -53,7 +54,7 @@ fn next_message(text: &[u8], offset: &mut usize) -> BpftapMessage
     }
     let (_before, rest) = text.split_at(at);
     let captured = LittleEndian::read_u32(&rest[8..]);
-    let size = record_size(captured as usize);
+    let size = size(captured);
     if size > rest.len() {
         return no_message(at);
     }
