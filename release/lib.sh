@@ -91,11 +91,16 @@ is_closed() { # PATH..
   [ -z "$(find "$@" -maxdepth 0 '(' -perm /022 ! '(' -type d -perm -1000 ')' $whose ')' 2>&1)" ]
 }
 
-# Whether only the caller, root, or the owner of this script can have changed a file in `out` or the cache.
+# Whether only the caller, root, or the owner of this script can have changed a file in `out` or the cache; and whether that is so of all files in
+# a folder.
 is_ours() ( # PATH
-  whose="-o ! -uid $(id -u) ! -uid 0 ! -uid $(stat -L -c %u -- "$root/release/lib.sh")"
+  whose=$(of_others)
   is_closed "$1"
 )
+are_ours() ( # FOLDER
+  is_ours "$1" && [ -z "$(find "$1" '(' -perm /022 $(of_others) ')' 2>&1)" ]
+)
+of_others() { echo "-o ! -uid $(id -u) ! -uid 0 ! -uid $(stat -L -c %u -- "$root/release/lib.sh")"; }
 
 # Sets `program` to the path of this folder's program, and `origin` to how it came there. Both are noted in the folder that has it, `out` or the
 # cache, with the state, so that the next call need not read the files. A note is taken only if nobody else can have written it.
@@ -153,6 +158,14 @@ choose_released() {
 # The checksums of a folder's files. A link is none.
 contents() (cd -- "$1" && find . -type f -printf '%P\0' | LC_ALL=C sort -z | xargs -0 sha256sum)
 
+# Chooses again, for those who copy what is beside the program: sets `made` to its folder, of which every file is compared with its checksum.
+choose_all() {
+  choose_program
+  made=${program%/bin/bpftap}
+  case $made in "$place"/built/*) ;; *) return 0 ;; esac
+  are_ours "$made" && contents "$made" | cmp -s - "$made.sums" || refuse "$made is not what ./build left: remove it, and run ./build"
+}
+
 # Prints the path of this folder's program.
 program_path() { find_program && printf '%s\n' "$program"; }
 
@@ -190,6 +203,7 @@ keep() { # KEY
   while read -r mode from to; do
     install -D -m "$mode" -- "$root/$from" "$built/new/$to" || exit
   done <"$root/release/files"
+  contents "$built/new" >"$built/$1.sums"
   mv -T -- "$built/new" "$built/$1"
 }
 

@@ -12,12 +12,6 @@ from .release import Clone, Within
 
 TEXTS = ["CHANGELOG.md", "LICENSE-APACHE", "LICENSE-MIT", "NOTICES", "README.md"]
 
-
-def listed(folder):
-    """The files below a folder of the repository, by their paths in the repository."""
-    return sorted(str(path.relative_to(ROOT)) for path in (ROOT / folder).rglob("*") if path.is_file())
-
-
 # Below the prefix: the program, the pages, the completions, and the documents, in the order in which they are put.
 PUT = {
     "bin/bpftap": None,
@@ -25,15 +19,15 @@ PUT = {
     "share/bash-completion/completions/bpftap": "completions/bpftap.bash",
     "share/zsh/site-functions/_bpftap": "completions/_bpftap",
     "share/fish/vendor_completions.d/bpftap.fish": "completions/bpftap.fish",
-    **{f"share/doc/bpftap/{name}": name for name in [*TEXTS, *listed("docs"), *listed("examples")]},
+    **{f"share/doc/bpftap/{name}": name for name in (ROOT / "release" / "documents").read_text().splitlines()},
 }
 
 
 def source_in(scene, **program):
     """A clone with all that is put."""
     clone = Clone(scene, **program)
-    for name in ["install", "package", *TEXTS]:
-        shutil.copy(ROOT / name, clone.folder)
+    for name in ["install", "package", "release/documents", *TEXTS]:
+        shutil.copy(ROOT / name, clone.folder / name)
     for name in ["man", "completions", "docs", "examples", "packaging"]:
         shutil.copytree(ROOT / name, clone.folder / name)
     return clone
@@ -45,8 +39,8 @@ def install(scene, source, *words, path="/usr/bin:/bin", shell="/bin/bash", prog
 
 
 def put_below(prefix):
-    """The files below a prefix, by their paths there, but for the list of folders that were made."""
-    return {str(path.relative_to(prefix)) for path in prefix.rglob("*") if not path.is_dir() and path.name != ".folders"}
+    """The files below a prefix, by their paths there, but for the list of what was put."""
+    return {str(path.relative_to(prefix)) for path in prefix.rglob("*") if not path.is_dir() and path.name != ".installed"}
 
 
 # A link of a page, whose text is what a reader sees.
@@ -170,6 +164,48 @@ def without_a_program_nothing_is_put(scene):
     line = f"bpftap: the toolchain's command 'rt' is not on the PATH\ninstall: nothing was put under {scene.folder}/there\n"
     scene.check("install", install(scene, source, "there"), Seen(b"", line.encode(), 1))
     scene.check("put", put_below(scene.folder / "there"), set())
+
+
+@case
+def documents_are_those_of_the_repository(scene):
+    """release/documents lists what git tracks; what a user keeps beside it is not installed."""
+    if scene.has("git") and (ROOT / ".git").exists():
+        tracked = subprocess.run(["git", "ls-files", *TEXTS, "docs", "examples"], cwd=ROOT, stdout=subprocess.PIPE, text=True, timeout=LIMIT).stdout
+        scene.check("listed", sorted(tracked.splitlines()), (ROOT / "release" / "documents").read_text().splitlines())
+    source = source_in(scene)
+    for name in ["examples/my capture.pcap", "docs/.README.md.swp", "notes.md"]:
+        (source.folder / name).write_text("a user's own\n")
+    scene.check("install", install(scene, source, str(scene.folder / "there")).status, 0)
+    scene.check("put", put_below(scene.folder / "there"), set(PUT))
+
+
+@case
+def what_an_older_version_put_is_removed(scene):
+    """`--remove` takes what was put there, not what would be put today."""
+    source, prefix = source_in(scene), scene.folder / "there"
+    page = source.folder / "man" / "bpftap-old.1"
+    page.write_text("old\n")
+    scene.check("install", install(scene, source, str(prefix)).status, 0)
+    page.unlink()
+    scene.check("again", install(scene, source, str(prefix)).status, 0)
+    scene.check("remove", (install(scene, source, "--remove", str(prefix)).status, prefix.exists()), (0, False))
+
+
+@case
+def what_was_built_and_changed_is_not_installed(scene):
+    """A file of what was built here that was changed, or that others can write to, is not installed."""
+    source = source_in(scene)
+    source.run()
+    built = source.folder / "out" / "built" / source.lib("sources_key").out.decode().strip()
+    line = f"bpftap: {built} is not what ./build left: remove it, and run ./build\ninstall: nothing was put under {scene.folder}/there\n"
+    refused = Seen(b"", line.encode(), 1)
+    (built / "lib").mkdir()
+    scene.check("as it was", install(scene, source, str(scene.folder / "first")).status, 0)
+    (built / "lib").chmod(0o777)
+    scene.check("open to others", install(scene, source, str(scene.folder / "there")), refused)
+    (built / "lib").chmod(0o755)
+    (built / "lib" / "libbpftap.so.1").write_text("another\n")
+    scene.check("another file", install(scene, source, str(scene.folder / "there")), refused)
 
 
 @case
