@@ -1,4 +1,5 @@
 """`./install` and `./package`: what is put where, what is printed, and what is refused. A stand-in takes the program's place."""
+import json
 import pathlib
 import re
 import shutil
@@ -299,22 +300,28 @@ def packages_have_what_is_installed(scene):
     seen = install(scene, source, str(packages), program="package")
     names = sorted(path.name for path in packages.iterdir())
     version = re.fullmatch(r"bpftap-(.*)-x86_64-linux\.tar\.gz", names[0])[1]
-    scene.check("names", names, [f"bpftap-{version}-x86_64-linux.tar.gz", f"bpftap_{version}_amd64.deb"])
+    kinds = [f"bpftap-{version}-x86_64-linux.tar.gz", f"bpftap-{version}.spdx.json", f"bpftap_{version}_amd64.deb"]
+    scene.check("names", names, kinds)
     scene.check("printed", seen, Seen("".join(f"{packages}/{name}\n" for name in names).encode(), b"", 0))
     root = scene.folder / "root"
-    subprocess.run(["dpkg-deb", "-x", packages / names[1], root], check=True)
+    package = packages / names[2]
+    subprocess.run(["dpkg-deb", "-x", package, root], check=True)
     zipped = {f"{name}.gz" if name.startswith("share/man/man1/") else name for name in PUT if not name.startswith("share/man/man3/")}
     zipped = {name.replace("site-functions", "vendor-completions") for name in zipped}
     zipped -= {f"share/doc/bpftap/{name}" for name in ["CHANGELOG.md", "LICENSE-APACHE", "LICENSE-MIT"]}
     zipped |= {"share/doc/bpftap/changelog.gz", "share/doc/bpftap/copyright"}
     scene.check("files of the package", put_below(root), {f"usr/{name}" for name in zipped})
     run_all_examples(scene, root / "usr", "by the package")
-    fields = subprocess.run(["dpkg-deb", "-f", packages / names[1], "Package", "Version", "Depends"], stdout=subprocess.PIPE, text=True).stdout
+    fields = subprocess.run(["dpkg-deb", "-f", package, "Package", "Version", "Depends"], stdout=subprocess.PIPE, text=True).stdout
     scene.check("fields", fields, f"Package: bpftap\nVersion: {version}\nDepends: libc6 (>= 2.34)\n")
-    owners = subprocess.run(["dpkg-deb", "-c", packages / names[1]], stdout=subprocess.PIPE, text=True).stdout
+    owners = subprocess.run(["dpkg-deb", "-c", package], stdout=subprocess.PIPE, text=True).stdout
     scene.check("owners", {line.split()[1] for line in owners.splitlines()}, {"root/root"})
     subprocess.run(["tar", "-xzf", packages / names[0], "-C", scene.folder], check=True)
     scene.check("files of the archive", put_below(scene.folder / f"bpftap-{version}"), set(PUT))
     again = scene.folder / "again"
     install(scene, source, str(again), program="package")
-    scene.check("the same again", [(again / name).read_bytes() == (packages / name).read_bytes() for name in names], [True, True])
+    scene.check("the same again", [name for name in names if (again / name).read_bytes() != (packages / name).read_bytes()], [])
+    made_of = json.loads((packages / names[1]).read_text())
+    known = {"SPDXRef-DOCUMENT", *(each["SPDXID"] for each in [*made_of["packages"], *made_of["files"]])}
+    named = {each[key] for each in made_of["relationships"] for key in ("spdxElementId", "relatedSpdxElement")}
+    scene.check("what it is made of", (named - known, [each["fileName"] for each in made_of["files"]]), (set(), ["./bpftap-x86_64-linux/bin/bpftap"]))
