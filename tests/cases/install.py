@@ -36,7 +36,9 @@ def source_in(scene, **program):
 
 def install(scene, source, *words, path="/usr/bin:/bin", shell="/bin/bash", program="install"):
     """Runs `install` of a source folder, in the case's folder, without the toolchain, as a user of this shell."""
-    return source.run(*words, program=program, env={**source.bare(), "PATH": path, "SHELL": shell})
+    # Packages are packed by xz, for minutes on a busy machine.
+    limit = 5 * LIMIT if program == "package" else LIMIT
+    return source.run(*words, program=program, env={**source.bare(), "PATH": path, "SHELL": shell}, timeout=limit)
 
 
 def put_below(prefix):
