@@ -21,10 +21,8 @@ fn put_totals(line: &mut String, contents: &Contents) -> Result<(), AllocError>
         captured,
         ..
     } = *contents;
-    write!(
-        line,
-        ",\"packets\":{packets},\"length\":{len},\"captured\":{captured}"
-    )
+    write!(line, ",\"packets\":{packets},\"length\":{len}")?;
+    write!(line, ",\"captured\":{captured}")
 }
 
 /// Appends a moment after its name, if there is one.
