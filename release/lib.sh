@@ -5,9 +5,11 @@
 # release/SHA256SUMS has the checksums of the archives and of the page. Its comments have the key of the sources, the toolchain that built them, and
 # the checksum of each file of an archive.
 main=bpftap-x86_64-linux.tar.gz sums=release/SHA256SUMS page=bpftap.html
-# A program is unpacked and noted in `out`, or here if that is read-only. A relative path would be another folder at each call.
-case ${HOME-} in /*) cache=$HOME/.cache/bpftap ;; *) cache= ;; esac
-case ${XDG_CACHE_HOME-} in /*) cache=$XDG_CACHE_HOME/bpftap ;; esac
+# A program is unpacked and noted in `out`, or here if that is read-only. A relative path would be another folder at each call; a home that does not
+# exist is not made.
+case ${HOME-} in /*) cache=$HOME/.cache/bpftap home=$HOME ;; *) cache= home=/ ;; esac
+case ${XDG_CACHE_HOME-} in /*) cache=$XDG_CACHE_HOME/bpftap home=${XDG_CACHE_HOME%/*}/ ;; esac
+[ -d "$home" ] || cache=
 
 # One line, and a status that is none of the program's own.
 refuse() { printf 'bpftap: %s\n' "$*" >&2; exit 125; }
@@ -177,7 +179,7 @@ unpack() { # ARCHIVE
   [ "$sum" = "$(sum_of "$archive")" ] || refuse "release/$archive is damaged: its SHA-256 is not the one in $sums"
   { may_make "$root/out" && unpack_in "$root/out"; } || unpack_in "$cache" || unpack_in "$root/out" ||
     refuse "no program can be put in $root/out or ${cache:-a cache}: set XDG_CACHE_HOME to a folder that only you can write to"
-  [ "$(contents "$unpacked")" = "$(listed "$archive")" ] || refuse "$unpacked is not what $sums says"
+  [ "$(contents "$unpacked")" = "$(listed "$archive")" ] || refuse "$unpacked is not what $sums says: remove it"
 }
 
 # Unpacks in `out` or the cache, unless that was done, and says whether the program is there and others cannot change it. The folder is there at once

@@ -219,7 +219,7 @@ def what_was_changed_is_not_installed(scene):
     unpacked = next((source.folder / "out" / "released").iterdir())
     (unpacked / "lib").mkdir()
     (unpacked / "lib" / "libbpftap.a").write_text("another\n")
-    line = f"bpftap: {unpacked} is not what release/SHA256SUMS says\n"
+    line = f"bpftap: {unpacked} is not what release/SHA256SUMS says: remove it\n"
     seen = install(scene, source, str(scene.folder / "there"))
     scene.check("install", seen, Seen(b"", f"{line}install: nothing was put under {scene.folder}/there\n".encode(), 1))
     scene.check("put", put_below(scene.folder / "there"), set())

@@ -171,7 +171,7 @@ def a_damaged_archive_is_refused(scene):
     sums.write_text(named)
     change(sums, named.index("  bin/bpftap") - 1)
     seen = clone.call("check", "ip")
-    scene.check("another checksum of the program", (seen.err.endswith(b" is not what release/SHA256SUMS says\n"), seen.status), (True, 125))
+    scene.check("another checksum of the program", (seen.err.endswith(b" is not what release/SHA256SUMS says: remove it\n"), seen.status), (True, 125))
     scene.check("run", (clone.home / "ran").exists(), False)
 
 
@@ -183,7 +183,7 @@ def a_program_that_was_changed_is_not_run(scene):
     program = next((clone.folder / "out").glob("released/*/bin/bpftap"))
     program.write_text(MARKS)
     seen = clone.call("check", "ip")
-    scene.check("changed", (seen.err.endswith(b" is not what release/SHA256SUMS says\n"), seen.status), (True, 125))
+    scene.check("changed", (seen.err.endswith(b" is not what release/SHA256SUMS says: remove it\n"), seen.status), (True, 125))
     scene.check("run", (clone.home / "ran").exists(), False)
     program.write_text(MADE)
     scene.check("put back", clone.call(), clone.answer())
@@ -197,7 +197,7 @@ def an_archive_has_what_is_listed_and_no_more(scene):
     named = sums.read_text()
     sums.write_text("".join(line for line in named.splitlines(True) if not line.startswith("# in ")))
     seen = clone.call("check", "ip")
-    scene.check("not listed", (seen.err.endswith(b" is not what release/SHA256SUMS says\n"), seen.status), (True, 125))
+    scene.check("not listed", (seen.err.endswith(b" is not what release/SHA256SUMS says: remove it\n"), seen.status), (True, 125))
     sums.write_text(named)
     shutil.rmtree(clone.folder / "out")
     tree = scene.folder / "tree"
@@ -209,7 +209,7 @@ def an_archive_has_what_is_listed_and_no_more(scene):
     digest, name = hashlib.sha256((clone.folder / ARCHIVE).read_bytes()).hexdigest(), ARCHIVE.removeprefix("release/")
     sums.write_text("".join(f"{digest}  {name}\n" if line.endswith(f"  {name}\n") else line for line in named.splitlines(True)))
     seen = clone.call("check", "ip")
-    scene.check("a link", (seen.err.endswith(b" is not what release/SHA256SUMS says\n"), seen.status), (True, 125))
+    scene.check("a link", (seen.err.endswith(b" is not what release/SHA256SUMS says: remove it\n"), seen.status), (True, 125))
     scene.check("run", (clone.home / "ran").exists(), False)
 
 
@@ -301,8 +301,10 @@ def a_folder_that_cannot_be_written_uses_the_cache(scene):
     cache = {**clone.bare(), "XDG_CACHE_HOME": str(scene.folder / "a cache")}
     scene.check("another cache", clone.run(program="bpftap", env=cache), clone.answer())
     scene.check("unpacked there", clone.is_unpacked_in(scene.folder / "a cache" / "bpftap"), ["bpftap"])
-    for home, place in [({"HOME": "/dev/null"}, "/dev/null/.cache/bpftap"), ({}, "a cache"), ({"HOME": "home"}, "a cache")]:
-        scene.check(f"no cache by {home}", clone.run(program="bpftap", env={"PATH": "/usr/bin:/bin", **home}), no_place(clone, place))
+    lacks = str(scene.folder / "lacks")
+    for home in [{"HOME": "/dev/null"}, {}, {"HOME": "home"}, {"HOME": lacks}, {"HOME": str(clone.home), "XDG_CACHE_HOME": f"{lacks}/cache"}]:
+        scene.check(f"no cache by {home}", clone.run(program="bpftap", env={"PATH": "/usr/bin:/bin", **home}), no_place(clone, "a cache"))
+    scene.check("a home that was not there", os.path.exists(lacks), False)
 
 
 @case
