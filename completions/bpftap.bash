@@ -1,14 +1,15 @@
 # Completions of bpftap for bash. Source this file, or let bash-completion find it under the name bpftap.
 
-_bpftap_commands='check explain compare cut split steps run help'
+_bpftap_commands='check explain compare info cut split steps run help'
+_bpftap_topics='check explain compare info cut split steps run expressions'
 
 # Whether a value has to follow an option, and what it may be then: words, the name of a file, or anything.
 _bpftap_value() {
   case $1,$2 in
     cut,-o | split,-o) mapfile -t COMPREPLY < <(compgen -W 'little big' -- "$3") ;;
     cut,-u | split,-u) mapfile -t COMPREPLY < <(compgen -W 'micro nano' -- "$3") ;;
-    check,-f | explain,-f | compare,-f | compare,-w | cut,-f | steps,-p) compopt -o default ;;
-    check,-s | explain,-s | explain,-e | explain,-p | compare,-s | cut,-s | cut,-e) ;;
+    check,-f | explain,-f | compare,-f | compare,-w | cut,-f | cut,-w | steps,-p) compopt -o default ;;
+    check,-s | check,-e | explain,-s | explain,-e | explain,-p | compare,-s | cut,-s | cut,-e) ;;
     *) return 1 ;;
   esac
 }
@@ -17,11 +18,11 @@ _bpftap_value() {
 _bpftap_options() {
   case $1 in
     '') echo '--hints -h --help -V --version' ;;
-    check) echo '-d -x --json -s -f -h --help' ;;
+    check) echo '-d -x --json -s -e -f -h --help' ;;
     explain) echo '-s -e -f -p -q --json -h --help' ;;
     compare) echo '-s -f -q -w -h --help' ;;
-    run) echo '--json -h --help' ;;
-    cut) echo '-s -e -f -o -u -c --json -h --help' ;;
+    info | run) echo '--json -h --help' ;;
+    cut) echo '-s -e -f -o -u -c -w --json -h --help' ;;
     split) echo '-o -u --json -h --help' ;;
     steps) echo '-v -p --json -h --help' ;;
   esac
@@ -46,9 +47,9 @@ _bpftap() {
   fi
   case $command in
     '') mapfile -t COMPREPLY < <(compgen -W "$_bpftap_commands" -- "$word") ;;
-    help) mapfile -t COMPREPLY < <(compgen -W "${_bpftap_commands% help}" -- "$word") ;;
+    help) mapfile -t COMPREPLY < <(compgen -W "$_bpftap_topics" -- "$word") ;;
     # The word of `check` is an expression.
-    explain | compare | cut | split | steps | run) compopt -o default ;;
+    explain | compare | info | cut | split | steps | run) compopt -o default ;;
   esac
 }
 

@@ -1,30 +1,37 @@
+/* SPDX-License-Identifier: MIT OR Apache-2.0 */
 /* bpftap.h: the proved filter compiler, filter machine, capture cutter and tap of bpftap, for C and C++.
  *
  *     cc tool.c $(pkg-config --cflags --libs bpftap)
  *
- * The library is for 64-bit Linux on x86-64 and needs the C library only.
+ * The library is for 64-bit Linux on x86-64-v2 (any processor since about 2009: SSE4.2, POPCNT). On an older one the loader refuses the
+ * shared library: *CPU ISA level is lower than required*; a program with the archive ends by SIGILL. The archive takes malloc, realloc,
+ * free, memcpy, memmove and memset from the program's C library, and the shared library needs no library by name, so that one file serves
+ * glibc and musl.
  *
  * What every call has in common
  *
  *   - A text, a capture or an array is a pointer and the number of its items. A text need not end with a zero byte.
  *   - What a call writes goes into memory of the caller. It takes that memory as a pointer and the number of items that it has room
- *     for, and writes nothing past those. A call that fails writes nothing there, but for these: bpftap_cut, bpftap_steps and
- *     bpftap_steps_json write what comes before a record that cannot be read; bpftap_program_init a program that rejects every packet; bpftap_listener_open a closed
- *     listener.
+ *     for, and writes nothing past those. A call that fails writes nothing there, but for these: bpftap_cut, bpftap_picture and the calls
+ *     bpftap_steps.. write what comes before a record that cannot be read; bpftap_program_init a program that rejects every packet;
+ *     bpftap_listener_open a closed listener.
  *   - A text that a call writes is followed by a zero byte. `size` does not count that byte, but there has to be room for it.
  *   - Nothing is kept between calls, and nothing that is allocated is handed out. There is no global state, and nothing is printed.
  *     Calls may run at the same time in different threads.
- *   - 128 KiB of stack are enough for a call that reads no expression. bpftap_compile, bpftap_print, bpftap_why, bpftap_compare,
- *     bpftap_steps and bpftap_steps_json need 512 KiB for expressions of up to 1,000 bytes, and 2 MiB for any: give 2 MiB to a thread that
- *     takes expressions from outside. If both expressions of bpftap_compare ask for many bytes, it needs 2 MiB for expressions of up to
- *     1,000 bytes each, and 16 MiB for any. This is measured, not proved.
+ *   - 128 KiB of stack are enough for a call that reads no expression. bpftap_compile, bpftap_print, bpftap_why, bpftap_looks,
+ *     bpftap_compare, bpftap_picture and the calls bpftap_steps.. need 512 KiB for expressions of up to 1,000 bytes, and 2 MiB for any:
+ *     give 2 MiB to a thread that takes expressions from outside. If both expressions of bpftap_compare ask for many bytes, it needs
+ *     2 MiB for expressions of up to 1,000 bytes each, and 16 MiB for any. This is measured, not proved.
  *
  * What the caller owes
  *
- *   - Each pointer is not NULL, aligned for its type, and valid for its whole number of items, even if that number is 0.
+ *   - Each pointer to items is aligned for its type, and valid for their whole number; it may be NULL if that number, or the room, is 0.
+ *     Every other pointer is not NULL.
  *   - Memory that a call writes does not overlap any other memory that the same call is given.
  *   - Memory that a call reads has been initialised, and a program by bpftap_program_init, a reader by bpftap_open, a listener by
- *     bpftap_listener_open. From then on only the calls write to a listener and its buffers, one call at a time.
+ *     bpftap_listener_open. From then on no one writes into a prepared program, and only the calls write to a listener and its buffers,
+ *     one call at a time: what is written there by other hands makes a later call read or write anywhere. A reader belongs to one thread
+ *     at a time, as every struct does that a call changes.
  *   - `malloc`, `realloc` and `free` come from one allocator, and no call is made from a signal handler.
  */
 #ifndef BPFTAP_H
@@ -97,6 +104,8 @@ enum bpftap_fault {
     BPFTAP_STEPS_TOO_MANY = 90, /* there are more than 64 listeners, or more than 65,536 captures */
     BPFTAP_NO_LISTENER = 91     /* step `place`, from 0, names a listener that does not exist */
 };
+
+#define BPFTAP_VERSION_NUMBER 20000 /* 2.0.0: major * 10,000 + minor * 100 + patch */
 
 #define BPFTAP_MAX_INSNS 512        /* instructions of a program */
 #define BPFTAP_MAX_SNAP 262144      /* captured bytes of a packet */
@@ -190,6 +199,52 @@ struct bpftap_result bpftap_run_spans(const BPFTAP_INSN *insns, size_t size, con
 struct bpftap_result bpftap_run_joined(const BPFTAP_INSN *insns, size_t size, const uint8_t *memory, size_t memory_size,
                                        const uint32_t *sizes, size_t count, uint32_t *answers, size_t room);
 
+/* The same of a program that was prepared: nothing is checked again, so a batch may be one packet. Several threads may run a program at
+ * once, each with answers of its own. Faults: NO_ROOM. */
+struct bpftap_result bpftap_program_run_each(const struct bpftap_program *program, const struct bpftap_packet *packets, size_t count,
+                                             uint32_t *answers, size_t room);
+struct bpftap_result bpftap_program_run_spans(const struct bpftap_program *program, const uint8_t *memory, size_t memory_size,
+                                              const struct bpftap_span *spans, size_t count, uint32_t *answers, size_t room);
+struct bpftap_result bpftap_program_run_joined(const struct bpftap_program *program, const uint8_t *memory, size_t memory_size,
+                                               const uint32_t *sizes, size_t count, uint32_t *answers, size_t room);
+
+/* ---- Step by step ---- */
+
+#define BPFTAP_NO_CELL 16
+
+/* An instruction that was executed, and what the machine holds after it. */
+struct bpftap_executed {
+    size_t place;         /* the instruction, counted from 0 */
+    uint32_t accumulator; /* the accumulator */
+    uint32_t index;       /* the index register */
+    uint32_t cell;        /* the cell of scratch memory that it stored into, or BPFTAP_NO_CELL */
+    uint32_t value;       /* what it stored; 0 if it stored nothing */
+};
+
+struct bpftap_traced {
+    uint32_t fault;
+    uint32_t answer; /* what the program answers, also with BPFTAP_NO_ROOM; 0 with any other fault */
+    size_t size;
+    size_t place;
+};
+
+/* Runs a program on a packet, and writes each instruction that it executes, in order. The last one ends the run: a return, a load past the
+ * captured bytes, or a division by an index register of 0. BPFTAP_MAX_INSNS are always room enough.
+ * Faults: those of instructions, NO_ROOM, NO_MEMORY. */
+struct bpftap_traced bpftap_trace(const BPFTAP_INSN *insns, size_t size, const uint8_t *packet, size_t captured, uint32_t wire,
+                                  struct bpftap_executed *to, size_t room);
+
+/* What a test looked at: `size` bytes of the frame from byte `offset` on, captured or not; or, if both are 0, the length on the wire. */
+struct bpftap_look {
+    size_t offset;
+    size_t size;
+};
+
+/* Writes what an expression looks at of a packet: what each primitive or relation does that is asked, from left to right. The same bytes
+ * may come more than once. Faults: those of bpftap_print. */
+struct bpftap_result bpftap_looks(const char *text, size_t text_size, const uint8_t *packet, size_t captured, uint32_t wire,
+                                  struct bpftap_look *to, size_t room);
+
 /* ---- Why ---- */
 
 enum bpftap_verdict { BPFTAP_NO = 0, BPFTAP_YES = 1, BPFTAP_ABORT = 2 };
@@ -213,8 +268,9 @@ struct bpftap_reason bpftap_why(const char *text, size_t text_size, const uint8_
 enum bpftap_sameness {
     BPFTAP_SAME = 0,             /* both accept the same packets, of every captured length and every length on the wire */
     BPFTAP_SAME_AS_CAPTURED = 1, /* so it is of packets of which no more bytes were captured than were on the wire */
-    BPFTAP_SHORT = 2,            /* one accepts the packet that is written, and the other one aborts; of packets of which no more bytes were
-                                    captured than were on the wire, none gets YES from one and NO from the other */
+    BPFTAP_SHORT = 2,            /* they differ only where one aborts: one accepts the packet that is written, which is too short for the
+                                    other one; of packets of which no more bytes were captured than were on the wire, none gets YES from
+                                    one and NO from the other */
     BPFTAP_DIFFER = 3,           /* one answers YES to the packet that is written, and the other one NO */
     BPFTAP_NOT_DECIDED = 4       /* nothing is claimed */
 };
@@ -263,7 +319,7 @@ struct bpftap_record {
     uint32_t fault;    /* BPFTAP_OK, BPFTAP_END, or why there is no record; the numbers below are 0 then */
     uint32_t seconds;  /* since 1970 */
     uint32_t nanos;    /* below 1,000,000,000 */
-    uint32_t captured; /* the number of captured bytes, at most BPFTAP_MAX_SNAP */
+    uint32_t captured; /* the number of captured bytes, at most BPFTAP_MAX_SNAP; it may be above the header's snapshot length */
     uint32_t wire;     /* the number of bytes on the wire */
 };
 
@@ -279,6 +335,7 @@ struct bpftap_record {
 struct bpftap_reader bpftap_open(const uint8_t *memory, size_t size);
 
 /* Reads the next record and moves the reader past it. If there is none, or it cannot be read, the reader stays where it is.
+ * A record may have more captured bytes than the header's snapshot length: all of them are kept, where libpcap cuts to that length.
  * Faults: END, TORN_RECORD, BAD_FRACTION, RECORD_TOO_LONG, COUNT_FULL; of a reader whose header was refused, the fault of bpftap_open.
  *
  * The memory may be a window of a longer capture, with room for a whole record: 262,160 bytes (BPFTAP_MAX_SNAP + 16). If TORN_RECORD or END
@@ -327,7 +384,9 @@ struct bpftap_result bpftap_cut(const uint8_t *capture, size_t capture_size, con
  * All its memory is the caller's, and it needs no clean-up. No call copies a packet but bpftap_listener_arrive, which copies the bytes that
  * are kept once; what is read stays in the buffer that was exchanged for it. */
 
-/* A buffer: messages are in the first `size` of the `room` bytes that it has. */
+/* A buffer: messages are in the first `size` of the `room` bytes that it has. Only the calls set `size` of a listener's buffers, which is
+ * never above `room` then. bpftap_listener_read takes no notice of the `size` of the buffer that it is given, and bpftap_listener_next
+ * takes one above `room` as `room`. */
 struct bpftap_buffer {
     uint8_t *bytes;
     size_t room;
@@ -380,7 +439,8 @@ bool bpftap_listener_flush(struct bpftap_listener *listener);
  * Faults: BAD_CAPACITY (`batch` has more or less room than the listener's buffers); all is as it was then. */
 struct bpftap_result bpftap_listener_read(struct bpftap_listener *listener, struct bpftap_buffer *batch);
 
-/* Closes a listener: from now on nothing changes, nothing is read, and packets that arrive are not counted. */
+/* Closes a listener: from now on nothing changes, nothing is read, and packets that arrive are not counted. Its buffers stay as they are,
+ * byte for byte. */
 void bpftap_listener_close(struct bpftap_listener *listener);
 
 struct bpftap_message {
@@ -395,7 +455,8 @@ struct bpftap_message {
 };
 
 /* Returns the message whose record begins at `*at`, 0 for the first one, and moves `*at` to the next one. Messages come oldest first.
- * It also reads the messages of a listener's own `hold` and `store`, which stay there.
+ * It also reads the messages of a listener's own `hold` and `store`, which stay there. Whatever the bytes are, a message that it returns
+ * lies within the first `size` of them.
  * Faults: END. */
 struct bpftap_message bpftap_listener_next(const struct bpftap_buffer *batch, size_t *at);
 
@@ -431,13 +492,27 @@ struct bpftap_replay bpftap_steps(const char *listeners, size_t listeners_size, 
 struct bpftap_replay bpftap_steps_json(const char *listeners, size_t listeners_size, const char *script, size_t script_size,
                                        const struct bpftap_capture *captures, size_t count, char *to, size_t room);
 
+/* Does the same, and writes what `bpftap steps -v` prints before its reports: a line for each step, and below it one for each listener that
+ * the step reaches, with what it answered, and why. As JSON Lines an object for each of these, with the number of its step.
+ * Faults are those of bpftap_steps. */
+struct bpftap_replay bpftap_steps_answers(const char *listeners, size_t listeners_size, const char *script, size_t script_size,
+                                          const struct bpftap_capture *captures, size_t count, char *to, size_t room);
+struct bpftap_replay bpftap_steps_answers_json(const char *listeners, size_t listeners_size, const char *script, size_t script_size,
+                                               const struct bpftap_capture *captures, size_t count, char *to, size_t room);
+
+/* Does the same, and writes the picture that `bpftap steps -p` draws: SVG, with a lane for each listener over the steps, what each step
+ * found in the store and in the hold, and what became of it. Faults are those of bpftap_steps. */
+struct bpftap_replay bpftap_picture(const char *listeners, size_t listeners_size, const char *script, size_t script_size,
+                                    const struct bpftap_capture *captures, size_t count, char *to, size_t room);
+
 /* ---- Texts ---- */
 
-/* Writes a fault as the program prints it: its name, and its place if it has one, as `BadWord 4`. For a number that is no fault the text
- * is `Unknown`. 64 bytes are always room enough. Faults: NO_ROOM, NO_MEMORY. */
+/* Writes a fault as the program prints it: its name, and its place if it has one, as `BadWord 4`. Each name is that of one number: of
+ * BPFTAP_RECORD_TOO_LONG it is `RecordTooLong`, where the program prints `TooLong`, and of BPFTAP_STEPS_TOO_MANY `StepsTooMany`, where it
+ * prints `TooMany`. For a number that is no fault the text is `Unknown`. 64 bytes are always room enough. Faults: NO_ROOM, NO_MEMORY. */
 struct bpftap_result bpftap_fault_text(uint32_t fault, size_t place, char *to, size_t room);
 
-/* Writes the version of the library, as `1.3.0`. 64 bytes are always room enough. Faults: NO_ROOM. */
+/* Writes the version of the library, as `2.0.0`. 64 bytes are always room enough. Faults: NO_ROOM. */
 struct bpftap_result bpftap_version(char *to, size_t room);
 
 #ifdef __cplusplus

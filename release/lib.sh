@@ -2,19 +2,33 @@
 # this file; others call one of its functions, as `sh release/lib.sh program_path`.
 #
 # release/files lists what is released: the mode, the path here, and the path below a prefix. What ./build makes is in a folder `out`.
-# release/SHA256SUMS has the checksum of each of these files. Its comments have the key of the sources, the toolchain that built them, and
-# the checksum of the archive.
-archive=release/bpftap-x86_64-linux.tar.gz sums=release/SHA256SUMS
+# release/SHA256SUMS has the checksums of the archives and of the page. Its comments have the key of the sources, the toolchain that built them, and
+# the checksum of each file of an archive.
+main=bpftap-x86_64-linux.tar.gz sums=release/SHA256SUMS page=bpftap.html
 # A program is unpacked and noted in `out`, or here if that is read-only. A relative path would be another folder at each call.
-case ${XDG_CACHE_HOME-} in /*) cache=$XDG_CACHE_HOME/bpftap ;; *) cache=${HOME:-/dev/null}/.cache/bpftap ;; esac
+case ${HOME-} in /*) cache=$HOME/.cache/bpftap ;; *) cache= ;; esac
+case ${XDG_CACHE_HOME-} in /*) cache=$XDG_CACHE_HOME/bpftap ;; esac
 
 # One line, and a status that is none of the program's own.
-refuse() { echo "bpftap: $*" >&2; exit 125; }
+refuse() { printf 'bpftap: %s\n' "$*" >&2; exit 125; }
 
-# A value of SHA256SUMS, as `sources`.
+# A value of SHA256SUMS, as `sources`; the checksum of a file of release/; the checksums of what an archive has.
 said() { sed -n "s/^# $1 //p" "$root/$sums" 2>/dev/null; }
+sum_of() { sed -n "s/  $1\$//p" "$root/$sums" 2>/dev/null; }
+listed() { said "in $1:"; }
 
-checksum() { sha256sum -- "$1" | cut -c 1-64; }
+# The archives with a program for this machine, the one to be tried first before the other: a static one needs no C library.
+archives() {
+  case $(uname -sm) in
+    'Linux x86_64') set -- "$main" bpftap-x86_64-linux-static.tar.gz ;;
+    'Linux aarch64') set -- bpftap-aarch64-linux.tar.gz ;;
+    *) set -- ;;
+  esac
+  for archive; do [ ! -f "$root/release/$archive" ] || echo "$archive"; done
+}
+
+# The SHA-256 of standard input. A file is not named, since sha256sum marks the line of a name with a newline or a backslash.
+checksum() { sha256sum | cut -c 1-64; }
 
 # What `find` prints of the crates' files in this form, and of MORE. Tests and proofs are left out: they change neither what the program
 # does nor what is promised of it.
@@ -35,84 +49,127 @@ sources_key() (
   { cat release/files
     grep '^[a-z]' crates.txt | grep -v '^test_'
     texts '%p\n' | grep -E '/[^.#/][^/]*\.(rt|antt)$' | sort | xargs -d '\n' sha256sum -- $(others)
-  } | checksum -
+  } | checksum
 )
 
-# Whether the release is of the sources with this key.
-is_release_of() { [ -f "$root/$archive" ] && [ "$1" = "$(said sources)" ]; }
+# Whether something is released, of the sources with this key.
+is_release_of() { [ "$1" = "$(said sources)" ] && set -- "$root"/release/*.tar.gz && [ -f "$1" ]; }
 
 # Shows that no file was changed since this was noted: the paths, inodes, sizes and times of the sources and of the release, and first of a
 # program if one is named.
-state() { texts '%p %i %s %T@ %C@\n' "$@" crates.txt release $(others); }
+form='%p %i %s %T@ %C@\n'
+state() { texts "$form" "$@" crates.txt release $(others); }
 
-# Sets `program` to the path of this folder's program, and `origin` to how it came there. They are noted with the state, so that the next
-# call need not read the files.
+# Whether others can write to none of these paths, and to none of the folders that they are in. A folder may be as /tmp, where nobody can replace
+# what is not his own. The clone's own folders are not asked: who can write there can change this script. `whose` has more tests of `find`.
+whose=
+is_closed() { # PATH..
+  for path; do
+    shift
+    while [ -n "$path" ] && [ "$path" != "$root" ]; do
+      set -- "$@" "$path"
+      path=${path%/*}
+    done
+  done
+  [ -z "$(find -L "$@" -maxdepth 0 '(' -perm /022 ! '(' -type d -perm -1000 ')' $whose ')' 2>&1)" ]
+}
+
+# Whether only the caller, root, or the owner of this script can have changed a file in `out` or the cache.
+is_ours() ( # PATH
+  whose="-o ! -uid $(id -u) ! -uid 0 ! -uid $(stat -L -c %u -- "$root/release/lib.sh")"
+  is_closed "$1"
+)
+
+# Sets `program` to the path of this folder's program, and `origin` to how it came there. Both are noted in the folder that has it, `out` or the
+# cache, with the state, so that the next call need not read the files. A note is taken only if nobody else can have written it.
 find_program() {
   for place in "$root/out" "$cache"; do
-    { IFS= read -r program && IFS= read -r origin; } 2>/dev/null <"$place/noted" && [ -x "$program" ] || continue
-    { printf '%s\n' "$program" "$origin" && state "$program"; } | cmp -s - "$place/noted" && return
+    [ -O "$place" ] && [ -O "$place/noted" ] && { IFS= read -r name && IFS= read -r origin; } 2>/dev/null <"$place/noted" || continue
+    case /$name in */../*) continue ;; esac
+    program=$place/$name
+    is_closed "$place/noted" "$program" || continue
+    { printf '%s\n' "$name" "$origin" && state "$program"; } | cmp -s - "$place/noted" && return
   done
   noted=$(state)
   choose_program
-  noted="$(state "$program" | head -n 1)
-$noted"
-  for place in "$root/out" "$cache"; do
-    mkdir -p -- "$place" && printf '%s\n' "$program" "$origin" "$noted" >"$place/noted.$$" && mv -- "$place/noted.$$" "$place/noted" && return
-  done 2>/dev/null
-  return 0
+  note_program || :
 }
+
+# Notes the program, with the sources as they were before it was chosen.
+note_program() (
+  umask 022
+  cd -- "$place" && [ -O . ] && new=$(mktemp noted.XXXXXX) || exit
+  { printf '%s\n' "$name" "$origin" && find -L "$program" -printf "$form" && printf '%s\n' "$noted"; } >"$new" && mv -fT -- "$new" noted && exit
+  rm -f -- "$new"
+) 2>/dev/null
 
 # Chooses by the content of the sources: what was built of them, else what was released of them, else what ./build makes of them now.
 choose_program() {
   key=$(sources_key)
-  if [ ! -x "$root/out/built/$key/bin/bpftap" ] && ! is_release_of "$key"; then
+  if ! is_built && ! is_release_of "$key"; then
+    [ ! -e "$root/out" ] || is_ours "$root/out" || refuse "nothing in $root/out is run, since others can change it: remove it, or run chmod -R go-w on it"
     "$root/build"
     status=$?
     [ $status -lt 128 ] || exit $status
     [ $status -eq 0 ] || exit 125
     key=$(sources_key)
+    is_built || is_release_of "$key" || refuse 'a source was edited meanwhile: the next call builds it'
   fi
-  program=$root/out/built/$key/bin/bpftap origin='built and proved here'
-  [ -x "$program" ] || choose_released
+  if is_built; then place=$root/out name=built/$key/bin/bpftap origin='built and proved here'; else choose_released; fi
+  program=$place/$name
 }
+
+is_built() { [ -x "$root/out/built/$key/bin/bpftap" ] && is_ours "$root/out/built/$key/bin/bpftap"; }
 
 choose_released() {
   build='./build proves and builds one, with the toolchain'
-  [ "$(uname -sm)" = 'Linux x86_64' ] || refuse "the released program is for x86-64 Linux, and this is $(uname -sm): $build"
-  unpack
-  program=$unpacked/bin/bpftap origin='released, reproduced by the gate'
-  "$program" --version >/dev/null 2>&1 || refuse "the released program does not run here: it is for glibc 2.34 and later. $build"
+  [ -n "$(archives)" ] || refuse "no released program is for $(uname -sm): $build"
+  for archive in $(archives); do
+    unpack "$archive"
+    name=released/$sum/bin/bpftap
+    case $archive in "$main") origin='released, reproduced by the gate' ;; *) origin="released, of $archive" ;; esac
+    "$place/$name" --version >/dev/null 2>&1 && return
+  done
+  refuse "the released program does not run here: that for x86-64 needs glibc 2.34 or later, and a processor of x86-64-v2. $build"
 }
 
 # The checksums of a folder's files. A link is none.
 contents() (cd -- "$1" && find . -type f -printf '%P\0' | LC_ALL=C sort -z | xargs -0 sha256sum)
 
 # Prints the path of this folder's program.
-program_path() { find_program && echo "$program"; }
+program_path() { find_program && printf '%s\n' "$program"; }
 
-# Unpacks the archive, and sets `unpacked` to the folder. Nothing in it is run before every checksum was right.
-unpack() {
-  sum=$(checksum "$root/$archive")
-  [ "$sum" = "$(said archive)" ] || refuse "$archive is damaged: its SHA-256 is not the one in $sums"
-  unpack_in "$root/out/released/$sum" || unpack_in "$cache/released/$sum" ||
-    refuse "no program can be put in $root/out or $cache: set XDG_CACHE_HOME to a folder of yours"
-  [ "$(contents "$unpacked")" = "$(grep -v '^#' -- "$root/$sums")" ] || refuse "$unpacked is not what $sums says"
+# Unpacks an archive, and sets `place` to where, `out` or the cache, and `unpacked` to the folder. Nothing in it is run before every checksum was
+# right.
+unpack() { # ARCHIVE
+  archive=$1
+  sum=$(checksum <"$root/release/$archive")
+  [ "$sum" = "$(sum_of "$archive")" ] || refuse "release/$archive is damaged: its SHA-256 is not the one in $sums"
+  unpack_in "$root/out" -O || unpack_in "$cache" -O || unpack_in "$root/out" -e ||
+    refuse "no program can be put in $root/out or ${cache:-a cache}: set XDG_CACHE_HOME to a folder that only you can write to"
+  [ "$(contents "$unpacked")" = "$(listed "$archive")" ] || refuse "$unpacked is not what $sums says"
 }
 
-# Unpacks in a folder, which is there at once or not at all: another call may be doing the same.
-unpack_in() {
-  unpacked=$1
-  if [ ! -d "$1" ]; then
-    mkdir -p -- "$1.$$" && tar -xzf "$root/$archive" -C "$1.$$" && mv -T -- "$1.$$" "$1"
-    rm -rf -- "$1.$$"
-  fi 2>/dev/null
-  [ -x "$1/bin/bpftap" ]
+# Unpacks in a place that is new or passes a test, unless that was done, and says whether the program is there and others cannot change it. The
+# folder is there at once or not at all, since another call may be doing the same.
+unpack_in() { # PLACE TEST
+  place=$1 unpacked=$1/released/$sum
+  [ -n "$1" ] || return
+  [ ! -e "$1" ] || [ "$2" "$1" ] || return
+  [ -d "$unpacked" ] || (
+    umask 022
+    mkdir -p -- "$1/released" && is_ours "$1/released" && cd -- "$1/released" && new=$(mktemp -d "$sum.XXXXXX") || exit
+    tar -xzf "$root/release/$archive" -C "$new" && mv -T -- "$new" "$sum"
+    rm -rf -- "$new"
+  ) 2>/dev/null
+  [ -x "$unpacked/bin/bpftap" ] && is_ours "$unpacked/bin/bpftap"
 }
 
 # Keeps what a build has left, if the sources still have the key that they had when it began.
 keep() { # KEY
   built=$root/out/built
   [ "$1" = "$(sources_key)" ] || refuse 'a source was edited meanwhile: the next call builds it'
+  umask 022
   rm -rf -- "$built" "$root/out/noted"
   while read -r mode from to; do
     install -D -m "$mode" -- "$root/$from" "$built/new/$to" || exit
@@ -125,30 +182,44 @@ compare() {
   key=$(sources_key) kit=$(rt version)
   is_release_of "$key" || { echo 'the release is not of these sources: make it by ./build --release, and commit it'; return 1; }
   [ -n "$kit" ] && [ -n "$(said toolchain)" ] || { echo "no toolchain is here, or none is named in $sums"; return 1; }
-  unpack
+  (cd -- "$root/release" && sha256sum --quiet --check SHA256SUMS) || return 1
+  unpack "$main"
   if [ "$kit" != "$(said toolchain)" ]; then
     echo "the released program is not compared: it was built by $(said toolchain), and here is $kit"
-  elif diff -rq --no-dereference -- "$unpacked" "$root/out/built/$key"; then
+  elif diff -rq --no-dereference -- "$unpacked" "$root/out/built/$key" && is_same_page; then
     echo 'the released program is what these sources give'
   else
     echo 'the released program is not what these sources give'
     return 1
   fi
 }
+is_same_page() { [ ! -f "$root/release/$page" ] || cmp -- "$root/release/$page" "$root/out/page/$page"; }
 
-# Packs what is built of these sources, and prints what it made.
+# Packs what is built of these sources, with the page and the programs of `./build --targets` if they are of them too, and prints what it made.
 pack() {
   key=$(sources_key)
-  built=$root/out/built/$key
-  [ -d "$built" ] || refuse 'these sources are not built'
-  tar -I 'gzip -9n' --sort=name --mtime=@0 --owner=0 --group=0 --numeric-owner --mode=u=rwX,go=rX -cf "$root/$archive" -C "$built" . || exit
+  [ -d "$root/out/built/$key" ] || refuse 'these sources are not built'
+  rm -f -- "$root"/release/*.tar.gz "$root/release/$page"
+  pack_in "$main" "$root/out/built/$key"
+  for folder in "$root/out/targets/$key"/*/; do
+    [ ! -d "$folder" ] || pack_in "bpftap-$(basename -- "$folder").tar.gz" "$folder"
+  done
+  [ ! -f "$root/out/page/$page" ] || install -m 644 -- "$root/out/page/$page" "$root/release/$page"
   { echo "# sources $key"
     echo "# toolchain $(rt version)"
-    echo "# archive $(checksum "$root/$archive")"
-    contents "$built"
+    for path in "$root/out/targets/$key"/*/; do [ ! -f "${path%/}.by" ] || sed "s/^/# $(basename -- "$path") /" "${path%/}.by"; done
+    (cd -- "$root/release" && for path in *.tar.gz *.html; do [ ! -f "$path" ] || sha256sum "$path"; done)
+    for path in "$root"/release/*.tar.gz; do contents_of "$path" | sed "s/^/# in ${path##*/}: /"; done
   } >"$root/$sums"
-  echo "$archive has $(stat -c %s "$root/$archive") bytes; $sums says:"
+  echo "$(du -cb -- "$root"/release/*.tar.gz | tail -n 1 | cut -f 1) bytes in archives; $sums says:"
   cat -- "$root/$sums"
 }
+pack_in() { # ARCHIVE FOLDER
+  tar -I 'gzip -9n' --sort=name --mtime=@0 --owner=0 --group=0 --numeric-owner --mode=u=rwX,go=rX -cf "$root/release/$1" -C "$2" . || exit
+}
+contents_of() ( # ARCHIVE
+  new=$(mktemp -d) && tar -xzf "$1" -C "$new" && contents "$new"
+  rm -rf -- "$new"
+)
 
-case ${0##*/} in lib.sh) root=$(CDPATH= cd -- "$(dirname -- "$0")/.." && pwd) && "$@" ;; esac
+case ${0##*/} in lib.sh) here=$(readlink -f -- "$0") && root=${here%/release/*} && "$@" ;; esac

@@ -84,6 +84,8 @@ def run_with_own_program():
 
 def main():
     sys.stdout.reconfigure(errors="backslashreplace")
+    # What cases make is their own, whatever the caller lets others write to.
+    os.umask(0o022)
     asked = words()
     groups = [name for name in GROUPS if not asked.groups or name in asked.groups]
     if asked.list:

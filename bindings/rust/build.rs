@@ -1,9 +1,16 @@
-//! Links the C library: `BPFTAP_LIB` names its folder, else it is that of the repository, which `./build bpftap_c` makes.
+// SPDX-License-Identifier: MIT OR Apache-2.0
+//! Links the C library: `BPFTAP_LIB` names its folder, else it is `native` of a crate that was handed on, or that of the repository, which
+//! `./build bpftap_c` makes.
 use std::path::PathBuf;
 
 fn main() {
     let here = PathBuf::from(std::env::var_os("CARGO_MANIFEST_DIR").expect("cargo sets it"));
-    let folder = std::env::var_os("BPFTAP_LIB").map_or_else(|| here.join("../../out/lib"), PathBuf::from);
+    let native = here.join("native");
+    let folder = match std::env::var_os("BPFTAP_LIB") {
+        Some(named) => PathBuf::from(named),
+        None if native.is_dir() => native,
+        None => here.join("../../out/lib"),
+    };
     let archive = folder.join("libbpftap.a");
     println!("cargo:rerun-if-env-changed=BPFTAP_LIB");
     println!("cargo:rerun-if-changed={}", archive.display());

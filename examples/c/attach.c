@@ -1,3 +1,4 @@
+/* SPDX-License-Identifier: MIT OR Apache-2.0 */
 /* Hands a filter to the kernel: a packet socket that receives only what the expression accepts (Linux; it needs CAP_NET_RAW). Without that
  * right a datagram socket takes the program instead, which shows that the kernel accepts it.
  *
@@ -24,7 +25,7 @@ int main(int argc, char **argv) {
     }
     int at = socket(AF_PACKET, SOCK_RAW, htons(ETH_P_ALL));
     if (at < 0) at = socket(AF_INET, SOCK_DGRAM, 0);
-    struct sock_fprog program = {.len = (unsigned short)compiled.size, .filter = insns};
+    struct sock_fprog program = {(unsigned short)compiled.size, insns};
     if (at < 0 || setsockopt(at, SOL_SOCKET, SO_ATTACH_FILTER, &program, sizeof program)) return perror("attach"), 1;
     printf("the kernel took %zu instructions\n", compiled.size);
     return 0;

@@ -1,3 +1,4 @@
+/* SPDX-License-Identifier: MIT OR Apache-2.0 */
 /* Keeps the packets of a capture that a filter accepts: filter EXPRESSION IN OUT
  *
  *     cc -o filter filter.c -lbpftap
@@ -21,7 +22,7 @@ int main(int argc, char **argv) {
     struct bpftap_insn insns[BPFTAP_MAX_INSNS];
     struct bpftap_result compiled = bpftap_compile(argv[1], strlen(argv[1]), BPFTAP_MAX_SNAP, insns, BPFTAP_MAX_INSNS);
     if (compiled.fault) return fail(argv[1], compiled.fault, compiled.place);
-    struct bpftap_program *program = malloc(bpftap_program_size());
+    struct bpftap_program *program = (struct bpftap_program *)malloc(bpftap_program_size());
     size_t size = 0;
     uint8_t *memory = read_file(argv[2], &size);
     if (!program || !memory) return perror("filter"), 1;

@@ -1,3 +1,4 @@
+/* SPDX-License-Identifier: MIT OR Apache-2.0 */
 /* Shows which packets a slow reader loses: tap EXPRESSION CAPTURE EVERY
  *
  *     cc -o tap tap.c -lbpftap
@@ -35,16 +36,15 @@ int main(int argc, char **argv) {
     struct bpftap_insn insns[BPFTAP_MAX_INSNS];
     struct bpftap_result compiled = bpftap_compile(argv[1], strlen(argv[1]), SNAP, insns, BPFTAP_MAX_INSNS);
     if (compiled.fault) return fail(argv[1], compiled.fault, compiled.place);
-    struct bpftap_program *program = malloc(bpftap_program_size());
-    static uint8_t buffers[3 * ROOM];
+    struct bpftap_program *program = (struct bpftap_program *)malloc(bpftap_program_size());
     size_t size = 0;
     uint8_t *capture = read_file(argv[2], &size);
     if (!program || !capture) return perror("tap"), 1;
     bpftap_program_init(program, insns, compiled.size);
 
-    struct bpftap_listener listener = {
-        .store = {.bytes = buffers, .room = ROOM}, .hold = {.bytes = buffers + ROOM, .room = ROOM}, .snap = SNAP, .mode = BPFTAP_BUFFERED};
-    struct bpftap_buffer batch = {.bytes = buffers + 2 * ROOM, .room = ROOM};
+    static uint8_t memory[3][ROOM];
+    struct bpftap_buffer store = {memory[0], ROOM, 0}, hold = {memory[1], ROOM, 0}, batch = {memory[2], ROOM, 0};
+    struct bpftap_listener listener = {store, hold, 0, 0, 0, SNAP, BPFTAP_BUFFERED, 0};
     uint32_t fault = bpftap_listener_open(&listener);
     if (fault) return fail("listener", fault, 0);
 

@@ -1,3 +1,4 @@
+# SPDX-License-Identifier: MIT OR Apache-2.0
 """A lesson in steps, to be run cell by cell as a notebook or as a whole: why a capture tool loses packets."""
 # %% A listener has two buffers. The store takes packets; when it is full it becomes the hold, which waits for its reader.
 import pathlib

@@ -1,3 +1,4 @@
+# SPDX-License-Identifier: MIT OR Apache-2.0
 """A lesson in steps, to be run cell by cell as a notebook or as a whole: what a filter is, and why a packet fails it."""
 # %% A filter is an expression, and a program that was made of it.
 from bpftap import Filter

@@ -1,3 +1,4 @@
+# SPDX-License-Identifier: MIT OR Apache-2.0
 """A test bench: a device is to send its answers from port 53, and the capture of a run is checked. Run it by pytest, or by itself.
 
     BPFTAP_CAPTURE=examples/veth.pcap python3 examples/python/test_bench.py
@@ -16,7 +17,7 @@ def test_all_is_ethernet_of_a_known_type():
 
 def test_each_rejected_packet_says_why():
     udp = Filter("udp port 5353")
-    reasons = [udp.why(packet.data, packet.wire) for packet in read(CAPTURE) if not udp.matches(packet.data, packet.wire)]
+    reasons = [udp.why(packet) for packet in read(CAPTURE) if not udp.matches(packet)]
     assert reasons and all(reason.startswith(("No ", "Abort ")) for reason in reasons)
 
 

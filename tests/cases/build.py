@@ -13,7 +13,7 @@ CRATES = "# A comment.\nlow: thiserror\nmiddle: low\nother: low\nbpftap: middle 
 
 # A toolchain: `rt` prints its version and where it is; `rattle` notes each call, and fails or waits if a file says so.
 RT = """#!/bin/sh
-case $1 in version) cat "$KIT/version" ;; doc) echo "$KIT/START-HERE.md" ;; esac
+case $1 in version) cat "$KIT/version" ;; doc) printf '%s\\n' "$KIT/START-HERE.md" ;; esac
 """
 RATTLE = """#!/bin/sh
 for last; do :; done
@@ -23,6 +23,7 @@ does() { [ -e "$KIT/$1" ] && [ "$(cat "$KIT/$1")" = "$2" ]; }
 does fails "$3" && { echo 'src/lib.rt:1:1: error: not proved: too little'; exit 1; }
 does dies "$3" && kill -9 $$
 does takes "$3" && sleep 1
+while does holds "$3"; do sleep 0.05; done
 does waits "$3" && { sleep 60 & echo $! >"$KIT/waiting"; wait; }
 does edited "$3" && echo '// edited' >>src/lib.rt
 [ "$1" = check ] && { echo "checked with $*"; exit 0; }
@@ -38,6 +39,8 @@ LINK = """#!/bin/sh
 cat "$KIT/program" >"$6"
 chmod +x "$6"
 """
+# Memory for more crates than a machine has processors.
+MUCH = "MemAvailable:   4000000000 kB\n"
 # What is printed if the release is missing, or was made from other sources.
 STALE = "the release is not of these sources: make it by ./build --release, and commit it"
 # The program that they make.
@@ -107,6 +110,18 @@ class Source:
     def src(self, crate):
         return self.folder / "crates" / crate / "src"
 
+    def machine(self, **files):
+        """Has `build` read these files in place of those that the system has on its memory and on a container's group. What the system has
+        free changes from one call to the next."""
+        group = self.scene.folder / "group"
+        group.mkdir(exist_ok=True)
+        for path in group.iterdir():
+            path.unlink()
+        for name, text in files.items():
+            (group / name.replace("_", ".")).write_text(text)
+        script = (ROOT / "build").read_text().replace("/sys/fs/cgroup", str(group)).replace("/proc/meminfo", str(group / "meminfo"))
+        (self.folder / "build").write_text(script)
+
     def edit(self, crate):
         """Changes a crate's source."""
         with open(next(self.src(crate).iterdir()), "a") as source:
@@ -135,24 +150,18 @@ def crates_are_proved_once_and_the_lowest_first(scene):
 @case
 def a_container_has_what_its_group_allows(scene):
     """One crate is proved at a time for each processor with 4 GB of memory, in a container by its control group's files."""
-    source, group = Source(scene), scene.folder / "group"
-    script = (ROOT / "build").read_text().replace("/sys/fs/cgroup", str(group)).replace("/proc/meminfo", str(group / "meminfo"))
-    (source.folder / "build").write_text(script)
-    machine = len(os.sched_getaffinity(0))
-    whole = {"meminfo": "MemAvailable:   4000000000 kB\n", "memory.stat": "file 8000000000\nanon 900000000\n", "memory.max": "max\n"}
+    source, machine = Source(scene), len(os.sched_getaffinity(0))
+    whole = {"meminfo": MUCH, "memory_stat": "file 8000000000\nanon 900000000\n", "memory_max": "max\n", "cpu_max": "max 100000\n"}
     rows = [
-        ({}, machine), ({"meminfo": "MemTotal: 64000000 kB\nMemAvailable:   1000000 kB\n"}, 1), ({"cpu.max": "max 100000\n"}, machine),
-        ({"cpu.max": "100000 100000\n"}, 1), ({"cpu.max": "290000 100000\n"}, 2), ({"cpu.max": "1000 100000\n"}, 1),
-        ({"memory.max": "8899999999\n"}, 1), ({"memory.max": "8900000000\n"}, 2),
+        ({}, machine), ({"meminfo": "MemTotal: 64000000 kB\nMemAvailable:   1000000 kB\n"}, 1), ({"cpu_max": "max 100000\n"}, machine),
+        ({"cpu_max": "100000 100000\n"}, 1), ({"cpu_max": "290000 100000\n"}, 2), ({"cpu_max": "1000 100000\n"}, 1),
+        ({"memory_max": "8899999999\n"}, 1), ({"memory_max": "8900000000\n"}, 2),
     ]
-    group.mkdir()
     for files, lanes in rows:
-        for name, text in {"cpu.max": "max 100000\n", **whole, **files}.items():
-            (group / name).write_text(text)
+        source.machine(**{**whole, **files})
         scene.check(f"lanes of {files}", source.run("--lanes"), Seen(f"{min(lanes, machine)}\n".encode(), b"", 0))
     scene.check("printed", f", {min(lanes, machine)} at a time" in source.run().err.decode(), True)
-    for name in ["cpu.max", "memory.max", "memory.stat"]:
-        (group / name).unlink()
+    source.machine(meminfo=MUCH)
     scene.check("without a group", source.run("--lanes").out.decode(), f"{machine}\n")
 
 
@@ -213,7 +222,8 @@ def what_runs_beside_a_failure_is_kept(scene):
     """After a crate that is not proved no other is started, and one that runs beside it is proved to its end and kept. On one processor
     none runs beside it."""
     source = Source(scene)
-    beside = ["other"] if int(source.run("--lanes").out) > 1 else []
+    source.machine(meminfo=MUCH)
+    beside = ["other"] if len(os.sched_getaffinity(0)) > 1 else []
     source.run("low")
     source.calls()
     (source.kit / "fails").write_text("middle")
@@ -252,12 +262,13 @@ def an_edit_meanwhile_is_not_kept(scene):
 def the_longest_chain_goes_first(scene):
     """On one processor the longer of two crates is proved first. The last crate, with nothing beside it, gets all processors, four at most."""
     source = Source(scene)
+    source.machine(meminfo=MUCH)
     (source.src("other") / "lib.rt").write_text("// other\n" * 50)
     source.run(preexec_fn=on_one_processor)
     scene.check("the longer one first", source.calls(), ["low", "other", "middle", "bpftap"])
     (source.src("bpftap") / "main.rt").write_text("// another\n")
     source.noted("words")
-    lanes = min(4, int(source.run("--lanes").out))
+    lanes = min(4, len(os.sched_getaffinity(0)))
     source.run()
     scene.check("jobs", [words.partition(" --jobs ")[2].split()[0] for words in source.noted("words")], [str(lanes)])
 
@@ -398,13 +409,15 @@ def a_folder_that_keeps_nothing_is_reported(scene):
 def two_builds_wait_for_each_other(scene):
     """A second build begins when the first one has ended, and then finds everything kept."""
     source = Source(scene)
-    (source.kit / "takes").write_text("low")
-    first = subprocess.Popen([source.folder / "build"], env=source.environment(), stdin=subprocess.DEVNULL, stderr=subprocess.DEVNULL)
+    (source.kit / "holds").write_text("low")
+    how = {"env": source.environment(), "stdin": subprocess.DEVNULL}
+    first = subprocess.Popen([source.folder / "build"], stderr=subprocess.DEVNULL, **how)
     while not (source.kit / "calls").exists():
         time.sleep(0.02)
-    seen = source.run()
-    wanted = f"bpftap: building: waiting for another build in this folder\n{STALE}\n"
-    scene.check("printed", seen, Seen(b"", wanted.encode(), 0))
+    second = subprocess.Popen([source.folder / "build"], stderr=subprocess.PIPE, text=True, **how)
+    scene.check("printed first", second.stderr.readline(), "bpftap: building: waiting for another build in this folder\n")
+    (source.kit / "holds").unlink()
+    scene.check("printed then, and the status", (second.communicate(timeout=LIMIT)[1], second.returncode), (f"{STALE}\n", 0))
     scene.check("the first one", (first.wait(timeout=LIMIT), len(source.calls())), (0, 4))
 
 

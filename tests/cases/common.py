@@ -1,6 +1,7 @@
 """What all groups share: the program that is tested, captures to try it on, and the folder that a case runs in."""
 import os
 import pathlib
+import re
 import resource
 import shlex
 import shutil
@@ -10,6 +11,9 @@ import sys
 from dataclasses import dataclass
 
 ROOT = pathlib.Path(__file__).resolve().parent.parent.parent
+
+# The version of these sources, as the first section of the list of changes names it.
+VERSION = re.search(r"^## ([0-9.]+)", (ROOT / "CHANGELOG.md").read_text(), re.M)[1]
 
 # The real capture, of 253 packets.
 VETH = ROOT / "examples" / "veth.pcap"

@@ -33,14 +33,15 @@ def offered(*words):
 
 # Words, the last one unfinished, and what is offered for it.
 OFFERED = [
-    ([""], ["check", "explain", "compare", "cut", "split", "steps", "run", "help"]),
+    ([""], ["check", "explain", "compare", "info", "cut", "split", "steps", "run", "help"]),
     (["c"], ["check", "compare", "cut"]),
     (["steps"], ["steps"]),
     (["x"], []),
     (["--v"], ["--version"]),
     (["--hi"], ["--hints"]),
     (["--hints", "c"], ["check", "compare", "cut"]),
-    (["help", ""], ["check", "explain", "compare", "cut", "split", "steps", "run"]),
+    (["help", ""], ["check", "explain", "compare", "info", "cut", "split", "steps", "run", "expressions"]),
+    (["--hints", "help", "e"], ["explain", "expressions"]),
     (["cut", "--"], ["--json", "--help"]),
     (["cut", "-o", ""], ["little", "big"]),
     (["cut", "-s", "0", "-o", "b"], ["big"]),
@@ -49,6 +50,8 @@ OFFERED = [
     (["cut", "-s", ""], []),
     (["cut", "-s", "0", "-e", "r"], []),
     (["cut", "-f", ""], ["FILES"]),
+    (["cut", "-w", ""], ["FILES"]),
+    (["check", "-e", "r"], []),
     (["cut", "-s", "0", ""], ["FILES"]),
     (["cut", "-s", "0", "in.pcap", "o"], ["FILES"]),
     (["cut", "-s", "0", "--", "-"], ["FILES"]),

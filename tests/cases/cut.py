@@ -69,6 +69,33 @@ def the_count_comes_after_the_hints(scene):
     scene.expect("cut -s 0 -c torn.pcap out.pcap", 2, fault_lines("TornRecord 1") + "1 of 1 packets\n")
 
 
+# Words of `cut` that name several IN and no `-w`, with options in each place; the last of them is a capture.
+UNNAMED = [
+    "cut -s 0 -e arp one.pcap two.pcap three.pcap", "cut one.pcap -s 0 two.pcap three.pcap", "cut one.pcap two.pcap -s 0 three.pcap",
+    "cut one.pcap two.pcap three.pcap -s 0", "cut -c --json -s 0 none.pcap none.pcap three.pcap", "--hints cut -s 0 -f no.bpf one.pcap two.pcap new.pcap",
+]
+
+
+@case
+def several_captures_without_an_output_are_refused(scene):
+    """Of several words without `-w` none is opened, made or changed, and a line says how OUT is named."""
+    scene.put({"one.pcap": WHOLE, "two.pcap": HEADER + ARP_RECORD, "three.pcap": WHOLE + ARP_RECORD})
+    before = scene.files()
+    for words in UNNAMED:
+        seen = scene.run(words)
+        scene.check(f"printed by {words}, and its status", (seen.out, seen.status), (b"", 1))
+        scene.check(f"the way named by {words}", b"several IN take -w, as in bpftap cut -s 0 -w OUT IN1 IN2" in seen.err, True)
+        scene.check(f"files after {words}", scene.files(), before)
+    # A fifo that nobody writes would keep a call that opens it waiting.
+    os.mkfifo(scene.folder / "fifo")
+    seen = scene.run("cut -s 0 fifo fifo three.pcap")
+    scene.check("status with a fifo, and what was there", (seen.status, scene.read("three.pcap")), (1, before["three.pcap"]))
+    # The way, as it is written.
+    scene.expect("cut -s 0 -w new.pcap one.pcap two.pcap three.pcap")
+    scene.check("files after the way", {name: text for name, text in scene.files().items() if name != "fifo"},
+                {**before, "new.pcap": HEADER + IP_RECORD + ARP_RECORD + IP_RECORD + ARP_RECORD})
+
+
 @case
 def several_captures_are_cut_into_one(scene):
     """OUT has what a split of all IN into it has, with its status, and `-c` counts the packets of all, up to the first fault."""
@@ -81,31 +108,34 @@ def several_captures_are_cut_into_one(scene):
             ("two.pcap none.pcap one.pcap", 3, ["Capture 1 Device"], 1, 2)]:
         counts = f"{kept} of {all_of} packets\n"
         for words in ("-s 0 -e ip", "-s 0 -f ip.bpf"):
-            scene.expect(f"cut {words} {captures} out.pcap", status, fault_lines(*faults))
+            scene.expect(f"cut {words} -w out.pcap {captures}", status, fault_lines(*faults))
             scene.check(f"OUT of {captures}", scene.read("out.pcap"), HEADER + IP_RECORD * kept)
-            scene.expect(f"cut -c {words} {captures} out.pcap", status, fault_lines(*faults) + counts)
+            scene.expect(f"cut -c {words} {captures} -w out.pcap", status, fault_lines(*faults) + counts)
         scene.expect(f"split lines.txt {captures}", status, fault_lines(*faults), f"split.pcap {kept} of {all_of}\n")
         scene.check(f"split of {captures}", scene.read("split.pcap"), scene.read("out.pcap"))
     # The first header is refused, and OUT stays; or OUT fails, and nothing is counted.
-    scene.refuse("cut -c -s 0 no.pcap one.pcap kept.pcap", 1, "Capture 0 ShortHeader")
-    scene.refuse("cut -c -s 0 none.pcap one.pcap kept.pcap", 3, "Capture 0 Device")
-    scene.refuse("cut -c -s 0 one.pcap two.pcap gone/out.pcap", 3, "Device gone/out.pcap")
-    scene.refuse("cut -c -s 0 one.pcap torn.pcap /dev/full", 3, "Device /dev/full", "Capture 1 TornRecord 1")
+    scene.refuse("cut -c -s 0 -w kept.pcap no.pcap one.pcap", 1, "Capture 0 ShortHeader")
+    scene.refuse("cut -c -s 0 -w kept.pcap none.pcap one.pcap", 3, "Capture 0 Device")
+    scene.refuse("cut -c -s 0 -w gone/out.pcap one.pcap two.pcap", 3, "Device gone/out.pcap")
+    scene.refuse("cut -c -s 0 -w /dev/full one.pcap torn.pcap", 3, "Device /dev/full", "Capture 1 TornRecord 1")
     # OUT is no file that is read; a missing IN could be made as OUT.
     for out in ("one.pcap", "./two.pcap", "ip.bpf", "none.pcap"):
-        scene.refuse(f"cut -s 0 -f ip.bpf two.pcap one.pcap none.pcap {out}", 1, f"SameFile {out}")
-    # Options may come between the paths, of which the last one is OUT.
-    for words in ("-s 0 one.pcap two.pcap out.pcap", "one.pcap -s 0 two.pcap out.pcap", "one.pcap two.pcap -s 0 out.pcap", "one.pcap two.pcap out.pcap -s 0"):
+        scene.refuse(f"cut -s 0 -f ip.bpf -w {out} two.pcap one.pcap none.pcap", 1, f"SameFile {out}")
+    # Options may come between the paths.
+    for words in ("-s 0 -w out.pcap one.pcap two.pcap", "one.pcap -s 0 two.pcap -w out.pcap", "one.pcap -wout.pcap two.pcap -s 0"):
         scene.expect(f"cut {words}")
         scene.check(f"OUT of {words}", scene.read("out.pcap"), WHOLE + ARP_RECORD + IP_RECORD)
-    scene.expect("cut one.pcap -s 0 out.pcap")
-    scene.check("OUT of one", scene.read("out.pcap"), WHOLE)
+    # One IN has its OUT after it or after -w.
+    for words in ("one.pcap -s 0 out.pcap", "-s 0 -w out.pcap one.pcap", "one.pcap -w out.pcap -s 0"):
+        scene.expect(f"cut {words}")
+        scene.check(f"OUT of {words}", scene.read("out.pcap"), WHOLE)
+    scene.refuse("cut -s 0 -w ./one.pcap one.pcap", 1, "SameFile ./one.pcap")
     # The header of OUT is that of one capture; a capture may come from a pipe, and OUT be one.
-    scene.expect("cut -s 5 -o big -u nano /dev/stdin one.pcap out.pcap", streams="< one.pcap")
+    scene.expect("cut -s 5 -o big -u nano -w out.pcap /dev/stdin one.pcap", streams="< one.pcap")
     nano = bytes.fromhex("00000002 00000000 00000005 0000000e ffffffffff")
     scene.check("OUT", scene.read("out.pcap"), bytes.fromhex("a1b23c4d 00020004 00000000 00000000 00000005 00000001") + nano * 2)
-    scene.expect("cut -s 0 one.pcap one.pcap /dev/stdout", out=HEADER + IP_RECORD * 2)
-    seen = scene.run_unread("cut -s 0 one.pcap two.pcap /dev/stdout")
+    scene.expect("cut -s 0 -w /dev/stdout one.pcap one.pcap", out=HEADER + IP_RECORD * 2)
+    seen = scene.run_unread("cut -s 0 -w /dev/stdout one.pcap two.pcap")
     scene.check("OUT that nobody reads", (seen.err, seen.status), (b"", 3))
 
 

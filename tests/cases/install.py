@@ -7,9 +7,10 @@ import subprocess
 from .build import MADE
 from .common import LIMIT, PROGRAM, ROOT, Seen, case
 from .manual import PAGES, examples
-from .release import Clone
+from .pages import links
+from .release import Clone, Within
 
-DOCUMENTS = ["README.md", "CHANGELOG.md", "docs", "examples"]
+TEXTS = ["CHANGELOG.md", "LICENSE-APACHE", "LICENSE-MIT", "NOTICES", "README.md"]
 
 
 def listed(folder):
@@ -20,32 +21,36 @@ def listed(folder):
 # Below the prefix: the program, the pages, the completions, and the documents, in the order in which they are put.
 PUT = {
     "bin/bpftap": None,
-    **{f"share/man/man{page.suffix[1:]}/{page.name}": f"man/{page.name}" for page in sorted((ROOT / "man").iterdir())},
+    **{f"share/man/man{page.suffix[1:]}/{page.name}": f"man/{page.name}" for page in sorted((ROOT / "man").glob("*.[1-9]"))},
     "share/bash-completion/completions/bpftap": "completions/bpftap.bash",
     "share/zsh/site-functions/_bpftap": "completions/_bpftap",
     "share/fish/vendor_completions.d/bpftap.fish": "completions/bpftap.fish",
-    **{f"share/doc/bpftap/{name}": name for name in ["CHANGELOG.md", "README.md", *listed("docs"), *listed("examples")]},
+    **{f"share/doc/bpftap/{name}": name for name in [*TEXTS, *listed("docs"), *listed("examples")]},
 }
 
 
 def source_in(scene, **program):
     """A clone with all that is put."""
     clone = Clone(scene, **program)
-    for name in ["install", "package", "README.md", "CHANGELOG.md"]:
+    for name in ["install", "package", *TEXTS]:
         shutil.copy(ROOT / name, clone.folder)
-    for name in ["man", "completions", "docs", "examples"]:
+    for name in ["man", "completions", "docs", "examples", "packaging"]:
         shutil.copytree(ROOT / name, clone.folder / name)
     return clone
 
 
-def install(scene, source, *words, path="/usr/bin:/bin", program="install"):
-    """Runs `install` of a source folder, in the case's folder, without the toolchain."""
-    return source.run(*words, program=program, env={**source.bare(), "PATH": path})
+def install(scene, source, *words, path="/usr/bin:/bin", shell="/bin/bash", program="install"):
+    """Runs `install` of a source folder, in the case's folder, without the toolchain, as a user of this shell."""
+    return source.run(*words, program=program, env={**source.bare(), "PATH": path, "SHELL": shell})
 
 
 def put_below(prefix):
-    """The files below a prefix, by their paths there."""
-    return {str(path.relative_to(prefix)) for path in prefix.rglob("*") if not path.is_dir()}
+    """The files below a prefix, by their paths there, but for the list of folders that were made."""
+    return {str(path.relative_to(prefix)) for path in prefix.rglob("*") if not path.is_dir() and path.name != ".folders"}
+
+
+# A link of a page, whose text is what a reader sees.
+LINK = re.compile(r"\[([^]]*)\]\([^)]*\)")
 
 
 @case
@@ -59,14 +64,36 @@ def files_are_put_under_the_prefix(scene):
     for name, origin in PUT.items():
         path = prefix / name
         scene.check(f"mode of {name}", oct(path.stat().st_mode & 0o777), "0o644" if origin else "0o755")
-        if origin:
+        if origin and path.suffix != ".md":
             scene.check(name, path.read_bytes(), (ROOT / origin).read_bytes())
+    for page in prefix.rglob("*.md"):
+        missing = [str(target) for target in links(page) if not target.exists()]
+        scene.check(f"links of {page.relative_to(prefix)} that lead nowhere", missing, [])
+        scene.check(f"its text", re.sub(LINK, r"\1", page.read_text()), re.sub(LINK, r"\1", (ROOT / PUT[str(page.relative_to(prefix))]).read_text()))
     ran = subprocess.run([prefix / "bin" / "bpftap", "--version"], capture_output=True, timeout=LIMIT)
     scene.check("the program", ran.stdout, b"bpftap 1.2.3, a stand-in\n")
     (prefix / "bin" / "other").touch()
     scene.check("remove", install(scene, source, "--remove", str(prefix)), Seen(printed.encode(), b"", 0))
-    scene.check("left", (put_below(prefix), (prefix / "share" / "doc" / "bpftap").exists()), ({"bin/other"}, False))
+    scene.check("left", sorted(str(path.relative_to(prefix)) for path in prefix.rglob("*")), ["bin", "bin/other"])
     scene.check("remove again", install(scene, source, "--remove", str(prefix)), Seen(b"", b"", 0))
+
+
+@case
+def folders_are_removed_if_install_made_them(scene):
+    """`--remove` leaves the folders that were there before, empty ones too, and takes those that any call made, the prefix among them."""
+    source, prefix = source_in(scene), scene.folder / "old" / "new"
+    (prefix.parent / "kept").mkdir(parents=True)
+    for _ in range(2):
+        scene.check("install", install(scene, source, str(prefix)).status, 0)
+    scene.check("remove", install(scene, source, "--remove", str(prefix)).status, 0)
+    scene.check("left", sorted(path.name for path in prefix.parent.iterdir()), ["kept"])
+    (prefix / "share" / "man" / "man1").mkdir(parents=True)
+    scene.check("install", install(scene, source, str(prefix)).status, 0)
+    scene.check("remove", install(scene, source, "--remove", str(prefix)).status, 0)
+    scene.check("left of old ones", sorted(path.name for path in prefix.rglob("*")), ["man", "man1", "share"])
+    (prefix / "share" / "doc").touch()
+    scene.check("refused", install(scene, source, str(prefix)).status, 1)
+    scene.check("left of a refusal", sorted(path.name for path in prefix.rglob("*")), ["doc", "man", "man1", "share"])
 
 
 @case
@@ -92,13 +119,9 @@ def all_that_is_released_is_put(scene):
 
 @case
 def zsh_is_pointed_to_its_completions(scene):
-    """If there is a zsh, `install` says which folder its fpath needs, but not for a prefix of the system's."""
-    source, shells = source_in(scene), scene.folder / "shells"
-    shells.mkdir()
-    (shells / "zsh").write_text("#!/bin/sh\n")
-    (shells / "zsh").chmod(0o755)
-    prefix = scene.folder / "own"
-    seen = install(scene, source, str(prefix), path=f"{shells}:{prefix}/bin:/usr/bin:/bin")
+    """To a user of zsh `install` says which folder its fpath needs."""
+    source, prefix = source_in(scene), scene.folder / "own"
+    seen = install(scene, source, str(prefix), path=f"{prefix}/bin:/usr/bin:/bin", shell="/usr/bin/zsh")
     reported = f"install: for zsh, put fpath+=({prefix}/share/zsh/site-functions) before compinit in ~/.zshrc\n"
     scene.check("reported", (seen.err, seen.status), (reported.encode(), 0))
 
@@ -150,15 +173,46 @@ def without_a_program_nothing_is_put(scene):
 
 
 @case
-def bad_usage_has_the_usage(scene):
-    """An option that does not exist, an empty prefix and two of them have the usage on standard error, with status 2."""
+def what_was_changed_is_not_installed(scene):
+    """A released file that was changed since it was unpacked is neither installed nor packaged, though the launcher runs the program."""
     source = source_in(scene)
-    for words in [["-x"], [""], ["a", "b"], ["--remove", "-x"], ["--remove", "a", "b"]]:
+    source.call()
+    unpacked = next((source.folder / "out" / "released").iterdir())
+    (unpacked / "lib").mkdir()
+    (unpacked / "lib" / "libbpftap.a").write_text("another\n")
+    line = f"bpftap: {unpacked} is not what release/SHA256SUMS says\n"
+    seen = install(scene, source, str(scene.folder / "there"))
+    scene.check("install", seen, Seen(b"", f"{line}install: nothing was put under {scene.folder}/there\n".encode(), 1))
+    scene.check("put", put_below(scene.folder / "there"), set())
+    seen = install(scene, source, str(scene.folder / "packages"), program="package")
+    scene.check("package", (line.encode() in seen.err, seen.out, seen.status), (True, b"", 1))
+
+
+@case
+def a_clone_that_is_installed_may_have_any_path(scene):
+    """A newline and a backslash in the path of the clone or of the prefix change nothing."""
+    for name in ["a\nb", "c\\d"]:
+        scene.start({})
+        top = scene.folder / name
+        top.mkdir()
+        source = source_in(Within(scene, top))
+        seen = install(scene, source, str(top / "put"))
+        scene.check(f"status in {name!r}", seen.status, 0)
+        scene.check(f"put in {name!r}", put_below(top / "put"), set(PUT))
+        scene.check(f"printed in {name!r}", seen.out.decode(), "".join(f"{top}/put/{name}\n" for name in PUT))
+        scene.check(f"removed in {name!r}", (install(scene, source, "--remove", str(top / "put")).status, put_below(top / "put")), (0, set()))
+
+
+@case
+def bad_usage_has_the_usage(scene):
+    """No prefix, an option that does not exist, an empty prefix and two of them have the usage on standard error, with status 2."""
+    source = source_in(scene)
+    for words in [[], ["-x"], [""], ["a", "b"], ["--remove"], ["--remove", "-x"], ["--remove", "a", "b"]]:
         seen = install(scene, source, *words)
-        scene.check(f"usage after {words}", b"./install [PREFIX]" in seen.err, True)
+        scene.check(f"usage after {words}", b"./install PREFIX " in seen.err, True)
         scene.check(f"printed of {words}, and the status", (seen.out, seen.status), (b"", 2))
     seen = install(scene, source, "--help")
-    scene.check("help", (b"./install [PREFIX]" in seen.out, seen.err, seen.status), (True, b"", 0))
+    scene.check("help", (b"./install PREFIX " in seen.out, seen.err, seen.status), (True, b"", 0))
     for words in [["-x"], [""], ["a", "b"]]:
         scene.check(f"package {words}", install(scene, source, *words, program="package").status, 2)
 
@@ -202,7 +256,7 @@ def what_manual_and_help_show_runs_once_installed(scene):
 def packages_have_what_is_installed(scene):
     """The Debian package and the tar archive hold the installed files, and run where they are unpacked. The same files give the same
     packages."""
-    if not scene.has("dpkg-deb"):
+    if not scene.has("dpkg-deb", "strip"):
         return
     source = source_in(scene, program=pathlib.Path(PROGRAM).read_bytes())
     packages = scene.folder / "packages"
@@ -213,7 +267,10 @@ def packages_have_what_is_installed(scene):
     scene.check("printed", seen, Seen("".join(f"{packages}/{name}\n" for name in names).encode(), b"", 0))
     root = scene.folder / "root"
     subprocess.run(["dpkg-deb", "-x", packages / names[1], root], check=True)
-    zipped = {f"{name}.gz" if name.startswith("share/man/") else name for name in PUT}
+    zipped = {f"{name}.gz" if name.startswith("share/man/man1/") else name for name in PUT if not name.startswith("share/man/man3/")}
+    zipped = {name.replace("site-functions", "vendor-completions") for name in zipped}
+    zipped -= {f"share/doc/bpftap/{name}" for name in ["CHANGELOG.md", "LICENSE-APACHE", "LICENSE-MIT"]}
+    zipped |= {"share/doc/bpftap/changelog.gz", "share/doc/bpftap/copyright"}
     scene.check("files of the package", put_below(root), {f"usr/{name}" for name in zipped})
     run_all_examples(scene, root / "usr", "by the package")
     fields = subprocess.run(["dpkg-deb", "-f", packages / names[1], "Package", "Version", "Depends"], stdout=subprocess.PIPE, text=True).stdout

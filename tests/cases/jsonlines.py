@@ -108,24 +108,37 @@ def random_captures_have_the_same_facts(scene):
             compare(scene, ["-f", numbers.choice(["all.bpf", "byte.bpf"]), *names], True)
 
 
+def name_in(line):
+    """The name and the operand of an instruction, in a line of an image."""
+    return " ".join(line.partition(") ")[2].split("jt")[0].split())
+
+
 @case
 def a_program_is_an_object(scene):
     """`check --json` has the expression as `-x` prints it, the numbers of the listing and the names of the image."""
     scene.start({"ip.bpf": "4\n40 0 0 12\n21 0 1 2048\n6 0 0 262144\n6 0 0 0\n"})
-    for expr in ("", "ip", "tcp dst port 80 or 443", "-1 + len > 60", "ip[9] = 17 and not host 10.0.0.1"):
+    for expr in ("", "ip", "tcp dst port 80 or 443", "-1 + len > 60", "(-1 = 4294967295)", "ip[9] = 17 and not host 10.0.0.1"):
         words = ["--", expr] if expr.startswith("-") else [expr]
         seen = json.loads(scene.run(["check", "--json", *words]).out)
         read = scene.run(["check", "-x", *words]).out.decode().rstrip("\n")
-        scene.check(f"expression of {expr!r}", seen["expression"], read[1:-1] if read.startswith("(-") and read.endswith(")") else read)
+        scene.check(f"expression of {expr!r}", seen["expression"], read)
+        # It can be given back as a word.
+        again = scene.run(["check", "--json", seen["expression"]])
+        scene.check(f"object of {read!r}", (json.loads(again.out or "{}"), again.err), (seen, b""))
         listing = scene.run(["check", *words]).out.decode().splitlines()[1:]
         numbers = [" ".join(str(one[name]) for name in ("code", "jt", "jf", "k")) for one in seen["instructions"]]
         scene.check(f"numbers of {expr!r}", numbers, listing)
         scene.check(f"places of {expr!r}", [one["place"] for one in seen["instructions"]], list(range(len(listing))))
         image = scene.run(["check", "-d", *words]).out.decode().splitlines()
         for one, line in zip(seen["instructions"], image):
-            name = " ".join(line.partition(") ")[2].split("jt")[0].split())
-            if not name.startswith("ja"):
-                scene.check(f"name of {line}", one["name"], name)
+            scene.check(f"name of {line}", one["name"], name_in(line))
+    # A jump names the place that it leads to, in the image of tcpdump too; and what is printed reads as the same program again.
+    scene.put({"ja.bpf": "4\n5 0 0 1\n6 0 0 1\n5 0 0 0\n6 0 0 2\n"})
+    names = [one["name"] for one in json.loads(scene.run("check --json -f ja.bpf").out)["instructions"]]
+    scene.check("names of jumps", names, ["ja 2", "ret #1", "ja 3", "ret #2"])
+    scene.check("as the image has them", names, [name_in(line) for line in scene.run("check -d -f ja.bpf").out.decode().splitlines()])
+    scene.put({"ja.asm": "".join(f"({place:03}) {name}\n" for place, name in enumerate(names))})
+    scene.check("read as assembly", scene.run("check --json -f ja.asm"), scene.run("check --json -f ja.bpf"))
     scene.expect("check --json -f ip.bpf", out=(
         '{"expression":null,"instructions":[{"place":0,"code":40,"jt":0,"jf":0,"k":12,"name":"ldh [12]"},'
         '{"place":1,"code":21,"jt":0,"jf":1,"k":2048,"name":"jeq #0x800"},'
@@ -138,7 +151,7 @@ def a_program_is_an_object(scene):
 def counts_are_an_object(scene):
     """`cut -c --json` reports the counts of `cut -c`."""
     scene.start({"torn.pcap": TORN, "whole.pcap": WHOLE})
-    scene.expect("cut --json -c -s 0 whole.pcap whole.pcap out.pcap", err='{"kept":2,"packets":2}\n')
+    scene.expect("cut --json -c -s 0 -w out.pcap whole.pcap whole.pcap", err='{"kept":2,"packets":2}\n')
     scene.expect(["cut", "--json", "-c", "-s", "0", "-e", "udp port 5353", str(VETH), "out.pcap"], err='{"kept":67,"packets":253}\n')
     scene.expect("cut --json -c -s 0 torn.pcap out.pcap", 2, '{"fault":"TornRecord","numbers":[1],"file":"torn.pcap"}\n{"kept":1,"packets":1}\n')
 
@@ -155,7 +168,7 @@ FAULTS = [
     ("check --json 'tcp and 80'", 1, {"fault": "NoQualifier", "numbers": [8]}),
     ("check --json -f jump.bpf", 1, {"fault": "Program JumpOut", "numbers": [0]}),
     ("cut --json -s 0 torn.pcap out.pcap", 2, {"fault": "TornRecord", "numbers": [1], "file": "torn.pcap"}),
-    ("cut --json -s 0 whole.pcap torn.pcap out.pcap", 2, {"fault": "Capture TornRecord", "numbers": [1, 1], "file": "torn.pcap"}),
+    ("cut --json -s 0 -w out.pcap whole.pcap torn.pcap", 2, {"fault": "Capture TornRecord", "numbers": [1, 1], "file": "torn.pcap"}),
     ("cut --json -s 0 whole.pcap whole.pcap", 1, {"fault": "SameFile", "numbers": [], "file": "whole.pcap"}),
     ("cut --json -s 0 long.pcap out.pcap", 2, {"fault": "TooLong", "numbers": [0], "file": "long.pcap"}),
 ]

@@ -34,9 +34,9 @@ def is_there(scene):
     return LIBRARY.is_file()
 
 
-def done(scene, words, **how):
-    """Runs words in the scene's folder; what was printed, and the status."""
-    ended = subprocess.run(words, cwd=scene.folder, stdout=subprocess.PIPE, stderr=subprocess.STDOUT, timeout=LIMIT, **how)
+def done(scene, words, at=None, limit=LIMIT, **how):
+    """Runs words in the scene's folder, or another one; what was printed, and the status."""
+    ended = subprocess.run(words, cwd=at or scene.folder, stdout=subprocess.PIPE, stderr=subprocess.STDOUT, timeout=limit, **how)
     return ended.stdout.decode(errors="replace"), ended.returncode
 
 
@@ -59,7 +59,7 @@ def calls_do_what_the_header_says(scene):
     if not is_there(scene):
         return
     scene.start({})
-    for name in ("calls", "listeners"):
+    for name in ("calls", "listeners", "programs"):
         for words in WAYS:
             if scene.has(words[0]):
                 program = compiled(scene, words, name)
@@ -68,6 +68,18 @@ def calls_do_what_the_header_says(scene):
         if scene.has("gcc", "valgrind"):
             program = compiled(scene, ["gcc", "-std=c11", "-g"], name)
             passes(scene, ["valgrind", "-q", "--error-exitcode=9", "--leak-check=full", program])
+
+
+@case
+def nothing_beside_is_touched(scene):
+    """Random calls whose memory lies between guard pages, read and written, with room for all and with room for one item less."""
+    if is_there(scene) and scene.has("gcc"):
+        scene.start({})
+        program, chance = compiled(scene, ["gcc", "-std=c11", "-O1"], "guards"), random.Random(23)
+        texts = "".join(f"{expression(chance)}\n" for _ in range(3000))
+        if program:
+            ended = subprocess.run([program, VETH, "3000"], input=texts.encode(), stdout=subprocess.PIPE, timeout=LIMIT)
+            scene.check("guards", (ended.stdout.decode(), ended.returncode), ("", 0))
 
 
 @case
@@ -121,51 +133,6 @@ def stacks_suffice(scene):
         touched = [[*map(int, line.split())] for line in ended.stdout.decode().splitlines()]
         scene.check(f"{name}: status and lines", (ended.returncode, len(touched)), (0, lines.count("\n")))
         scene.check(f"{name}: a call that reads no expression", max(row[-1] for row in touched) <= others << 10, True)
-
-
-@case
-def header_is_cplusplus_too(scene):
-    """The header by itself, in C++ and in C, with the instruction of Linux."""
-    scene.start({"in.cpp": '#include <bpftap.h>\nint main() { return bpftap_program_size() == 0; }\n',
-                 "in.c": '#include <linux/filter.h>\n#define BPFTAP_INSN struct sock_filter\n#include <bpftap.h>\nint main(void) { return 0; }\n'})
-    for compiler, name in (("g++", "in.cpp"), ("clang++", "in.cpp"), ("gcc", "in.c"), ("clang", "in.c")):
-        if scene.has(compiler):
-            passes(scene, [compiler, *STRICT, "-pedantic", f"-I{ROOT / 'include'}", "-fsyntax-only", name])
-
-
-@case
-def only_its_own_names_are_exported(scene):
-    """The shared library exports the functions of the header and nothing else, has its soname, and needs only the C library."""
-    if not is_there(scene) or not scene.has("nm", "readelf"):
-        return
-    header = (ROOT / "include" / "bpftap.h").read_text()
-    declared = sorted({word.split("(")[0] for word in header.replace("*", " ").split() if word.startswith("bpftap_") and "(" in word
-                       and not word.startswith("bpftap_program_init.")})
-    said, _ = done(scene, ["nm", "-D", "--defined-only", LIBRARY])
-    scene.check("exports", sorted(line.split()[-1] for line in said.splitlines()), declared)
-    said, _ = done(scene, ["readelf", "-d", LIBRARY])
-    tagged = lambda tag: [line.split("[")[1].rstrip("]") for line in said.splitlines() if f"({tag})" in line]
-    scene.check("soname", tagged("SONAME"), ["libbpftap.so.1"])
-    scene.check("needs", tagged("NEEDED"), ["libc.so.6"])
-
-
-@case
-def links_as_its_page_says(scene):
-    """`-lbpftap` takes the archive, `-l:libbpftap.so.1` the shared library; a plug-in hides the archive's names by `--exclude-libs`."""
-    if not is_there(scene) or not scene.has("gcc", "nm", "readelf"):
-        return
-    scene.start({"tool.c": "#include <bpftap.h>\nint main(void) { return bpftap_program_size() == 0; }\n"})
-    folder = ARCHIVE.parent
-    words = ["gcc", "tool.c", f"-I{ROOT / 'include'}", f"-L{folder}", "-o", "tool"]
-    for flags, shared in ((["-lbpftap"], False), (["-l:libbpftap.so.1", f"-Wl,-rpath,{folder}"], True)):
-        passes(scene, [*words, *flags])
-        passes(scene, ["./tool"])
-        needed, _ = done(scene, ["readelf", "-d", "tool"])
-        scene.check(f"{flags[0]}: needs the shared library", "[libbpftap.so.1]" in needed, shared)
-    for flags, exported in (([], True), (["-Wl,--exclude-libs,ALL"], False)):
-        passes(scene, [*words, "-shared", "-fPIC", "-lbpftap", *flags])
-        names, _ = done(scene, ["nm", "-D", "--defined-only", "tool"])
-        scene.check(f"a plug-in {flags} exports", "bpftap_program_size" in names, exported)
 
 
 def frames():
@@ -236,7 +203,7 @@ def answers_as_the_program_does(scene):
 
 
 # The first line that `bpftap compare` prints of two expressions without a capture.
-DECIDED = {"SAME": "same", "SAME_AS_CAPTURED": "same as captured", "SHORT": "differ only where a frame is cut short", "DIFFER": "differ",
+DECIDED = {"SAME": "same", "SAME_AS_CAPTURED": "same as captured", "SHORT": "differ only where one aborts", "DIFFER": "differ",
            "NOT_DECIDED": "not decided"}
 
 
@@ -356,35 +323,15 @@ def steps_of_c_print_what_steps_prints(scene):
         objects = scene.run(f"steps --json {words}")
         ended = subprocess.run([program, "--json", *words.split()], cwd=scene.folder, capture_output=True, timeout=LIMIT)
         scene.check(f"steps --json {words}", (ended.stdout, ended.stderr, ended.returncode), (objects.out, wanted.err, objects.status))
+        # `steps -v` prints the answers and then the reports.
+        for flags, reports in (([], wanted), (["--json"], objects)):
+            ended = subprocess.run([program, "--answers" + "".join(flags).replace("--", "-"), *words.split()], cwd=scene.folder, capture_output=True, timeout=LIMIT)
+            both = scene.run(["steps", "-v", *flags, *words.split()])
+            scene.check(f"steps -v {flags} {words}", (ended.stdout + reports.out, ended.stderr, ended.returncode), (both.out, wanted.err, both.status))
     for files, printed in random_replays(scene) if program else []:
         scene.check(scene.read("listeners").decode(), done(scene, [program, *files]), (printed, 0))
         objects = scene.run(["steps", "--json", *files]).out.decode()
         scene.check(f"{scene.read('listeners').decode()} as JSON", done(scene, [program, "--json", *files]), (objects, 0))
-
-
-@case
-def package_does_what_its_page_says(scene):
-    """The tests of the Python package, by unittest, and its wheel, which pip installs without a network."""
-    if not is_there(scene):
-        return
-    scene.start({})
-    environment = {**os.environ, "PYTHONPATH": str(ROOT / "bindings" / "python"), "BPFTAP_LIBRARY": str(LIBRARY), "PYTHONDONTWRITEBYTECODE": "1"}
-    said, status = done(scene, [sys.executable, "-m", "unittest", "discover", "-s", ROOT / "bindings" / "python" / "tests"], env=environment)
-    scene.check("unittest", (said.splitlines()[-1:], status), (["OK"], 0))
-    said, status = done(scene, [sys.executable, "-m", "venv", "--without-pip", "there"])
-    if status or not scene.has("pip3"):
-        return
-    into = scene.folder / "site"
-    words = [sys.executable, "-m", "pip", "install", "--quiet", "--no-index", "--no-deps", "--target", into, ROOT / "bindings" / "python"]
-    said, status = done(scene, words, env={**os.environ, "BPFTAP_LIBRARY": str(LIBRARY), "PIP_DISABLE_PIP_VERSION_CHECK": "1"})
-    if "No module named pip" in said:
-        scene.leave("pip can't be found")
-        return
-    scene.check("pip install", status, 0)
-    bare = {key: value for key, value in os.environ.items() if key not in ("BPFTAP_LIBRARY", "PYTHONPATH")}
-    said, status = done(scene, [sys.executable, "-c", "import bpftap; print(bpftap.Filter('ip').matches(bytes(12) + b'\\x08\\x00'))"],
-                        env={**bare, "PYTHONPATH": str(into)})
-    scene.check("the installed package", (said, status), ("True\n", 0))
 
 
 @case
@@ -395,81 +342,8 @@ def numbers_have_the_names_of_faults(scene):
     scene.start({})
     header = (ROOT / "include" / "bpftap.h").read_text().partition("enum bpftap_fault {")[2].partition("};")[0]
     numbers = {int(number): name for name, number in re.findall(r"BPFTAP_(\w+) = (\d+)", header)}
-    camel = {number: "".join(word.capitalize() for word in name.removeprefix("RECORD_").removeprefix("STEPS_").split("_")) for number, name in numbers.items()}
+    camel = {number: "".join(word.capitalize() for word in name.split("_")) for number, name in numbers.items()}
     seen = python(scene, "names.py", map(str, camel)).splitlines()
     scene.check("names", seen, list(camel.values()))
     explained = set(re.findall(r"\w+", (ROOT / "docs" / "FAULTS.md").read_text()))
     scene.check("names that docs/FAULTS.md lacks", [name for name in camel.values() if name not in explained | {"Ok"}], [])
-
-
-def takes_long_captures(scene):
-    """The examples over a capture of some megabytes, and over files that are no capture: what is in OUT is not lost."""
-    whole = VETH.read_bytes()
-    long = whole[:24] + whole[24:] * 100
-    scene.put({"long.pcap": long, "kept": "kept", "text": "this is no capture, but a text of some length", "part.pcap": long[:-1]})
-    scene.check("filter: a long capture", done(scene, ["./filter", "udp port 5353", "long.pcap", "dns.pcap"]), ("6700 of 25300 packets\n", 0))
-    said, status = done(scene, ["./tap", "len > 50", "long.pcap", "90"])
-    scene.check("tap: a long capture", (said.splitlines()[-1].split(",")[0], status), ("received 25300", 0))
-    for words, wanted in ((["text", "kept"], "filter: text: NotSavefile\n"), (["none", "kept"], "filter: No such file or directory\n")):
-        scene.check(f"filter: {words[0]}", done(scene, ["./filter", "ip", *words]), (wanted, 1))
-    scene.check("what OUT had", scene.read("kept"), b"kept")
-    scene.check("filter: a torn capture", done(scene, ["./filter", "ip", "part.pcap", "dns.pcap"])[1], 1)
-
-
-def loses_what_steps_loses(scene):
-    """The example of a slow reader: its counts, and the packets that it reads, are those of `bpftap steps`."""
-    scene.put({"listeners": "96 4096 len > 50\n", "script": ("arrive\n" * 90 + "read 0\n") * 2 + "arrive\n" * 73 + "read 0\nflush 0\nread 0\n"})
-    reported = scene.run(["steps", "listeners", "script", str(VETH)]).out.decode()
-    batches = [re.findall(r"place (\d+)", part) for part in re.split(r"\nbatch|\nheld", reported)[1:]]
-    received, matched, dropped = re.findall(r"\d+", reported.partition("\n")[0])[1:]
-    said, status = done(scene, ["./tap", "len > 50", VETH, "90"])
-    lines = said.splitlines()
-    scene.check("tap: what is read", [line.split()[1:] for line in lines if line.startswith("read:")], [batch for batch in batches if batch])
-    scene.check("tap: counts", (lines[-1:], status), ([f"received {received}, matched {matched}, dropped {dropped}"], 0))
-    scene.check("tap: drops", (sum(line.startswith("dropped:") for line in lines), int(dropped) > 0), (int(dropped), True))
-
-
-@case
-def examples_do_what_they_say(scene):
-    """The examples in C and Python: the filter keeps what `bpftap cut` keeps, and the kernel takes a program."""
-    if not is_there(scene):
-        return
-    scene.start({})
-    if scene.has("gcc"):
-        for name in ("filter", "attach", "tap"):
-            words = ["gcc", "-std=gnu11", "-O2", *STRICT, f"-I{ROOT / 'include'}", ROOT / "examples" / "c" / f"{name}.c", ARCHIVE, "-o", name]
-            passes(scene, words)
-        scene.check("filter", done(scene, ["./filter", "udp port 5353", VETH, "dns.pcap"]), ("67 of 253 packets\n", 0))
-        scene.run(["cut", "-s", "0", "-e", "udp port 5353", str(VETH), "cut.pcap"])
-        scene.check("what it kept", scene.read("dns.pcap") == scene.read("cut.pcap"), True)
-        scene.check("a refused expression", done(scene, ["./filter", "port http", VETH, "x"]), ("filter: port http: BadWord 5\n", 1))
-        loses_what_steps_loses(scene)
-        takes_long_captures(scene)
-        said, status = done(scene, ["./attach", "tcp port 80"])
-        scene.check("attach", (re.sub(r"\d+", "N", said), status), ("the kernel took N instructions\n", 0))
-    environment = {**os.environ, "PYTHONPATH": str(ROOT / "bindings" / "python"), "BPFTAP_LIBRARY": str(LIBRARY), "PYTHONDONTWRITEBYTECODE": "1"}
-    said, status = done(scene, [sys.executable, ROOT / "examples" / "python" / "test_bench.py"], env=environment)
-    scene.check("test_bench.py", (said.count("passed "), status), (3, 0))
-    said, status = done(scene, [sys.executable, ROOT / "examples" / "python" / "lesson.py"], env=environment)
-    scene.check("lesson.py", (said.splitlines()[-4:], status), (
-        ["No tcp dst port 443", "Yes tcp dst port 80", "96 bytes are kept", "Abort tcp dst port 80, byte 36 is not captured"], 0))
-    scene.put({"listeners": "96 4096 len > 50\n", "script": ("arrive\n" * 125 + "read 0\n") * 2})
-    counts = re.findall(r"\d+", scene.run(["steps", "listeners", "script", str(VETH)]).out.decode())
-    said, status = done(scene, [sys.executable, ROOT / "examples" / "python" / "drops.py"], env=environment)
-    scene.check("drops.py", (said.splitlines()[1:2], status), ([f"{counts[3]} dropped of {counts[2]}"], 0))
-
-
-@case
-def crate_of_rust_passes_its_tests(scene):
-    """`cargo test --offline` of bindings/rust, with the example of its page; without the library the build names BPFTAP_LIB."""
-    if is_there(scene) and scene.has("cargo"):
-        scene.start({})
-        words = ["cargo", "test", "--offline", "--quiet", "--manifest-path", ROOT / "bindings" / "rust" / "Cargo.toml"]
-        environment = {**os.environ, "CARGO_TARGET_DIR": str(scene.folder / "target"), "BPFTAP_LIB": str(ARCHIVE.parent)}
-        said, status = done(scene, words, env=environment)
-        scene.check("cargo test", status, 0)
-        if status:
-            scene.check("what it said", said, "")
-        said, status = done(scene, words, env={**environment, "BPFTAP_LIB": "/nosuch"})
-        line = "/nosuch/libbpftap.a is not there: let BPFTAP_LIB name the folder of libbpftap.a, or run ./build bpftap_c in the repository"
-        scene.check("cargo test without the library", (line in said, status != 0), (True, True))

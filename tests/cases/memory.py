@@ -177,6 +177,32 @@ def memory_that_the_system_wants_is_a_fault_of_the_file(scene):
         scene.check(f"standard error of {words}, {name} of {path} refused", (seen.out, seen.err.decode(), seen.status), (b"", wanted, 3))
 
 
+# Words that read a text from standard input, and what is printed if it is one line of 16 MiB.
+TEXTS = [
+    ("check -f /dev/stdin", "TextTooLong"), ("explain -f /dev/stdin in.pcap", "TextTooLong"), ("compare -f /dev/stdin ip in.pcap", "TextTooLong"),
+    ("cut -s 0 -f /dev/stdin in.pcap out.pcap", "TextTooLong"), ("split /dev/stdin in.pcap", "Lines 1"), ("run /dev/stdin in.pcap", "Listeners 1"),
+    ("steps /dev/stdin script.txt in.pcap", "Listeners 1"), ("steps listeners.txt /dev/stdin in.pcap", "Script 1"),
+]
+MOST = 1 << 24
+
+
+@case
+def a_text_is_read_up_to_its_bound(scene):
+    """In 64 MB a LISTING, LINES, LISTENERS or SCRIPT is refused if it is a pipe that never ends, or a file of 1 GB; one of 16 MiB is read whole."""
+    scene.start({**FILES, "most.txt": b"a" * MOST})
+    with open(scene.folder / "long.txt", "wb") as long:
+        long.truncate(1 << 30)
+    for words, fault in TEXTS:
+        scene.expect(words, 1, f"bpftap: {fault}\n", streams="< most.txt", first="ulimit -v 65536")
+        for streams in ["< long.txt", "< <(exec yes aaaaaaaaaaaaaaaaaaaaaaaaaaaaaaaaaaaaaaaaaaaaaaaaaaaaaaaaaaaaa)"]:
+            wanted = f"bpftap: TextTooLong\n  /dev/stdin has more than {MOST} bytes\n"
+            scene.expect(f"--hints {words}", 1, wanted, streams=streams, first="ulimit -v 65536")
+    # A byte more than the bound.
+    with open(scene.folder / "most.txt", "ab") as most:
+        most.write(b"a")
+    scene.expect("split most.txt in.pcap", 1, "bpftap: TextTooLong\n")
+
+
 @case
 def hints_say_nothing_else(scene):
     """One block is refused: that is reported, or the fault, and no hint that an undisturbed run lacks."""

@@ -1,9 +1,10 @@
 """The pages: their commands after a `$` print the lines below them, and their links lead somewhere."""
 import os
 import re
+import shutil
 import subprocess
 
-from .common import LIMIT, PROGRAM, ROOT, case
+from .common import LIMIT, PROGRAM, ROOT, VERSION, case
 from .manual import session
 
 # Pages whose commands need no other program than the system's own; docs/SCALE.md has a group of its own.
@@ -48,6 +49,21 @@ def commands_print_what_they_say(scene):
 
 
 @case
+def git_ignores_what_the_first_commands_write(scene):
+    """What the commands of README and of the page of examples write, called in a clone, is no change of it."""
+    if not scene.has("git"):
+        return
+    for name in ["README.md", "examples/README.md"]:
+        run_page(scene, ROOT / name)
+        shutil.copy(ROOT / ".gitignore", scene.folder)
+        subprocess.run(["git", "init", "-q", "."], cwd=scene.folder, check=True, timeout=LIMIT)
+        words = ["git", "status", "--porcelain", "--untracked-files=all"]
+        seen = subprocess.run(words, cwd=scene.folder, stdout=subprocess.PIPE, text=True, timeout=LIMIT).stdout
+        made = {line[3:] for line in seen.splitlines()} - {".gitignore", "bin/bpftap", "bpftap", "examples"}
+        scene.check(f"made by the commands of {name}", made, set())
+
+
+@case
 def commands_of_all_pages_are_run(scene):
     """A page that has commands after a `$` is one of those that are run."""
     with_commands = {str(page.relative_to(ROOT)) for page in pages() if any(sessions(page))}
@@ -65,6 +81,35 @@ def program_and_pages_name_one_logic(scene):
     if scene.has("rt"):
         kit = subprocess.run(["rt", "version"], stdout=subprocess.PIPE, text=True, timeout=LIMIT)
         scene.check("the toolchain's", kit.stdout.partition(" ")[2].strip(), logic[1])
+
+
+@case
+def the_version_stands_once(scene):
+    """The version of the list of changes is that of the sources, the header, and the packages, as `release/version` sets it."""
+    seen = subprocess.run([ROOT / "release" / "version"], stdout=subprocess.PIPE, text=True, timeout=LIMIT)
+    scene.check("other versions", (seen.stdout, seen.returncode), (f"{VERSION}\n", 0))
+    scene.start({})
+    for name in ["release/version", "CHANGELOG.md", "include/bpftap.h", "include/bpftap.pc", "bindings/python/pyproject.toml"]:
+        (scene.folder / name).parent.mkdir(parents=True, exist_ok=True)
+        shutil.copy(ROOT / name, scene.folder / name)
+    changes = scene.folder / "CHANGELOG.md"
+    changes.write_text(changes.read_text().replace(f"## {VERSION}", "## 98.7.65"))
+    subprocess.run([scene.folder / "release" / "version", "--set"], stdout=subprocess.DEVNULL, timeout=LIMIT)
+    for name, line in [("include/bpftap.pc", "Version: 98.7.65"), ("bindings/python/pyproject.toml", 'version = "98.7.65"')]:
+        scene.check(f"set in {name}", line in (scene.folder / name).read_text().splitlines(), True)
+
+
+@case
+def what_is_linked_in_has_its_notice(scene):
+    """NOTICES names each library of the toolchain that a crate uses; a file that is given away alone names the licence."""
+    lines = [line.partition(":") for line in (ROOT / "crates.txt").read_text().splitlines() if re.match(r"[a-z]", line)]
+    own = {name.split()[0]: uses.split() for name, _, uses in lines}
+    linked = {use for name, uses in own.items() if not name.startswith("test_") for use in uses} - {*own}
+    named = set(re.findall(r"\w+", (ROOT / "NOTICES").read_text()))
+    scene.check("without a notice", sorted(linked - named), [])
+    alone = [path for form in ("include/bpftap.h", "bindings/**/*.py", "bindings/**/*.rs", "bindings/**/*.go") for path in ROOT.glob(form)]
+    lacking = [path for path in alone if "SPDX-License-Identifier: MIT OR Apache-2.0" not in path.read_text()]
+    scene.check("without a licence", sorted(str(path.relative_to(ROOT)) for path in lacking), [])
 
 
 def pages():

@@ -1,7 +1,11 @@
 """The launcher and `release/`: which program is run, how a release is made and compared, and what is refused. A stand-in takes the toolchain's place."""
+import contextlib
+import hashlib
 import os
+import pathlib
 import shutil
 import subprocess
+import tempfile
 import time
 
 from .build import MADE, STALE, Source
@@ -9,6 +13,8 @@ from .common import LIMIT, ROOT, Seen, case
 
 ARCHIVE = "release/bpftap-x86_64-linux.tar.gz"
 RELEASED, BUILT = b"bpftap 1.2.3, a stand-in\nreleased, reproduced by the gate\n", b"bpftap 1.2.3, a stand-in\nbuilt and proved here\n"
+# A program that needs another system.
+OLD = "#!/bin/sh\necho \"libc.so.6: version \\`GLIBC_2.34' not found\" >&2\nexit 1\n"
 # The program that runs, if one does, leaves a mark.
 MARKS = MADE.replace("#!/bin/sh\n", '#!/bin/sh\ntouch "$HOME/ran"\n')
 
@@ -32,6 +38,11 @@ class Clone(Source):
     def answer(self, *words):
         return Seen(f"here: {self.scene.folder}, words: {' '.join(words)}\n".encode(), b"", 7)
 
+    def unpacked(self):
+        """The folder of the released files."""
+        self.lib("unpack", ARCHIVE.removeprefix("release/"))
+        return next((self.folder / "out" / "released").iterdir())
+
     def is_unpacked_in(self, folder):
         return sorted(path.name for path in folder.glob("released/*/bin/bpftap"))
 
@@ -47,6 +58,12 @@ def refused(scene, clone, what, line):
     """The launcher prints one line and ends with 125, and the program was not run."""
     scene.check(what, clone.call("check", "ip"), Seen(b"", f"bpftap: {line}\n".encode(), 125))
     scene.check(f"{what}: run", (clone.home / "ran").exists(), False)
+
+
+def no_place(clone, cache):
+    """The launcher has no folder for the program."""
+    line = f"bpftap: no program can be put in {clone.folder}/out or {cache}: set XDG_CACHE_HOME to a folder that only you can write to\n"
+    return Seen(b"", line.encode(), 125)
 
 
 @case
@@ -149,7 +166,7 @@ def a_damaged_archive_is_refused(scene):
         archive.write_bytes(text)
         refused(scene, clone, f"{len(text)} bytes", damaged)
     archive.write_bytes(whole)
-    sums.write_text(named.replace("# archive ", "# archive 0"))
+    change(sums, named.index(f"  {ARCHIVE.removeprefix('release/')}") - 1)
     refused(scene, clone, "another checksum of the archive", damaged)
     sums.write_text(named)
     change(sums, named.index("  bin/bpftap") - 1)
@@ -178,7 +195,7 @@ def an_archive_has_what_is_listed_and_no_more(scene):
     clone = Clone(scene, MARKS)
     sums = clone.folder / "release" / "SHA256SUMS"
     named = sums.read_text()
-    sums.write_text("".join(line for line in named.splitlines(True) if line.startswith("#")))
+    sums.write_text("".join(line for line in named.splitlines(True) if not line.startswith("# in ")))
     seen = clone.call("check", "ip")
     scene.check("not listed", (seen.err.endswith(b" is not what release/SHA256SUMS says\n"), seen.status), (True, 125))
     sums.write_text(named)
@@ -189,8 +206,8 @@ def an_archive_has_what_is_listed_and_no_more(scene):
     (clone.home / "elsewhere").chmod(0o755)
     (tree / "bin" / "bpftap").symlink_to(clone.home / "elsewhere")
     subprocess.run(["tar", "-czf", clone.folder / ARCHIVE, "-C", tree, "."], check=True, timeout=LIMIT)
-    digest = clone.lib("checksum", str(clone.folder / ARCHIVE)).out.decode().strip()
-    sums.write_text("".join(f"# archive {digest}\n" if line.startswith("# archive") else line for line in named.splitlines(True)))
+    digest, name = hashlib.sha256((clone.folder / ARCHIVE).read_bytes()).hexdigest(), ARCHIVE.removeprefix("release/")
+    sums.write_text("".join(f"{digest}  {name}\n" if line.endswith(f"  {name}\n") else line for line in named.splitlines(True)))
     seen = clone.call("check", "ip")
     scene.check("a link", (seen.err.endswith(b" is not what release/SHA256SUMS says\n"), seen.status), (True, 125))
     scene.check("run", (clone.home / "ran").exists(), False)
@@ -221,16 +238,57 @@ def a_machine_that_cannot_run_it_is_reported(scene):
     clone = Clone(scene, MARKS)
     tools = scene.folder / "tools"
     tools.mkdir()
-    (tools / "uname").write_text("#!/bin/sh\necho Linux aarch64\n")
+    (tools / "uname").write_text("#!/bin/sh\necho Linux riscv64\n")
     (tools / "uname").chmod(0o755)
     build = "./build proves and builds one, with the toolchain"
     there = {**clone.bare(), "PATH": f"{tools}:/usr/bin:/bin"}
-    line = f"bpftap: the released program is for x86-64 Linux, and this is Linux aarch64: {build}\n"
+    line = f"bpftap: no released program is for Linux riscv64: {build}\n"
     scene.check("another processor", clone.run(program="bpftap", env=there), Seen(b"", line.encode(), 125))
-    clone.release("#!/bin/sh\necho \"libc.so.6: version \\`GLIBC_2.34' not found\" >&2\nexit 1\n")
-    refused(scene, clone, "an old system", f"the released program does not run here: it is for glibc 2.34 and later. {build}")
+    clone.release(OLD)
+    refused(scene, clone, "an old system", "the released program does not run here: that for x86-64 needs glibc 2.34 or later, and a processor of "
+            f"x86-64-v2. {build}")
     scene.check("a build", clone.run().status, 0)
     scene.check("what was built", clone.call("--version").out, BUILT)
+
+
+def also_released(clone, programs):
+    """Makes a release of the same sources with a program for each of these targets too."""
+    key = clone.lib("sources_key").out.decode().strip()
+    for target, program in programs.items():
+        made = clone.folder / "out" / "targets" / key / target / "bin" / "bpftap"
+        made.parent.mkdir(parents=True)
+        made.write_text(program)
+        made.chmod(0o755)
+        made.parent.parent.with_name(f"{target}.by").write_text("made by hand\n")
+    shutil.copytree(clone.unpacked(), clone.folder / "out" / "built" / key)
+    clone.lib("pack")
+    shutil.rmtree(clone.folder / "out")
+
+
+@case
+def each_machine_runs_the_program_for_it(scene):
+    """Where the first program does not run the static one is taken, and on another processor the one for that; each is checked as the first is."""
+    clone = Clone(scene, OLD)
+    static = MADE.replace("a stand-in", "static")
+    also_released(clone, {"x86_64-linux-static": static, "aarch64-linux": static.replace("static", "of another machine")})
+    sums = (clone.folder / "release" / "SHA256SUMS").read_text()
+    scene.check("how it was made", "# aarch64-linux made by hand\n" in sums, True)
+    words = ["sha256sum", "--quiet", "--check", "SHA256SUMS"]
+    scene.check("checksums", subprocess.run(words, cwd=clone.folder / "release", timeout=LIMIT).returncode, 0)
+    wanted = b"bpftap 1.2.3, static\nreleased, of bpftap-x86_64-linux-static.tar.gz\n"
+    scene.check("static", (clone.call("--version").out, clone.call("--version").out), (wanted, wanted))
+    tools = scene.folder / "tools"
+    tools.mkdir()
+    (tools / "uname").write_text("#!/bin/sh\necho Linux aarch64\n")
+    (tools / "uname").chmod(0o755)
+    shutil.rmtree(clone.folder / "out")
+    there = {**clone.bare(), "PATH": f"{tools}:/usr/bin:/bin"}
+    wanted = b"bpftap 1.2.3, of another machine\nreleased, of bpftap-aarch64-linux.tar.gz\n"
+    scene.check("another machine", clone.run("--version", program="bpftap", env=there).out, wanted)
+    shutil.rmtree(clone.folder / "out")
+    change(clone.folder / "release" / "bpftap-x86_64-linux-static.tar.gz", 4)
+    damaged = "release/bpftap-x86_64-linux-static.tar.gz is damaged: its SHA-256 is not the one in release/SHA256SUMS"
+    refused(scene, clone, "a damaged one", damaged)
 
 
 @case
@@ -243,10 +301,8 @@ def a_folder_that_cannot_be_written_uses_the_cache(scene):
     cache = {**clone.bare(), "XDG_CACHE_HOME": str(scene.folder / "a cache")}
     scene.check("another cache", clone.run(program="bpftap", env=cache), clone.answer())
     scene.check("unpacked there", clone.is_unpacked_in(scene.folder / "a cache" / "bpftap"), ["bpftap"])
-    for home in [{"HOME": "/dev/null"}, {}]:
-        place = f"{home.get('HOME', '/dev/null')}/.cache/bpftap"
-        line = f"bpftap: no program can be put in {clone.folder}/out or {place}: set XDG_CACHE_HOME to a folder of yours\n"
-        scene.check(f"no cache by {home}", clone.run(program="bpftap", env={"PATH": "/usr/bin:/bin", **home}), Seen(b"", line.encode(), 125))
+    for home, place in [({"HOME": "/dev/null"}, "/dev/null/.cache/bpftap"), ({}, "a cache"), ({"HOME": "home"}, "a cache")]:
+        scene.check(f"no cache by {home}", clone.run(program="bpftap", env={"PATH": "/usr/bin:/bin", **home}), no_place(clone, place))
 
 
 @case
@@ -259,6 +315,230 @@ def first_calls_at_once_do_not_disturb_one_another(scene):
     scene.check("answers", answers, [clone.answer("-c")] * 8)
     scene.check("left", len([*(clone.folder / "out" / "released").iterdir()]), 1)
     scene.check("noted", sorted(path.name for path in (clone.folder / "out").iterdir()), ["noted", "released"])
+
+
+# Another user, to whom only root can give files.
+OTHER = 65534
+# What another one would have run: it leaves a mark.
+PLANTED = "#!/bin/sh\ntouch \"$HOME/ran\"\necho 'bpftap 1.2.3, planted'\n"
+
+
+def plant(clone, place, name="released/planted/bin/bpftap"):
+    """Puts a program in `out` or a cache, and notes it there, as a call that chose it would."""
+    program = place / name
+    program.parent.mkdir(parents=True, exist_ok=True)
+    program.write_text(PLANTED)
+    program.chmod(0o755)
+    script = 'root=$1 && . "$1/release/lib.sh" && { printf "%s\\n" "$3" "released, reproduced by the gate"; state "$2/$3"; } >"$2/noted"; true'
+    subprocess.run(["sh", "-c", script, "sh", clone.folder, place, name], check=True, timeout=LIMIT)
+    (place / "noted").chmod(0o600)
+
+
+def give(*paths, user=OTHER):
+    """Makes paths, and all below them, another user's."""
+    for top in paths:
+        for path in [top, *top.rglob("*")]:
+            os.chown(path, user, user)
+
+
+def has_run(clone):
+    """Whether the planted program has run since the last time."""
+    mark = clone.home / "ran"
+    ran = mark.exists()
+    mark.unlink(missing_ok=True)
+    return ran
+
+
+def modes(folder):
+    """The modes of a folder and of all below it."""
+    return {oct(path.stat().st_mode & 0o777) for path in [folder, *folder.rglob("*")]}
+
+
+@case
+def what_others_noted_is_not_run(scene):
+    """A note in `out` or the cache that others can have written is not taken: what it names is not run, and the released program is."""
+    clone = Clone(scene)
+    out, cache = clone.folder / "out", clone.home / ".cache" / "bpftap"
+    # That a note of one's own is taken shows that these are well made.
+    for place in [out, cache]:
+        plant(clone, place)
+        scene.check(f"one's own, in {place.name}", (clone.call("--version").status, has_run(clone)), (0, True))
+    for place in [out, cache]:
+        for what in ["", "noted", "released", "released/planted", "released/planted/bin", "released/planted/bin/bpftap"]:
+            shutil.rmtree(out, ignore_errors=True)
+            shutil.rmtree(cache, ignore_errors=True)
+            plant(clone, place)
+            mode = (place / what).stat().st_mode
+            (place / what).chmod(mode | 0o002)
+            scene.check(f"others can write to {place.name}/{what}", (clone.call("--version").out, has_run(clone)), (RELEASED, False))
+    for name in ["../planted", "released/../../planted"]:
+        shutil.rmtree(out, ignore_errors=True)
+        shutil.rmtree(cache)
+        (cache / "released").mkdir(parents=True)
+        plant(clone, cache, name)
+        scene.check(f"a note of {name}", (clone.call("--version").out, has_run(clone)), (RELEASED, False))
+
+
+@case
+def a_cache_that_others_can_write_to_is_none(scene):
+    """Nothing is run in a cache that is below a folder that others can write to, unless they can only add to it, as to /tmp."""
+    clone = Clone(scene)
+    (clone.folder / "out").write_text("in the way\n")
+    for shared in [clone.home, clone.home / ".cache"]:
+        cache = clone.home / ".cache" / "bpftap"
+        plant(clone, cache)
+        shared.chmod(0o777)
+        scene.check(f"others can write to {shared.name}", (clone.call("--version"), has_run(clone)), (no_place(clone, cache), False))
+        shared.chmod(0o1777)
+        scene.check(f"they can add to {shared.name}", (clone.call("--version").status, has_run(clone)), (0, True))
+        shared.chmod(0o755)
+        shutil.rmtree(cache)
+
+
+@case
+def what_another_user_made_is_not_run(scene):
+    """Root's first call with the HOME of another user, and a cache or `out` that another user made, run nothing of that user's."""
+    if os.geteuid() != 0:
+        scene.leave("only root can make files of another user")
+        return
+    clone = Clone(scene)
+    out, cache = clone.folder / "out", clone.home / ".cache" / "bpftap"
+    for paths in [[clone.home], [cache], [cache / "noted"], [cache / "released"]]:
+        plant(clone, cache)
+        give(*paths)
+        scene.check(f"{paths[0].name} of another user", (clone.call("--version").out, has_run(clone)), (RELEASED, False))
+        shutil.rmtree(cache)
+        shutil.rmtree(out)
+        give(clone.home, user=0)
+    for paths in [[out], [out / "noted"], [out / "released"]]:
+        plant(clone, out)
+        give(*paths)
+        scene.check(f"{paths[0].name} in out of another user", (clone.call("--version").out, has_run(clone)), (RELEASED, False))
+        shutil.rmtree(out)
+    for place in [out, cache]:
+        plant(clone, place)
+        os.chown(place, OTHER, OTHER)
+        scene.check(f"only the folder {place.name} of another user", (clone.call("--version").out, has_run(clone)), (RELEASED, False))
+        shutil.rmtree(place)
+    shutil.rmtree(out, ignore_errors=True)
+    shutil.rmtree(cache, ignore_errors=True)
+    built = out / "built" / clone.lib("sources_key").out.decode().strip() / "bin" / "bpftap"
+    plant(clone, out, str(built.relative_to(out)))
+    give(out / "built")
+    scene.check("a build of another user", (clone.call("--version").out, has_run(clone)), (RELEASED, False))
+    (clone.folder / ARCHIVE).unlink()
+    give(out)
+    line = f"bpftap: nothing in {out} is run, since others can change it: remove it, or run chmod -R go-w on it\n"
+    scene.check("nothing to run", clone.call("--version"), Seen(b"", line.encode(), 125))
+
+
+@case
+def another_user_can_call_the_launcher(scene):
+    """In a clone that belongs to somebody else, what that user built is run, and what was released is run in one's own cache."""
+    if os.geteuid() != 0 or not scene.has("setpriv"):
+        scene.leave("only root can be another user")
+        return
+    with tempfile.TemporaryDirectory() as top:
+        os.chmod(top, 0o755)
+        scene.folder = pathlib.Path(top)
+        clone = Clone(scene)
+        give(clone.home)
+        clone.home.chmod(0o700)
+        words = ["setpriv", f"--reuid={OTHER}", "--clear-groups", clone.folder / "bpftap", "--version"]
+        call = lambda: subprocess.run(words, cwd="/", env=clone.bare(), capture_output=True, timeout=LIMIT).stdout
+        scene.check("released", (call(), call()), (RELEASED, RELEASED))
+        scene.check("unpacked", clone.is_unpacked_in(clone.home / ".cache" / "bpftap"), ["bpftap"])
+        shutil.rmtree(clone.home / ".cache")
+        clone.run()
+        scene.check("built", (call(), call()), (BUILT, BUILT))
+        scene.check("noted", [(clone.folder / "out" / "noted").exists(), clone.call("--version").out], [False, BUILT])
+
+
+@case
+def a_first_call_leaves_nothing_that_others_can_write_to(scene):
+    """Whatever the umask, others can write to nothing of `out` and of the cache; so can those of one's group not."""
+    clone = Clone(scene)
+    cache, out = clone.home / ".cache", clone.folder / "out"
+    for mask in [0o000, 0o002, 0o077]:
+        how = {"preexec_fn": lambda mask=mask: os.umask(mask)}
+        scene.check(f"called under {mask:03o}", (clone.call("--version", **how).out, clone.call("--version", **how).out), (RELEASED, RELEASED))
+        scene.check(f"modes of out under {mask:03o}", modes(out), {"0o755", "0o600"})
+        shutil.rmtree(out)
+        out.write_text("in the way\n")
+        scene.check(f"the cache under {mask:03o}", clone.call("--version", **how).out, RELEASED)
+        scene.check(f"modes of the cache under {mask:03o}", modes(cache), {"0o755", "0o600"})
+        shutil.rmtree(cache)
+        out.unlink()
+        scene.check(f"built under {mask:03o}", (clone.run(**how).status, clone.call("--version", **how).out), (0, BUILT))
+        scene.check(f"modes of out after a build under {mask:03o}", {mode for mode in modes(out) if int(mode, 8) & 0o022}, set())
+        shutil.rmtree(out)
+
+
+@case
+def the_program_has_the_umask_of_its_caller(scene):
+    """A file that the program makes has the mode that the caller asks for."""
+    clone = Clone(scene, "#!/bin/sh\n[ $# = 1 ] || touch made\n")
+    for name in ["first", "second"]:
+        clone.call(name, "a file", cwd=clone.home, preexec_fn=lambda: os.umask(0o077))
+        scene.check(f"the {name} call", oct((clone.home / "made").stat().st_mode & 0o777), "0o600")
+        (clone.home / "made").unlink()
+
+
+@case
+def a_relative_cache_is_none(scene):
+    """A HOME or XDG_CACHE_HOME that is not a whole path would be another folder at each call: nothing is put there, and nothing taken from there."""
+    clone = Clone(scene)
+    (clone.folder / "out").write_text("in the way\n")
+    plant(clone, scene.folder / "rel" / ".cache" / "bpftap")
+    plant(clone, scene.folder / "rel" / "bpftap")
+    for name in ["HOME", "XDG_CACHE_HOME"]:
+        environment = {"PATH": "/usr/bin:/bin", name: "rel"}
+        scene.check(f"a relative {name}", clone.run("--version", program="bpftap", env=environment), no_place(clone, "a cache"))
+    scene.check("left", sorted(path.name for path in (scene.folder / "rel").iterdir()), [".cache", "bpftap"])
+
+
+@case
+def a_clone_may_have_any_path(scene):
+    """A newline, a backslash and a quote in the path of a clone or of the cache change nothing."""
+    for name in ["a\nb", "c\n", "d\\e", "f\\n\\0g", "h 'i\" *", "-j"]:
+        scene.start({})
+        top = scene.folder / name
+        top.mkdir()
+        clone = Clone(Within(scene, top))
+        scene.check(f"released in {name!r}", (clone.call("--version").out, clone.call("--version").out), (RELEASED, RELEASED))
+        (clone.folder / "out" / "noted").write_text("changed\n")
+        scene.check(f"noted in {name!r}", (clone.call("-c").status, (clone.folder / "out" / "noted").read_text()[:9]), (7, "released/"))
+        shutil.rmtree(clone.folder / "out")
+        (clone.folder / "out").write_text("in the way\n")
+        scene.check(f"cached in {name!r}", (clone.call("--version").out, clone.call("--version").out), (RELEASED, RELEASED))
+        (clone.folder / "out").unlink()
+        scene.check(f"built in {name!r}", (clone.run("--release").status, clone.call("--version").out), (0, BUILT))
+        scene.check(f"path in {name!r}", clone.lib("program_path").out.decode().startswith(f"{clone.folder}/out/built/"), True)
+
+
+class Within:
+    """A scene's folder below its own."""
+
+    def __init__(self, scene, folder):
+        self.scene, self.folder = scene, folder
+
+
+@case
+def containers_that_share_a_clone_do_not_disturb_one_another(scene):
+    """First calls at once that all have one process number, each in a namespace of its own, all answer."""
+    own = ["unshare", "--user", "--map-root-user", "--pid", "--fork"] if os.geteuid() else ["unshare", "--pid", "--fork"]
+    if not scene.has("unshare") or subprocess.run([*own, "true"], stderr=subprocess.DEVNULL).returncode:
+        scene.leave("no namespace of processes can be made")
+        return
+    clone = Clone(scene)
+    how = {"cwd": scene.folder, "env": clone.bare(), "stdin": subprocess.DEVNULL, "stdout": subprocess.PIPE, "stderr": subprocess.PIPE}
+    for turn in range(6):
+        calls = [subprocess.Popen([*own, clone.folder / "bpftap", "-c"], **how) for _ in range(4)]
+        answers = [Seen(*call.communicate(timeout=LIMIT), call.returncode) for call in calls]
+        scene.check(f"answers of turn {turn}", answers, [clone.answer("-c")] * 4)
+        scene.check(f"left by turn {turn}", sorted(path.name for path in (clone.folder / "out").iterdir()), ["noted", "released"])
+        scene.check(f"unpacked by turn {turn}", len([*(clone.folder / "out" / "released").iterdir()]), 1)
+        shutil.rmtree(clone.folder / "out")
 
 
 def quickest(words, enough, **how):
@@ -275,15 +555,17 @@ def quickest(words, enough, **how):
 
 @case
 def a_second_call_takes_ten_milliseconds_more_at_most(scene):
-    """Over all sources of this folder, a program that does nothing is called by the launcher and without it."""
+    """Over all sources of this folder, a program that does nothing is called by the launcher and without it. On a machine so busy that
+    everything takes longer, it takes no more than 15 starts of a shell."""
     clone = Clone(scene)
     for crate in ROOT.glob("crates/*"):
         shutil.copytree(crate, clone.folder / "crates" / crate.name, ignore=shutil.ignore_patterns("out"), dirs_exist_ok=True)
     clone.release("#!/bin/sh\n")
     clone.call()
     bare = quickest([next(clone.folder.glob("out/released/*/bin/bpftap"))], 1)
-    more = quickest([clone.folder / "bpftap"], bare + 10, env=clone.bare()) - bare
-    scene.check(f"{more:.1f} ms", more <= 10, True)
+    enough = max(10, 15 * quickest(["sh", "-c", ":"], 0.6))
+    more = quickest([clone.folder / "bpftap"], bare + enough, env=clone.bare()) - bare
+    scene.check(f"{more:.1f} ms, wanted {enough:.1f} at most", more <= enough, True)
 
 
 @case
@@ -293,7 +575,7 @@ def a_release_is_made_by_one_command(scene):
     seen = source.run("--release")
     archive, sums = source.folder / ARCHIVE, source.folder / "release" / "SHA256SUMS"
     first = archive.read_bytes(), sums.read_bytes()
-    printed = f"{ARCHIVE} has {len(first[0])} bytes; release/SHA256SUMS says:\n".encode() + first[1]
+    printed = f"{len(first[0])} bytes in archives; release/SHA256SUMS says:\n".encode() + first[1]
     scene.check("printed, and the status", (seen.out, seen.status), (printed, 0))
     scene.check("of", first[1].decode().splitlines()[1], "# toolchain kit 1")
     scene.check("compared", source.run().err, b"the released program is what these sources give\n")

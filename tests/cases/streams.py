@@ -5,7 +5,7 @@ import select
 import shutil
 import subprocess
 
-from .common import ALL, HEADER, IP, LIMIT, PROGRAM, TCP_RECORD, TORN, UDP_RECORD, WHOLE, Seen, as_bytes, case, fault_lines, header
+from .common import ALL, HEADER, IP, LIMIT, PROGRAM, TCP_RECORD, TORN, UDP_RECORD, WHOLE, Seen, as_bytes, case, fault_lines, header, words_of
 from .steps import EXPLAINED, REPORT
 
 FILES = {
@@ -165,6 +165,34 @@ SHARED = [
     ("check -f all.bpf", ">>all.bpf", "all.bpf"),
     ("check -d -f ./all.bpf", ">>all.bpf", "./all.bpf"),
 ]
+
+
+# Words whose OUT, or FILE of `-p`, is standard input by each of its names, and what the fault names.
+FED_BACK = [
+    ("cut -s 0 whole.pcap /dev/stdin", "/dev/stdin"), ("cut -s 0 whole.pcap /dev/fd/0", "/dev/fd/0"), ("cut -s 0 -w /proc/self/fd/0 whole.pcap whole.pcap", "/proc/self/fd/0"),
+    ("cut -s 0 /dev/stdin /dev/fd/0", "/dev/fd/0"), ("split stdin.txt whole.pcap", "/dev/stdin"), ("run fed.txt whole.pcap", "/dev/stdin"),
+    ("steps -p /dev/stdin l.txt s.txt whole.pcap", "/dev/stdin"), ("compare -w /dev/stdin ip arp", "/dev/stdin"),
+]
+
+
+@case
+def no_output_is_standard_input(scene):
+    """An OUT that is the pipe or the file of standard input is refused at once, and nothing is written there."""
+    scene.put({**FILES, "stdin.txt": "0 /dev/stdin\n", "fed.txt": "0 0 0 1048576 2 /dev/stdin\n", "kept.pcap": "kept"})
+    before = scene.files()
+    for words, path in FED_BACK:
+        reader, writer = os.pipe()
+        # Its writer lives on, so that a call that reads what it has written would wait for more.
+        done = subprocess.run([PROGRAM, *words_of(words)], cwd=scene.folder, stdin=reader, capture_output=True, timeout=LIMIT)
+        waiting = select.select([reader], [], [], 0)[0]
+        os.close(reader), os.close(writer)
+        scene.check(f"{words} from a pipe", (done.stdout, done.stderr.decode(), done.returncode, waiting), (b"", fault_lines(f"SameFile {path}"), 1, []))
+        scene.expect(words, 1, fault_lines(f"SameFile {path}"), streams="<> kept.pcap")
+        scene.check(f"files after {words}", scene.files(), before)
+    scene.expect("--hints cut -s 0 whole.pcap kept.pcap", 1, fault_lines("SameFile kept.pcap") + "  standard input comes from that file: name another OUT\n",
+                 streams="< kept.pcap")
+    # A device loses nothing.
+    scene.expect("cut -s 0 whole.pcap /dev/null", streams="< /dev/null")
 
 
 @case

@@ -3,7 +3,7 @@ import os
 import subprocess
 import sys
 
-from .common import PROGRAM, ROOT, VETH, case, header, records
+from .common import LIMIT, PROGRAM, ROOT, VETH, case, header, records
 
 
 class Packet:
@@ -105,6 +105,40 @@ def run_all(scene, room):
     reports = seen.out.decode().splitlines()
     scene.check(f"reports with {room}", len(reports), len(TCPDUMP))
     return reports
+
+
+# What libpcap 1.10.3 says of expressions that are read here, as LANGUAGE lists them.
+REFUSED = {
+    "31 / ether[0:2] = 1": "division by zero",
+    "31 / (ip[0] + 1) = 1": "division by zero",
+    "1 << ip[40] = 1": "shift by more than 31 bits",
+    "ip[0:4] = 010000000000": "can't parse filter expression: syntax error",
+    "ip[0:4] = 017777777777": "can't parse filter expression: syntax error",
+}
+# What its optimiser turns into another filter.
+OPTIMISED = "ip and (tcp port 22 or tcp port 21 and tcp port 80 or tcp port 22 or tcp port 65535)"
+
+
+@case
+def libpcap_differs_where_the_page_says(scene):
+    """tcpdump refuses these expressions, which are read here; and its optimiser changes the meaning of one, which `compare` finds."""
+    if not scene.has("tcpdump"):
+        return
+    version = subprocess.run(["tcpdump", "--version"], capture_output=True, text=True, timeout=LIMIT)
+    if "libpcap version 1.10.3" not in version.stdout + version.stderr:
+        scene.leave("tcpdump has another libpcap than 1.10.3")
+        return
+    page = (ROOT / "docs" / "LANGUAGE.md").read_text()
+    for text, fault in REFUSED.items():
+        words = ["tcpdump", "-y", "EN10MB", "-d", text]
+        seen = subprocess.run(words, capture_output=True, text=True, timeout=LIMIT)
+        scene.check(f"tcpdump on {text}", (seen.stderr.splitlines()[-1:], seen.returncode), ([f"tcpdump: {fault}"], 1))
+        scene.check(f"bpftap on {text}", scene.run(["check", text]).status, 0)
+    scene.check("on the page", [text for text in ["31 / ether[0:2] = 1", "1 << ip[40] = 1", "017777777777", OPTIMISED] if text not in page], [])
+    for words, status in [([], 4), (["-O"], 0)]:
+        listing = subprocess.run(["tcpdump", *words, "-y", "EN10MB", "-ddd", OPTIMISED], capture_output=True, timeout=LIMIT).stdout
+        scene.put({"listing": listing})
+        scene.check(f"compared, tcpdump {words}", scene.run(["compare", "-q", "-f", "listing", OPTIMISED]).status, status)
 
 
 @case

@@ -44,7 +44,7 @@ def frames_are_counted(scene):
     """Below what `explain`, `compare`, `split` and `cut -c` print is how many frames no filter looks into."""
     scene.start({"in.pcap": MIXED, "two.pcap": HEADER + record(0x88a8), "lines.txt": "0 all.pcap \n0 ip.pcap ip\n"})
     scene.expect("--hints cut -c -s 0 -e ip in.pcap out.pcap", 0, "2 of 5 packets\n" + line(2, 5))
-    scene.expect("--hints cut -c -s 0 -e ip in.pcap two.pcap in.pcap out.pcap", 0, "4 of 11 packets\n" + line(5, 11))
+    scene.expect("--hints cut -c -s 0 -e ip -w out.pcap in.pcap two.pcap in.pcap", 0, "4 of 11 packets\n" + line(5, 11))
     scene.expect("--hints split lines.txt in.pcap two.pcap", 0, line(3, 6), "all.pcap 6 of 6\nip.pcap 2 of 6\n")
     for words in ["explain -e ip", "compare ip tcp", "compare '' tcp", "compare ip ''"]:
         seen = scene.run(f"--hints {words} in.pcap two.pcap")

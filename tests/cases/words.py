@@ -1,5 +1,5 @@
 """The words of the command line: those that are no command, and those that ask for help or the version."""
-from .common import HEADER, TCP_RECORD, WHOLE, case, fault_lines
+from .common import HEADER, TCP_RECORD, VERSION, WHOLE, case, fault_lines, words_of
 
 WRONG = [
     "",
@@ -30,8 +30,8 @@ def bad_usage_ends_with_one(scene):
 
 # Words that ask for help or the version, and a part of it.
 HELP = [
-    ("--version", b"bpftap 1.3.0, proved in the logic "),
-    ("-V", b"bpftap 1.3.0, "),
+    ("--version", f"bpftap {VERSION}, proved in the logic ".encode()),
+    ("-V", f"bpftap {VERSION}, ".encode()),
     ("--help", b"Examples:\n"),
     ("help cut", b"[default: little]"),
     ("cut -h", b"[default: micro]"),
@@ -66,9 +66,11 @@ POINTED = [
     ("count in.pcap", b"bpftap cut -c"), ("filter tcp in.pcap out.pcap", b"bpftap cut"), ("read in.pcap", b"bpftap explain"),
     ("merge a.pcap b.pcap", b"mergecap"), ("print in.pcap", b"tcpdump -nr IN"), ("show", b"tcpdump -nr IN"), ("dump x", b"tcpdump -nr IN"),
     ("hexdump in.pcap", b"bpftap explain -p PLACE -e '' IN"), ("diff a b", b"bpftap compare EXPR1 EXPR2 IN"), ("version", b"bpftap --version"),
-    ("info in.pcap", b"capinfos IN"), ("head in.pcap", b"editcap -r -F nsecpcap IN OUT 1-10"), ("assemble x", b"bpftap check -f FILE"),
+    ("head in.pcap", b"editcap -r -F nsecpcap IN OUT 1-10"), ("assemble x", b"bpftap check -f FILE"),
     ("disassemble x", b"bpftap check -d -f FILE"), ("completions bash", b"./install"),
 ]
+
+WITHOUT_OPTION = "captures are words without an option: IN, and for cut OUT after it, or after -w"
 
 # Words that are refused or that a file fails by, the status, and the hints below all else.
 WORDS_OF_OTHERS = [
@@ -76,15 +78,16 @@ WORDS_OF_OTHERS = [
     ("check -F x", 1, ['to read an expression from a file: -e "$(cat FILE)", or for check "$(cat FILE)"']),
     ("cut -s 0 -A 2026-11-24 in.pcap out.pcap", 1,
      ["to keep packets between two times: editcap -A START -B STOP -F nsecpcap IN OUT"]),
-    ("explain -r in.pcap", 1, ["captures are words without an option: IN, and for cut OUT as the last word"]),
-    ("cut -s 0 in.pcap -w out.pcap", 1, ["captures are words without an option: IN, and for cut OUT as the last word"]),
+    ("explain -r in.pcap", 1, [WITHOUT_OPTION]),
+    ("explain -e ip -w out.pcap in.pcap", 1, [WITHOUT_OPTION]),
+    ("cut -s 0 in.pcap -w out.pcap", 0, []),
     ("compare -w out.pcap -z tcp udp", 1, []),
     ("explain -nn -e ip in.pcap", 1, ["addresses are never looked up: leave this option out"]),
     ("cut in.pcap out.pcap", 1, ["-s 0 keeps packets whole"]),
     ("cut -c -s 0 -e ip in.pcap", 1, ["to count only, give /dev/null as OUT"]),
     ("cut -s 0 -e ip in.pcap", 1, []),
     ("split", 1, []),
-    ("cut -c 10 -s 0 -e ip in.pcap out.pcap", 3,
+    ("cut -c 10 -s 0 -e ip in.pcap out.pcap", 1,
      ["-c takes no number: it counts packets", "to keep the first ten packets: editcap -r -F nsecpcap IN OUT 1-10"]),
     ("cut -s 0 -e ip - out.pcap", 3,
      ["`-` is the name of a file here: standard input is /dev/stdin, standard output /dev/stdout"]),
@@ -110,6 +113,26 @@ def words_of_other_tools_have_hints(scene):
 
 
 ALL_HINTS = {line for _, _, hints in WORDS_OF_OTHERS for line in hints}
+
+
+# Words that are refused, and where `--hints` is put: before the command, after it, and last.
+HINTED = ["check 'src prot 17'", "explain -e ip none.pcap", "cut -s 0 -e ip none.pcap out.pcap", "count in.pcap", "cut in.pcap out.pcap"]
+
+
+@case
+def hints_are_asked_for_anywhere(scene):
+    """`--hints` comes before or after the command, and prints the same; after `--` it is an expression. It goes with each help."""
+    for words in HINTED:
+        plain = scene.run(words)
+        split = words_of(words)
+        seen = [scene.run(["--hints", *split]), scene.run([split[0], "--hints", *split[1:]]), scene.run([*split, "--hints"])]
+        scene.check(f"{words} in three places", seen, [seen[0]] * 3)
+        scene.check(f"more lines than those of {words}", seen[0].err.startswith(plain.err) and seen[0].err != plain.err, True)
+    scene.expect("check -- --hints", 1, fault_lines("BadWord 2"))
+    for words in ["help expressions", "help cut", "cut -h", "--version"]:
+        plain = scene.run(words)
+        for asked in [f"--hints {words}", f"{words} --hints"]:
+            scene.check(asked, scene.run(asked), plain)
 
 
 @case

@@ -27,7 +27,7 @@ static const char TEXT[] = "tcp port 80 or (udp and ip[2:2] > len - 14 and not n
 static const struct bpftap_insn ALL[1] = {{6, 0, 0, 262144}};
 static uint8_t packet[60], capture[24 + 76];
 
-enum { ROOM = 4096 };
+enum { ROOM = 16384 };
 
 /* What a call returns and writes, and which call it is. */
 struct seen {
@@ -44,6 +44,7 @@ static struct seen call(int which) {
     struct bpftap_reason reason;
     struct bpftap_replay replay;
     struct bpftap_comparison comparison;
+    struct bpftap_traced traced;
     static const char listeners[] = "96 4096 tcp port 80\n96 4096i ip\n", script[] = "arrive\nflush 0\nread 1\nread 0\n";
     const struct bpftap_capture captures[2] = {{capture, sizeof capture}, {capture, sizeof capture}};
     int json = which == 8;
@@ -57,6 +58,19 @@ static struct seen call(int which) {
         case 6:
         case 8:
             replay = (json ? bpftap_steps_json : bpftap_steps)(listeners, strlen(listeners), script, strlen(script), captures, 2, text, ROOM);
+            result.fault = replay.fault, result.size = replay.size;
+            break;
+        case 10:
+            traced = bpftap_trace(ALL, 1, packet, sizeof packet, sizeof packet, (void *)seen.written, ROOM / sizeof(struct bpftap_executed));
+            result.fault = traced.fault, result.size = traced.size;
+            break;
+        case 11: result = bpftap_looks(TEXT, strlen(TEXT), packet, sizeof packet, sizeof packet, (void *)seen.written, ROOM / sizeof(struct bpftap_look)); break;
+        case 13:
+            replay = bpftap_steps_answers(listeners, strlen(listeners), script, strlen(script), captures, 2, text, ROOM);
+            result.fault = replay.fault, result.size = replay.size;
+            break;
+        case 12:
+            replay = bpftap_picture(listeners, strlen(listeners), script, strlen(script), captures, 2, text, ROOM);
             result.fault = replay.fault, result.size = replay.size;
             break;
         case 9:
@@ -75,7 +89,7 @@ int main(void) {
     static const uint8_t header[24] = {0xd4, 0xc3, 0xb2, 0xa1, 2, 0, 4, 0, 0, 0, 0, 0, 0, 0, 0, 0, 0, 0, 4, 0, 1, 0, 0, 0};
     memcpy(capture, header, 24);
     capture[32] = capture[36] = 60;
-    for (int which = 0; which < 10; which++) {
+    for (int which = 0; which < 14; which++) {
         static struct seen whole;
         whole = call(which);
         CHECK(whole.fault == BPFTAP_OK && whole.size > 0);

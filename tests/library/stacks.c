@@ -42,6 +42,12 @@ static void *why(void *unused) {
     return unused;
 }
 
+static void *looks(void *unused) {
+    for (size_t captured = 0; captured <= sizeof UDP; captured += sizeof UDP)
+        bpftap_looks(first, strlen(first), UDP, captured, sizeof UDP, (struct bpftap_look *)to, ROOM / sizeof(struct bpftap_look));
+    return unused;
+}
+
 static void *compare(void *unused) {
     bpftap_compare(first, strlen(first), second, strlen(second), budget, (uint8_t *)to, ROOM);
     return unused;
@@ -67,6 +73,16 @@ static void *steps_json(void *unused) {
     return unused;
 }
 
+static void *answers(void *unused) {
+    play(bpftap_steps_answers);
+    return unused;
+}
+
+static void *picture(void *unused) {
+    play(bpftap_picture);
+    return unused;
+}
+
 /* The calls that read no expression, with the program that was compiled last. */
 static void *others(void *unused) {
     struct bpftap_result listing = bpftap_write_listing(insns, size_of_program, to, ROOM);
@@ -76,14 +92,16 @@ static void *others(void *unused) {
     struct bpftap_program *program = block(bpftap_program_size());
     bpftap_program_init(program, insns, size_of_program);
     bpftap_program_run(program, UDP, sizeof UDP, sizeof UDP);
-    free(program);
     uint32_t answer;
+    bpftap_program_run_each(program, &(struct bpftap_packet){UDP, sizeof UDP, sizeof UDP}, 1, &answer, 1);
+    bpftap_trace(insns, size_of_program, UDP, sizeof UDP, sizeof UDP, (struct bpftap_executed *)to, BPFTAP_MAX_INSNS);
+    free(program);
     bpftap_run_spans(insns, size_of_program, UDP, sizeof UDP, &(struct bpftap_span){0, sizeof UDP, sizeof UDP}, 1, &answer, 1);
     bpftap_fault_text(BPFTAP_BAD_WORD, SIZE_MAX, to, ROOM);
     return unused;
 }
 
-static void *(*const CALLS[])(void *) = {compile, print, why, compare, steps, steps_json, others};
+static void *(*const CALLS[])(void *) = {compile, print, why, looks, compare, steps, steps_json, answers, picture, others};
 
 /* How much of a stack of this size a call touches. */
 static size_t touched(void *(*call)(void *), uint8_t *stack, size_t size) {

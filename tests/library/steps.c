@@ -1,8 +1,10 @@
-/* Plays a script to listeners over captures, by bpftap_steps, and with --json by bpftap_steps_json.
+/* Plays a script to listeners over captures, by bpftap_steps, with --json by bpftap_steps_json, and with --answers or --answers-json by
+ * bpftap_steps_answers and its neighbour.
  *
- *     steps [--json] LISTENERS SCRIPT CAPTURE..
+ *     steps [--json | --answers | --answers-json] LISTENERS SCRIPT CAPTURE..
  *
- * Prints what `bpftap steps` prints, on standard error too, with its exit status. Faults are printed as text in either form. */
+ * Prints what `bpftap steps` prints, on standard error too, with its exit status; of the answers what `steps -v` prints before the reports.
+ * Faults are printed as text in either form. */
 #include "check.h"
 #include <bpftap.h>
 
@@ -30,6 +32,9 @@ static const char *owner(uint32_t fault) {
 static void print_fault(struct bpftap_replay replay) {
     char text[64];
     bpftap_fault_text(replay.fault, replay.place, text, sizeof text);
+    /* The two names that the program prints otherwise. */
+    if (replay.fault == BPFTAP_STEPS_TOO_MANY) strcpy(text, "TooMany");
+    if (replay.fault == BPFTAP_RECORD_TOO_LONG) snprintf(text, sizeof text, "TooLong %zu", replay.place);
     const char *of = owner(replay.fault);
     if (of)
         fprintf(stderr, "bpftap: %s %u %s\n", of, replay.number, text);
@@ -38,10 +43,11 @@ static void print_fault(struct bpftap_replay replay) {
 }
 
 int main(int argc, char **argv) {
-    int json = argc > 1 && !strcmp(argv[1], "--json");
+    const char *form = argc > 1 && !strncmp(argv[1], "--", 2) ? argv[1] : "";
     struct bpftap_replay (*play)(const char *, size_t, const char *, size_t, const struct bpftap_capture *, size_t, char *, size_t) =
-        json ? bpftap_steps_json : bpftap_steps;
-    argc -= json, argv += json;
+        !strcmp(form, "--json") ? bpftap_steps_json : !strcmp(form, "--answers") ? bpftap_steps_answers
+        : *form ? bpftap_steps_answers_json : bpftap_steps;
+    if (*form) argc--, argv++;
     if (argc < 3) return 9;
     struct bpftap_capture files[100];
     for (int i = 1; i < argc && i <= 100; i++) files[i - 1] = content(argv[i]);

@@ -44,6 +44,23 @@ static int listens(uint32_t number) {
     return wrong;
 }
 
+/* Runs the shared program over batches, traces a run, and reads the expression again; returns what was wrong. */
+static int shares(const struct job *job) {
+    const struct bpftap_packet packets[2] = {{UDP, sizeof UDP, 38}, {UDP, 20, 38}};
+    const uint32_t sizes[2] = {38, 38};
+    const struct bpftap_span spans[2] = {{0, 38, 38}, {20, 38, 38}};
+    uint32_t each[2], joined[2], spanned[2];
+    int wrong = bpftap_program_run_each(shared, packets, 2, each, 2).size != 2;
+    wrong += bpftap_program_run_joined(shared, UDP, sizeof UDP, sizes, 2, joined, 2).size != 2;
+    wrong += bpftap_program_run_spans(shared, UDP, sizeof UDP, spans, 2, spanned, 2).size != 2;
+    for (int i = 0; i < 2; i++) wrong += each[i] != 7 || joined[i] != 7 || spanned[i] != 7;
+    static const struct bpftap_insn seven[1] = {{6, 0, 0, 7}};
+    struct bpftap_executed executed[1];
+    wrong += bpftap_trace(seven, 1, UDP, sizeof UDP, 38, executed, 1).answer != 7;
+    struct bpftap_look looks[8];
+    return wrong + (bpftap_looks(job->text, strlen(job->text), UDP, sizeof UDP, 38, looks, 8).fault != BPFTAP_OK);
+}
+
 static void *run(void *given) {
     struct job *job = given;
     struct bpftap_program *own = block(bpftap_program_size());
@@ -52,6 +69,7 @@ static void *run(void *given) {
         if (i % 100 == 0) {
             struct bpftap_result made = bpftap_compile(job->text, strlen(job->text), 100, insns, BPFTAP_MAX_INSNS);
             job->wrong += made.fault != BPFTAP_OK || bpftap_program_init(own, insns, made.size) != BPFTAP_OK;
+            job->wrong += shares(job);
         }
         job->wrong += bpftap_program_run(own, UDP, sizeof UDP, sizeof UDP) != job->answer;
         job->wrong += bpftap_program_run(shared, UDP, sizeof UDP, sizeof UDP) != 7;

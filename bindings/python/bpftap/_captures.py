@@ -1,15 +1,28 @@
+# SPDX-License-Identifier: MIT OR Apache-2.0
 """Captures: pcap files of Ethernet frames."""
 from __future__ import annotations
 
 import ctypes
+import functools
+import itertools
 import os
 import pathlib
-from collections.abc import Iterable, Iterator
-from dataclasses import dataclass
+import struct
+from array import array
+from collections.abc import Callable, Iterable, Iterator
 
 from ._errors import Fault, raise_fault
 from ._filters import Filter, FilterError, filter_of
-from ._library import END, MAX_SNAP, OK, Reader, Record, bytes_of, in_range, lib
+from ._library import MAX_SNAP, NO_MEMORY, Insn, Record, buffer_of, bytes_of, in_range, lib, room_of, view_of
+from ._packets import Packet
+
+SECOND = 10**9
+
+# Makes a `Packet` of a tuple in a third of the time that its own `__new__` takes.
+_new = tuple.__new__
+
+# The program that accepts no packet.
+NONE = (Insn * 1)((6, 0, 0, 0))
 
 
 class CaptureError(Fault):
@@ -18,28 +31,73 @@ class CaptureError(Fault):
     """What `cut` wrote of the packets before; `None` if another call failed."""
 
 
-@dataclass(frozen=True)
-class Packet:
-    """A packet: its captured bytes, its length on the wire, and when it was captured."""
-    data: bytes
-    wire: int
-    seconds: int = 0
-    nanos: int = 0
+class Spans:
+    """Where the packets of a capture lie in its content, and when they were captured, in columns of a number for each packet.
+
+    `rows` are the spans as `Filter.run_spans` takes them; `offsets`, `captured` and `wire` are views of them. `times` are nanoseconds since
+    1970. numpy takes all of them."""
+
+    def __init__(self, rows: array[int], times: Callable[[], array[int]]):
+        self.rows, self._times = rows, times
+
+    def __len__(self) -> int:
+        return len(self.rows) // 2
 
     @property
-    def time(self) -> float:
-        """Seconds since 1970; a float holds a time of today to some 200 nanoseconds."""
-        return self.seconds + self.nanos / 1e9
+    def offsets(self) -> memoryview:
+        return memoryview(self.rows)[::2]
+
+    @property
+    def captured(self) -> memoryview:
+        return memoryview(self.rows).cast("B").cast("I")[2::4]
+
+    @property
+    def wire(self) -> memoryview:
+        return memoryview(self.rows).cast("B").cast("I")[3::4]
+
+    @functools.cached_property
+    def times(self) -> array[int]:
+        return self._times()
 
 
 class Capture:
-    """A capture in memory: an iterable of its packets, up to its end. A torn or bad record raises a `CaptureError` after the packets
-    before it. A content that is not `bytes`, such as an `mmap`, is copied."""
+    """A capture in memory: an iterable of its packets, with a length and an index. A torn or bad record ends it: it raises the `CaptureError`
+    that `fault` has, after the packets before it.
+
+    A content that is not `bytes`, such as an `mmap`, is not copied, and must not change meanwhile. `close`, or the end of a `with`, gives it
+    back."""
 
     def __init__(self, content: bytes):
-        self._content = content = bytes_of("content", content)
-        self._reader = lib.bpftap_open(content, len(content))
-        raise_fault(CaptureError, self._reader.fault, 0)
+        self._content = content if isinstance(content, bytes) else view_of("content", content)
+        with buffer_of(self._content) as (memory, size):
+            self._reader = lib.bpftap_open(memory, size)
+            raise_fault(CaptureError, self._reader.fault, 0)
+            # One call reads all records: a cut that keeps none of them. What is read below was read by the library before.
+            end = lib.bpftap_cut(memory, size, NONE, 1, 0, ctypes.create_string_buffer(24), 24)
+        if end.fault == NO_MEMORY:
+            raise_fault(CaptureError, end.fault, 0)
+        self._fields = struct.Struct(">4I" if self.big_endian else "<4I").unpack_from
+        self._end, self._size = (end.fault, end.place), size
+        if end.fault:
+            self._size = self._reader.offset
+            for _ in range(end.place):
+                self._size += 16 + self._fields(self._content, self._size)[2]
+
+    @property
+    def fault(self) -> CaptureError | None:
+        """The error of the torn or bad record that ends the capture, if there is one."""
+        try:
+            raise_fault(CaptureError, *self._end)
+        except CaptureError as error:
+            return error
+        return None
+
+    @property
+    def content(self) -> bytes | memoryview:
+        """The bytes of the capture, which `Filter.run_spans` takes."""
+        if self._content is None:
+            raise ValueError("the capture is closed")
+        return self._content
 
     @property
     def snap(self) -> int:
@@ -55,16 +113,72 @@ class Capture:
     def big_endian(self) -> bool:
         return self._reader.order != 0
 
+    def spans(self) -> Spans:
+        """Where the packets lie: `filter.run_spans(capture.content, capture.spans())` asks a filter of all of them in one call."""
+        return Spans(self._rows, self._times)
+
+    @functools.cached_property
+    def _rows(self):
+        content, fields, rows, at, end = self.content, self._fields, [], self._reader.offset, self._size
+        while at < end:
+            _, _, captured, wire = fields(content, at)
+            rows += at + 16, captured | wire << 32
+            at += 16 + captured
+        return array("Q", rows)
+
+    def _times(self):
+        unit, times = 1 if self.nanoseconds else 1000, array("Q")
+        for offset in self._rows[::2]:
+            seconds, part, _, _ = self._fields(self.content, offset - 16)
+            times.append(seconds * SECOND + part * unit)
+        return times
+
+    def __len__(self) -> int:
+        return len(self._rows) // 2
+
+    def __getitem__(self, place: int | slice) -> Packet | list[Packet]:
+        offsets = self._rows[::2][place]
+        return [*self._packets(offsets)] if isinstance(place, slice) else next(self._packets([offsets]))
+
+    def _packets(self, offsets):
+        """The packets whose bytes begin at these offsets."""
+        content, fields, unit = self.content, self._fields, 1 if self.nanoseconds else 1000
+        for offset in offsets:
+            seconds, part, captured, wire = fields(content, offset - 16)
+            yield _new(Packet, (bytes(content[offset : offset + captured]), wire, seconds, part * unit))
+
+    def _offsets(self):
+        """Where the bytes of each packet begin."""
+        content, fields, at, end = self.content, self._fields, self._reader.offset, self._size
+        while at < end:
+            yield at + 16
+            at += 16 + fields(content, at)[2]
+
     def __iter__(self) -> Iterator[Packet]:
-        content, size = self._content, len(self._content)
-        at = Reader.from_buffer_copy(self._reader)
-        while True:
-            found = lib.bpftap_next(content, size, ctypes.byref(at))
-            if found.fault == END:
-                return
-            raise_fault(CaptureError, found.fault, found.place)
-            data = content[found.offset : found.offset + found.captured]
-            yield Packet(data, found.wire, found.seconds, found.nanos)
+        yield from self._packets(self._offsets())
+        raise_fault(CaptureError, *self._end)
+
+    def answers(self, keep: Filter | str) -> array[int]:
+        """What a filter or expression answers to each packet: how many bytes of it are kept, 0 if it is rejected."""
+        return filter_of(keep).run_spans(self.content, self._rows)
+
+    def matching(self, keep: Filter | str) -> Iterator[Packet]:
+        """The packets that a filter or expression accepts. All are asked in one call, so it is faster than to ask `Filter.matches` of each.
+        A torn or bad record raises a `CaptureError` after them."""
+        yield from self._packets(itertools.compress(self._rows[::2], self.answers(keep)))
+        raise_fault(CaptureError, *self._end)
+
+    def close(self) -> None:
+        """Forgets the content. Packets and spans that were taken stay."""
+        if isinstance(self._content, memoryview):
+            self._content.release()
+        self._content = None
+
+    def __enter__(self) -> Capture:
+        return self
+
+    def __exit__(self, *_) -> None:
+        self.close()
 
 
 def read(path: str | os.PathLike) -> Capture:
@@ -85,16 +199,15 @@ def _put(result):
 def encode(packets: Iterable[Packet], snap: int = MAX_SNAP, nanoseconds: bool = False, big_endian: bool = False) -> bytes:
     """The bytes of a capture of these packets."""
     order, unit = int(big_endian), int(nanoseconds)
-    header = ctypes.create_string_buffer(24)
+    header = room_of(24)
     _put(lib.bpftap_put_header(order, unit, in_range("snap", snap), header, 24))
-    parts = [header.raw]
+    parts = [header]
     for place, packet in enumerate(packets):
         data = bytes_of("data", packet.data)
-        room = len(data) + 16
-        to = ctypes.create_string_buffer(room)
-        record = record_of(packet, place, min(packet.nanos, 10**9))  # BadFraction from a second on
-        _put(lib.bpftap_put(order, unit, ctypes.byref(record), data, len(data), to, room))
-        parts.append(to.raw)
+        to = room_of(len(data) + 16)
+        record = record_of(packet, place, min(packet.nanos, SECOND))  # BadFraction from a second on
+        _put(lib.bpftap_put(order, unit, ctypes.byref(record), data, len(data), to, len(to)))
+        parts.append(to)
     return b"".join(parts)
 
 
@@ -109,14 +222,13 @@ def cut(content: bytes, keep: Filter | str, snap: int = 0) -> bytes:
 
     If the capture ends in a torn or bad record, a `CaptureError` is raised; its attribute `written` is the cut of the packets before.
     """
-    content, keep = bytes_of("content", content), filter_of(keep)
-    to = ctypes.create_string_buffer(max(1, len(content)))
-    result = lib.bpftap_cut(content, len(content), keep._insns, keep._size, in_range("snap", snap), to, len(content))
-    written = to.raw[: result.size]
-    if result.fault != OK:
-        try:
-            raise_fault(CaptureError if result.fault >= 64 else FilterError, result.fault, result.place)
-        except CaptureError as error:
-            error.written = written
-            raise
-    return written
+    keep, snap = filter_of(keep), in_range("snap", snap)
+    with view_of("content", content) as view, buffer_of(view) as (memory, size):
+        to = room_of(size)
+        result = lib.bpftap_cut(memory, size, keep._insns, keep._size, snap, to, size)
+    try:
+        raise_fault(CaptureError if result.fault >= 64 else FilterError, result.fault, result.place)
+    except CaptureError as error:
+        error.written = to[: result.size]
+        raise
+    return to[: result.size]

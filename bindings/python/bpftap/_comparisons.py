@@ -1,3 +1,4 @@
+# SPDX-License-Identifier: MIT OR Apache-2.0
 """Whether two expressions accept the same packets."""
 from __future__ import annotations
 
@@ -6,16 +7,17 @@ from dataclasses import dataclass
 
 from ._filters import FilterError
 from ._errors import raise_fault
-from ._library import in_range, lib, text
+from ._library import in_range, lib, text, utf8
+from ._stacks import deeply
 
 
 class Sameness(enum.IntEnum):
     """What is decided of two expressions.
 
     `SAME`: both accept the same packets, of every captured length and every length on the wire. `SAME_AS_CAPTURED`: so it is of packets of
-    which no more bytes were captured than were on the wire. `SHORT`: one accepts a packet on which the other aborts; of packets of which no
-    more bytes were captured than were on the wire, none gets Yes from one and No from the other. `DIFFER`: one answers Yes to a packet, and
-    the other No. `NOT_DECIDED`: nothing is claimed."""
+    which no more bytes were captured than were on the wire. `SHORT`: they differ only where one aborts: one accepts the packet, which is too
+    short for the other; of packets of which no more bytes were captured than were on the wire, none gets Yes from one and No from the
+    other. `DIFFER`: one answers Yes to a packet, and the other No. `NOT_DECIDED`: nothing is claimed."""
     SAME = 0
     SAME_AS_CAPTURED = 1
     SHORT = 2
@@ -44,9 +46,8 @@ class Comparison:
 def compare(first: str, second: str, budget: int = 2_000_000) -> Comparison:
     """Decides for every packet that there can be whether two expressions accept it alike. `budget` bounds the decision graphs, and so the
     memory and the time. An expression that is refused is a `FilterError`; its attribute `number` says which one, 1 or 2."""
-    one, other = first.encode(), second.encode()
-    in_range("budget", budget, 2**64 - 1)
-    result, packet = text(lambda to, room: lib.bpftap_compare(one, len(one), other, len(other), budget, to, room))
+    one, other, budget = utf8("first", first), utf8("second", second), in_range("budget", budget, 2**64 - 1)
+    result, packet = deeply(lambda: text(lambda *to: lib.bpftap_compare(one, len(one), other, len(other), budget, *to)))
     try:
         raise_fault(FilterError, result.fault, result.place)
     except FilterError as error:

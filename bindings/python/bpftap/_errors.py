@@ -1,3 +1,4 @@
+# SPDX-License-Identifier: MIT OR Apache-2.0
 """Faults of the C library as exceptions."""
 from ._library import NO_MEMORY, lib, text
 

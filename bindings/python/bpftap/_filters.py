@@ -1,14 +1,22 @@
+# SPDX-License-Identifier: MIT OR Apache-2.0
 """Filters."""
 from __future__ import annotations
 
 import ctypes
 import enum
+import itertools
 from array import array
-from collections.abc import Iterable, Sequence
-from typing import Any
+from collections.abc import Collection, Iterable, Sequence
+from typing import TYPE_CHECKING, Any, NamedTuple
 
+from . import _library
 from ._errors import Fault, raise_fault
-from ._library import MAX_INSNS, MAX_SNAP, Insn, buffer_of, bytes_of, in_range, lib, text
+from ._library import MAX_INSNS, MAX_SNAP, Insn, buffer_of, in_range, int_of, lib, program_run, text, utf8
+from ._packets import Packet, parts_of
+from ._stacks import reading
+
+if TYPE_CHECKING:
+    from ._captures import Spans
 
 
 class FilterError(Fault):
@@ -30,8 +38,20 @@ def _raised(result):
     return result
 
 
-def _wire(packet: bytes, wire: int | None) -> int:
-    return len(packet) if wire is None else in_range("wire", wire)
+class Executed(NamedTuple):
+    """An instruction that was executed, and what the machine holds after it: `cell` is the cell of scratch memory that it stored `value` into,
+    or `None`."""
+    place: int
+    accumulator: int
+    index: int
+    cell: int | None = None
+    value: int = 0
+
+
+class Look(NamedTuple):
+    """What a test looked at: `size` bytes of the frame from byte `offset` on, captured or not; or, if both are 0, the length on the wire."""
+    offset: int
+    size: int
 
 
 # How many packets are handed over at once: what they take stays in the processor's cache.
@@ -62,16 +82,15 @@ class Filter:
     """
 
     def __init__(self, expression: str, snap: int = MAX_SNAP):
-        insns = (Insn * MAX_INSNS)()
-        code = expression.encode()
+        insns, code, snap = (Insn * MAX_INSNS)(), utf8("expression", expression), int_of("snap", snap)
         snap = snap if 0 < snap <= MAX_SNAP else 0  # BadSnap, if the text is an expression
-        size = _raised(lib.bpftap_compile(code, len(code), snap, insns, MAX_INSNS)).size
-        self._keep(insns, size, expression)
+        made = _raised(reading(code, lambda: lib.bpftap_compile(code, len(code), snap, insns, MAX_INSNS)))
+        self._keep(insns, made.size, expression)
 
     @classmethod
     def from_listing(cls, listing: str) -> Filter:
         insns = (Insn * MAX_INSNS)()
-        code = listing.encode()
+        code = utf8("listing", listing)
         return cls._of(insns, _raised(lib.bpftap_read_listing(code, len(code), insns, MAX_INSNS)).size)
 
     @classmethod
@@ -93,7 +112,7 @@ class Filter:
         self._insns, self._size = insns, size
         self._program = ctypes.create_string_buffer(lib.bpftap_program_size() + 16)
         # A buffer of ctypes is aligned to 16 bytes already; the room beside it costs nothing and makes sure.
-        self._at = (ctypes.addressof(self._program) + 15) & ~15
+        self._at = ctypes.c_void_p((ctypes.addressof(self._program) + 15) & ~15)
         raise_fault(FilterError, lib.bpftap_program_init(self._at, insns, size), 0)
 
     def __reduce__(self):
@@ -103,57 +122,90 @@ class Filter:
     def __repr__(self):
         return f"Filter({self.expression!r})" if self.expression is not None else f"<Filter of {self._size} instructions>"
 
-    def run(self, packet: bytes, wire: int | None = None) -> int:
-        """How many bytes of a packet the filter keeps, 0 if it rejects it. `wire` is the packet's length on the wire, if that is
-        not the number of captured bytes."""
-        packet = bytes_of("packet", packet)
-        return lib.bpftap_program_run(self._at, packet, len(packet), _wire(packet, wire))
+    def run(self, packet: Packet | bytes, wire: int | None = None) -> int:
+        """How many bytes of a packet the filter keeps, 0 if it rejects it. `wire` is the packet's length on the wire; without it that is the one
+        of a `Packet`, and the number of captured bytes of anything else."""
+        return program_run(self._at, *parts_of(packet, wire))
 
-    def matches(self, packet: bytes, wire: int | None = None) -> bool:
+    def matches(self, packet: Packet | bytes, wire: int | None = None) -> bool:
         """Whether the filter accepts a packet."""
-        return self.run(packet, wire) != 0
+        return program_run(self._at, *parts_of(packet, wire)) != 0
 
-    def run_each(self, packets: Sequence[bytes]) -> array[int]:
-        """What the filter answers to each of many packets; each has all its bytes."""
-        answers = array("I", bytes(4 * len(packets)))
-        where, size = answers.buffer_info()[0], answers.itemsize
-        for begin in range(0, len(packets), BATCH):
-            part = packets[begin : begin + BATCH]
-            memory, sizes = b"".join(part), array("I", [*map(len, part)])
-            _raised(lib.bpftap_run_joined(
-                self._insns, self._size, memory, len(memory), sizes.buffer_info()[0], len(sizes), where + size * begin, len(sizes)))
+    def run_each(self, packets: Iterable[Packet | bytes], wire: Iterable[int] | None = None) -> array[int]:
+        """What the filter answers to each of many packets. `wire` are their lengths on the wire; without it they are as `run` says."""
+        answers, left, wires = array("I"), iter(packets), None if wire is None else iter(wire)
+        while part := [*itertools.islice(left, BATCH)]:
+            if wires is None and {*map(type, part)} == {bytes}:
+                answers.extend(self._run_joined(part))
+            else:
+                answers.extend(self._run_parts(part, itertools.repeat(None) if wires is None else wires))
+        if wires is not None and next(wires, None) is not None:
+            raise ValueError(f"wire has more numbers than there are packets, which are {len(answers)}")
         return answers
 
-    def run_spans(self, memory: Any, spans: Any) -> array[int]:
-        """What the filter answers to each packet of a memory. `spans` has 16 bytes for each: where it begins (64 bits), and how many of
-        its bytes were captured and were on the wire (32 bits each). Both are buffers (`bytes`, `bytearray`, `mmap`, `memoryview`, an array
-        of numpy), and are not copied."""
+    def _run_joined(self, part):
+        memory, sizes, answers = b"".join(part), array("I", [*map(len, part)]), array("I", bytes(4 * len(part)))
+        where = [(numbers.buffer_info()[0], len(numbers)) for numbers in (sizes, answers)]
+        _raised(lib.bpftap_program_run_joined(self._at, memory, len(memory), *where[0], *where[1]))
+        return answers
+
+    def _run_parts(self, part, wires):
+        found = [*map(parts_of, part, wires)]
+        if len(found) < len(part):
+            raise ValueError("wire has fewer numbers than there are packets")
+        packets = [packet for packet, _ in found]
+        begins = itertools.accumulate(map(len, packets), initial=0)
+        lengths = [len(packet) | wire << 32 for packet, wire in found]
+        return self.run_spans(b"".join(packets), array("Q", itertools.chain.from_iterable(zip(begins, lengths))))
+
+    def run_spans(self, memory: Any, spans: Spans | Any) -> array[int]:
+        """What the filter answers to each packet of a memory. `spans` are those of a `Capture`, or have 16 bytes for each packet: where it
+        begins (64 bits), and how many of its bytes were captured and were on the wire (32 bits each). Memory and spans are buffers (`bytes`,
+        `bytearray`, `mmap`, `memoryview`, an array of numpy), and are not copied."""
+        spans = getattr(spans, "rows", spans)
         with buffer_of(memory) as (content, size), buffer_of(spans) as (where, spans_size):
             if spans_size % 16:
                 raise ValueError(f"spans have {spans_size} bytes, which is not a multiple of 16")
             count = spans_size // 16
             answers = array("I", bytes(4 * count))
             if count:
-                _raised(lib.bpftap_run_spans(self._insns, self._size, content, size, where, count, answers.buffer_info()[0], count))
+                _raised(lib.bpftap_program_run_spans(self._at, content, size, where, count, answers.buffer_info()[0], count))
         return answers
 
-    def decide(self, packet: bytes, wire: int | None = None) -> tuple[Verdict, str]:
+    def decide(self, packet: Packet | bytes, wire: int | None = None) -> tuple[Verdict, str]:
         """What the expression answers to a packet, and the primitive or relation that decides."""
         if self.expression is None:
             raise TypeError("a program has no expression to explain")
-        code, packet = self.expression.encode(), bytes_of("packet", packet)
-
-        def call(to, room):
-            return lib.bpftap_why(code, len(code), packet, len(packet), _wire(packet, wire), to, room)
-
-        reason, line = text(call)
+        code, (packet, wire) = utf8("expression", self.expression), parts_of(packet, wire)
+        reason, line = reading(code, lambda: text(lambda *to: lib.bpftap_why(code, len(code), packet, len(packet), wire, *to)))
         _raised(reason)
         return Verdict(reason.verdict), line.decode().partition(" ")[2]
 
-    def why(self, packet: bytes, wire: int | None = None) -> str:
+    def why(self, packet: Packet | bytes, wire: int | None = None) -> str:
         """What the expression answers to a packet and what decides, as `No tcp port 80`."""
         verdict, part = self.decide(packet, wire)
         return f"{verdict.name.capitalize()} {part}"
+
+    def trace(self, packet: Packet | bytes, wire: int | None = None) -> list[Executed]:
+        """Which instructions a run over a packet executes, in order."""
+        packet, wire = parts_of(packet, wire)
+        to = (_library.Executed * MAX_INSNS)()
+        size = _raised(lib.bpftap_trace(self._insns, self._size, packet, len(packet), wire, to, MAX_INSNS)).size
+        return [Executed(one.place, one.accumulator, one.index, None if one.cell == _library.NO_CELL else one.cell, one.value) for one in to[:size]]
+
+    def looks(self, packet: Packet | bytes, wire: int | None = None) -> list[Look]:
+        """What the expression looks at of a packet: what each primitive or relation does that is asked, from left to right."""
+        if self.expression is None:
+            raise TypeError("a program has no expression to explain")
+        code, (packet, wire) = utf8("expression", self.expression), parts_of(packet, wire)
+        room = 64
+        while True:
+            to = (_library.Look * room)()
+            result = reading(code, lambda: lib.bpftap_looks(code, len(code), packet, len(packet), wire, to, room))
+            if result.fault != _library.NO_ROOM:
+                break
+            room = result.size
+        return [Look(one.offset, one.size) for one in to[: _raised(result).size]]
 
     @property
     def program(self) -> list[tuple[int, int, int, int]]:
@@ -180,12 +232,35 @@ class Filter:
         """The expression in its canonical form, which shows how it was read."""
         if self.expression is None:
             raise TypeError("a program has no expression to print")
-        code = self.expression.encode()
-        result, found = text(lambda to, room: lib.bpftap_print(code, len(code), to, room))
+        code = utf8("expression", self.expression)
+        result, found = reading(code, lambda: text(lambda *to: lib.bpftap_print(code, len(code), *to)))
         _raised(result)
         return found.decode()
 
 
+    def assert_matches(self, packets: Iterable[Packet | bytes], exactly: Collection[int]) -> None:
+        """For tests: fails unless the filter accepts the packets of these places, counted from 0, and no other one. The failure has a line
+        for each packet that differs, with what decided on it."""
+        __tracebackhide__ = True  # pytest shows the caller's line
+        packets, places = [*packets], {*exactly}
+        failed = [self._differs(place, packet, place in places) for place, packet in enumerate(packets)]
+        failed = [line for line in failed if line]
+        failed += [f"packet {place}: there are only {len(packets)} packets" for place in sorted(places - {*range(len(packets))})]
+        if failed:
+            raise AssertionError(f"{self!r} differs:\n  " + "\n  ".join(failed))
+
+    def _differs(self, place, packet, wanted):
+        """A line if the answer to a packet is not the one that is wanted."""
+        if self.matches(packet) == wanted:
+            return None
+        said = ("accepts it" if not wanted else "rejects it") if self.expression is None else self.why(packet)
+        return f"packet {place}: {said}, wanted {'Yes' if wanted else 'No'}"
+
+
 def filter_of(keep: Filter | str) -> Filter:
     """The filter, or that of an expression."""
-    return Filter(keep) if isinstance(keep, str) else keep
+    if isinstance(keep, Filter):
+        return keep
+    if isinstance(keep, str):
+        return Filter(keep)
+    raise TypeError(f"keep is of type {type(keep).__name__}, which is neither a Filter nor a str")

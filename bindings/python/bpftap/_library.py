@@ -1,7 +1,8 @@
+# SPDX-License-Identifier: MIT OR Apache-2.0
 """The C library through ctypes: its types, its functions, and where it is found."""
 import contextlib
 import ctypes
-import ctypes.util
+import operator
 import os
 import pathlib
 from ctypes import POINTER, c_bool, c_char_p, c_int, c_size_t, c_ssize_t, c_uint8, c_uint16, c_uint32, c_uint64, c_void_p, py_object
@@ -9,6 +10,7 @@ from ctypes import POINTER, c_bool, c_char_p, c_int, c_size_t, c_ssize_t, c_uint
 MAX_INSNS = 512
 MAX_SNAP = 262144
 MAX_CAPACITY = 1048576
+NO_CELL = 16
 
 OK, NO_MEMORY, NO_ROOM, END = 0, 1, 2, 4
 
@@ -24,6 +26,18 @@ class Result(ctypes.Structure):
 
 class Reason(ctypes.Structure):
     _fields_ = [("fault", c_uint32), ("verdict", c_uint32), ("size", c_size_t), ("place", c_size_t)]
+
+
+class Traced(ctypes.Structure):
+    _fields_ = [("fault", c_uint32), ("answer", c_uint32), ("size", c_size_t), ("place", c_size_t)]
+
+
+class Executed(ctypes.Structure):
+    _fields_ = [("place", c_size_t), ("accumulator", c_uint32), ("index", c_uint32), ("cell", c_uint32), ("value", c_uint32)]
+
+
+class Look(ctypes.Structure):
+    _fields_ = [("offset", c_size_t), ("size", c_size_t)]
 
 
 class Comparison(ctypes.Structure):
@@ -74,15 +88,16 @@ def _candidates():
 
 
 def _load():
+    """The library; and the same one for calls that are so short that it would cost more to let other threads run meanwhile."""
     for path in _candidates():
         try:
-            return ctypes.CDLL(path)
+            return ctypes.CDLL(path), ctypes.PyDLL(path)
         except OSError as error:
             last = error
     raise ImportError(f"the C library of bpftap cannot be loaded: {last}; BPFTAP_LIBRARY names its file, and ./build bpftap_c in the repository makes it")
 
 
-lib = _load()
+lib, _short = _load()
 
 _BYTES = [c_char_p, c_size_t]
 _ROOM = [c_void_p, c_size_t]
@@ -99,8 +114,10 @@ _FUNCTIONS = {
     "program_size": (c_size_t, []),
     "program_init": (c_uint32, [c_void_p, *_INSNS]),
     "program_run": (c_uint32, [c_void_p, *_BYTES, c_uint32]),
-    "run_spans": (Result, [*_INSNS, *_BYTES, c_void_p, c_size_t, c_void_p, c_size_t]),
-    "run_joined": (Result, [*_INSNS, *_BYTES, c_void_p, c_size_t, c_void_p, c_size_t]),
+    "program_run_spans": (Result, [c_void_p, *_BYTES, c_void_p, c_size_t, c_void_p, c_size_t]),
+    "program_run_joined": (Result, [c_void_p, *_BYTES, c_void_p, c_size_t, c_void_p, c_size_t]),
+    "trace": (Traced, [*_INSNS, *_BYTES, c_uint32, *_ROOM]),
+    "looks": (Result, [*_BYTES, *_BYTES, c_uint32, *_ROOM]),
     "why": (Reason, [*_BYTES, *_BYTES, c_uint32, *_ROOM]),
     "compare": (Comparison, [*_BYTES, *_BYTES, c_size_t, *_ROOM]),
     "open": (Reader, _BYTES),
@@ -122,6 +139,18 @@ for _name, (_returns, _takes) in _FUNCTIONS.items():
     _function = getattr(lib, f"bpftap_{_name}")
     _function.restype, _function.argtypes = _returns, _takes
 
+_run = _short.bpftap_program_run
+_run.restype = c_uint32
+
+
+def program_run(program, packet, wire):
+    """`bpftap_program_run` of a program, which is a `c_void_p`, over `bytes`. Without types for its arguments ctypes takes half the time: it
+    passes each number as an `int`, of which C takes all 32 bits for `wire`, and for the size as many as a packet may have here."""
+    size = len(packet)
+    if size >= 2**31:
+        raise ValueError(f"packet has {size} bytes, which are 2 GiB or more")
+    return _run(program, packet, size, wire)
+
 
 def text(call, room=4096):
     """The text that a call writes, by a function from memory and its size to the call's result. It is called again where the memory
@@ -132,6 +161,11 @@ def text(call, room=4096):
         if result.fault != NO_ROOM:
             return result, memory.raw[: result.size]
         room = result.size + 1
+
+
+def version() -> str:
+    """The version of the C library."""
+    return text(lib.bpftap_version)[1].decode()
 
 
 class _View(ctypes.Structure):
@@ -155,6 +189,19 @@ def buffer_of(memory):
         _release_buffer(view)
 
 
+_new_bytes = ctypes.pythonapi.PyBytes_FromStringAndSize
+_new_bytes.restype, _new_bytes.argtypes = py_object, [c_char_p, c_ssize_t]
+
+
+def room_of(size):
+    """Memory for a call to write into, as `bytes` that nobody else has yet. Unlike that of `create_string_buffer` it is not cleared first."""
+    return _new_bytes(None, size)
+
+
+def _not(what, value, kind):
+    return TypeError(f"{what} is of type {type(value).__name__}, which is not {kind}")
+
+
 def bytes_of(what, content):
     """What something bytes-like holds, as `bytes`: a copy if it is anything else."""
     if isinstance(content, bytes):
@@ -162,11 +209,34 @@ def bytes_of(what, content):
     try:
         return bytes(memoryview(content))
     except TypeError:
-        raise TypeError(f"{what} is of type {type(content).__name__}, which is not bytes-like") from None
+        raise _not(what, content, "bytes-like") from None
+
+
+def view_of(what, content):
+    """The bytes of something bytes-like, which are not copied."""
+    try:
+        return memoryview(content).cast("B")
+    except TypeError:
+        raise _not(what, content, "bytes-like and contiguous" if hasattr(content, "contiguous") else "bytes-like") from None
+
+
+def utf8(what, text):
+    """The bytes of a text. Half of a surrogate pair is none: the library then returns NotText."""
+    if not isinstance(text, str):
+        raise _not(what, text, "a str")
+    return text.encode("utf-8", "surrogatepass")
+
+
+def int_of(what, number):
+    try:
+        return operator.index(number)
+    except TypeError:
+        raise _not(what, number, "an int") from None
 
 
 def in_range(what, number, most=2**32 - 1):
     """The number, if it is from 0 to `most`. C would take its lower bits."""
+    number = int_of(what, number)
     if not 0 <= number <= most:
         raise ValueError(f"{what} is {number}, which is not from 0 to {most}")
     return number

@@ -1,15 +1,16 @@
+# SPDX-License-Identifier: MIT OR Apache-2.0
 """Listeners of a packet tap."""
 from __future__ import annotations
 
 import ctypes
 import enum
 import threading
-from dataclasses import dataclass
 
-from ._captures import Packet, record_of
+from ._captures import record_of
 from ._errors import Fault, raise_fault
 from ._filters import Filter, filter_of
-from ._library import MAX_CAPACITY, MAX_SNAP, OK, Buffer, Tap, bytes_of, in_range, lib
+from ._library import MAX_CAPACITY, MAX_SNAP, OK, Buffer, Tap, bytes_of, in_range, int_of, lib
+from ._packets import Message, Packet
 
 
 class ListenerError(Fault):
@@ -30,13 +31,6 @@ class Fed(enum.IntEnum):
     """It found no room."""
     CLOSED = 5
     """The listener is closed."""
-
-
-@dataclass(frozen=True)
-class Message(Packet):
-    """What a listener kept of a packet: `data` are its first bytes. `place` is its place in the capture of this number."""
-    place: int = 0
-    capture: int = 0
 
 
 def _messages(buffer):
@@ -62,6 +56,7 @@ class Listener:
 
     def __init__(self, keep: Filter | str, snap: int = MAX_SNAP, capacity: int = MAX_CAPACITY, immediate: bool = False):
         self.filter = filter_of(keep)
+        snap, capacity = int_of("snap", snap), int_of("capacity", capacity)
         # Out of their ranges they are refused as 0 is: BadSnap, BadCapacity.
         snap = snap if 0 < snap <= MAX_SNAP else 0
         capacity = capacity if 0 < capacity <= MAX_CAPACITY else 0
@@ -73,9 +68,9 @@ class Listener:
         self._lock = threading.Lock()
         raise_fault(ListenerError, lib.bpftap_listener_open(self._tap), 0)
 
-    def arrive(self, packet: Packet | bytes, capture: int = 0, place: int | None = None) -> Fed:
+    def arrive(self, packet: Packet | Message | bytes, capture: int = 0, place: int | None = None) -> Fed:
         """A packet arrives. `capture` and `place` stay with it; without a place, that is the number of packets that arrived before."""
-        if not isinstance(packet, Packet):
+        if not isinstance(packet, (Packet, Message)):
             packet = bytes_of("packet", packet)
             packet = Packet(packet, len(packet))
         data = bytes_of("data", packet.data)

@@ -1,3 +1,4 @@
+# SPDX-License-Identifier: MIT OR Apache-2.0
 """Steps that are played to listeners over captures."""
 from __future__ import annotations
 
@@ -5,8 +6,9 @@ import html
 from collections.abc import Iterable, Iterator, Sequence
 from dataclasses import dataclass, field
 
-from ._captures import Capture, CaptureError, Packet
-from ._listeners import Listener, Message
+from ._captures import Capture, CaptureError
+from ._listeners import Listener
+from ._packets import Message, Packet
 
 
 @dataclass(frozen=True)

@@ -1,3 +1,4 @@
+# SPDX-License-Identifier: MIT OR Apache-2.0
 """The package, by Python's own unittest: what its page says, and every error."""
 import array
 import copy
@@ -95,15 +96,69 @@ class Filters(unittest.TestCase):
             del found
             for other in copies:
                 self.assertEqual(([other.run(UDP), other.run(TCP)], (other.expression, other.program)), (answers, wanted))
-            self.assertEqual(len({other._at for other in copies}), len(copies))
+            self.assertEqual(len({other._at.value for other in copies}), len(copies))
 
     def test_the_canonical_form(self):
         self.assertEqual(Filter("tcp dst port 80 or 443").canonical, "tcp dst port 80 or tcp dst port 443")
+
+    def test_a_packet_has_its_wire_length(self):
+        long = Filter("len > 1000")
+        for packet in (Packet(UDP, 1500), Message(UDP, 1500)):
+            self.assertEqual((long.matches(packet), long.matches(packet, 38), long.why(packet)), (True, False, "Yes len > 1000"))
+        self.assertTrue(Filter("len = 4294967295").matches(UDP, 2**32 - 1))
+        self.assertEqual(Filter("len > 2147483647").run(Packet(UDP, 2**31)), bpftap.MAX_SNAP)
+        with self.assertRaisesRegex(ValueError, "^wire is 4294967296"):
+            long.matches(Packet(UDP, 2**32))
+
+    def test_arguments_of_other_types_are_named(self):
+        udp = Filter("udp")
+        for call, what in [(lambda: Filter(7), "expression is of type int, which is not a str"), (lambda: Filter("ip", "96"), "snap is of type str"),
+                           (lambda: Filter.from_listing(b"1"), "listing is of type bytes"), (lambda: udp.matches(UDP, "38"), "wire is of type str"),
+                           (lambda: Filter.from_program([(6, 0, 0, "0")]), "k of instruction 0 is of type str"),
+                           (lambda: bpftap.compare("ip", None), "second is of type NoneType"), (lambda: bpftap.compare("ip", "ip", 1.5), "budget is of type float"),
+                           (lambda: bpftap.cut(b"", 7), "keep is of type int, which is neither a Filter nor a str"), (lambda: Listener(7), "keep is of type int"),
+                           (lambda: bpftap.cut(b"", "ip", 1.5), "snap is of type float"), (lambda: Listener("ip", None), "snap is of type NoneType"),
+                           (lambda: Listener("ip", 96, "4096"), "capacity is of type str"), (lambda: Listener("ip").arrive(UDP, "0"), "capture is of type str")]:
+            with self.assertRaisesRegex(TypeError, f"^{what}"):
+                call()
+
+    def test_half_a_character_is_not_text(self):
+        with self.assertRaisesRegex(FilterError, "^NotText 3$"):
+            Filter("ip \ud800")
+
+    def test_long_expressions_take_any_thread(self):
+        text = "(" * 60 + "ip" + ")" * 60 + " or ip" * 90 + " " * 4000
+        before, ended = threading.stack_size(64 << 10), []
+        try:
+            thread = threading.Thread(target=lambda: ended.append((Filter(text).canonical[:8], Filter(text).why(UDP)[:3], bpftap.compare("tcp", "udp").answer)))
+            thread.start()
+            thread.join()
+        finally:
+            threading.stack_size(before)
+        self.assertEqual(ended, [("ip or ip", "Yes", bpftap.Sameness.DIFFER)])
+        with self.assertRaisesRegex(FilterError, "^BadWord 7801$"):
+            Filter("ip or " * 1300 + " http")
 
     def test_batches(self):
         udp = Filter("udp", snap=7)
         self.assertEqual(list(udp.run_each([UDP, TCP, b"", UDP])), [7, 0, 0, 7])
         self.assertEqual(list(udp.run_each([])), [])
+        self.assertEqual(list(udp.run_each(iter([UDP] * 3000 + [TCP]))), [7] * 3000 + [0])
+
+    def test_batches_have_wire_lengths(self):
+        long = Filter("len > 1000")
+        self.assertEqual([answer > 0 for answer in long.run_each([UDP, Packet(UDP, 1500), Packet(UDP, 38), Message(TCP, 2000)])], [False, True, False, True])
+        for wire in ([38, 1500, 9], iter([38, 1500, 9])):
+            self.assertEqual([answer > 0 for answer in long.run_each([UDP, Packet(UDP, 38), b""], wire)], [False, True, False])
+        wires = [n % 2000 for n in range(5000)]
+        self.assertEqual([answer > 0 for answer in long.run_each([UDP] * 5000, wires)], [wire > 1000 for wire in wires])
+        capture = bpftap.read(EXAMPLES / "veth.pcap")
+        dns = Filter("udp port 5353")
+        self.assertEqual([*dns.run_each([*capture])], [dns.run(packet) for packet in capture])
+        for wire, what in (([38], "fewer numbers"), ([38, 38, 38], "more numbers"), ([38, 2**32], "wire is 4294967296"), ([-1, 38], "wire is -1")):
+            with self.assertRaisesRegex(ValueError, what):
+                long.run_each([UDP, UDP], wire)
+        self.assertEqual(list(long.run_each([], [])), [])
 
     def test_spans_of_any_buffer(self):
         udp, content = Filter("udp", snap=7), TCP + UDP
@@ -140,6 +195,23 @@ class Filters(unittest.TestCase):
                 with self.assertRaisesRegex(TypeError, f"^packet is of type {type(packet).__name__}, which is not bytes-like$"):
                     call(packet)
         self.assertEqual(tap.received, 8)
+
+    def test_a_trace_has_each_instruction(self):
+        listed = Filter.from_listing(LISTING)
+        self.assertEqual(listed.trace(UDP), [bpftap.Executed(0, 2048, 0), bpftap.Executed(1, 2048, 0), bpftap.Executed(2, 2048, 0)])
+        self.assertEqual([one.place for one in listed.trace(b"")], [0])
+        # A = 7, M[3] = A, X = M[3], return A.
+        stores = Filter.from_program([(0, 0, 0, 7), (2, 0, 0, 3), (0x61, 0, 0, 3), (0x16, 0, 0, 0)])
+        self.assertEqual(stores.trace(UDP), [(0, 7, 0, None, 0), (1, 7, 0, 3, 7), (2, 7, 7, None, 0), (3, 7, 7, None, 0)])
+        self.assertEqual(len(Filter.from_program([(0, 0, 0, 0)] * 511 + [(6, 0, 0, 0)]).trace(UDP)), 512)
+
+    def test_looks_are_the_bytes_that_decide(self):
+        self.assertEqual(Filter("ether proto 0x800").looks(UDP), [bpftap.Look(12, 2)])
+        self.assertEqual(Filter("len > 30").looks(Packet(UDP, 60)), [(0, 0)])
+        many = " and ".join(["ether[30] = 10"] * 80)
+        self.assertEqual(Filter(many).looks(UDP), [(30, 1)] * 80)
+        with self.assertRaisesRegex(TypeError, "no expression"):
+            Filter.from_listing(LISTING).looks(UDP)
 
     def test_long_texts_are_whole(self):
         longest = Filter.from_program([(6, 0, 0, 262144)] * 512)
@@ -300,6 +372,64 @@ class Captures(unittest.TestCase):
             form = {"big_endian": capture.big_endian, "nanoseconds": capture.nanoseconds}
             self.assertEqual(bpftap._captures.encode(wanted, capture.snap, **form), content)
 
+    def test_it_is_a_sequence(self):
+        capture = bpftap.read(EXAMPLES / "veth.pcap")
+        packets = [*capture]
+        self.assertEqual((len(capture), len(packets)), (253, 253))
+        self.assertEqual((capture[0], capture[-1], capture[7]), (packets[0], packets[-1], packets[7]))
+        self.assertEqual((capture[3:9:2], capture[:], capture[400:]), (packets[3:9:2], packets, []))
+        for place in (253, -254):
+            self.assertRaises(IndexError, capture.__getitem__, place)
+        self.assertIsNone(capture.fault)
+
+    def test_spans_and_answers(self):
+        for name in ("veth", "veth-big-micro", "veth-little-nano", "veth-big-nano"):
+            capture = bpftap.read(EXAMPLES / f"{name}.pcap")
+            packets, spans, dns = [*capture], capture.spans(), Filter("udp port 5353")
+            self.assertEqual(len(spans), 253)
+            self.assertEqual([*spans.times], [packet.seconds * 10**9 + packet.nanos for packet in packets])
+            self.assertEqual(([*spans.captured], [*spans.wire]), ([len(packet.data) for packet in packets], [packet.wire for packet in packets]))
+            self.assertEqual([capture.content[at : at + size] for at, size in zip(spans.offsets, spans.captured)], [packet.data for packet in packets])
+            answers = [dns.run(packet) for packet in packets]
+            self.assertEqual(([*dns.run_spans(capture.content, spans)], [*capture.answers(dns)]), (answers, answers))
+            for keep in (dns, "udp port 5353"):
+                self.assertEqual([*capture.matching(keep)], [packet for packet in packets if dns.matches(packet)])
+
+    def test_a_map_is_read_in_place_and_given_back(self):
+        with open(EXAMPLES / "veth.pcap", "rb") as file, mmap.mmap(file.fileno(), 0, access=mmap.ACCESS_READ) as mapped:
+            with bpftap.Capture(mapped) as capture:
+                packets, kept = [*capture], [*capture.matching("udp port 5353")]
+                self.assertEqual((len(packets), len(kept), capture[5], type(packets[0].data)), (253, 67, packets[5], bytes))
+                self.assertIsInstance(capture.content, memoryview)
+            for call in (lambda: list(capture), lambda: capture.content, lambda: capture.answers("ip"), lambda: capture[0]):
+                with self.assertRaisesRegex(ValueError, "^the capture is closed$"):
+                    call()
+            self.assertEqual(len(capture), 253)
+
+    def test_torn_at_each_byte_it_reads_what_the_library_reads(self):
+        """The records and the fault of a loop of `bpftap_next`."""
+        whole = bpftap._captures.encode([*self.PACKETS, Packet(TCP, 99, 3)])
+        bad = bytearray(whole)
+        bad[24 + 54 + 4 : 24 + 54 + 8] = (10**6).to_bytes(4, "little")
+        for content in [whole[:size] for size in range(24, len(whole) + 1)] + [bytes(bad)]:
+            reader, wanted = bpftap._library.lib.bpftap_open(content, len(content)), []
+            while not (found := bpftap._library.lib.bpftap_next(content, len(content), reader)).fault:
+                wanted.append(Packet(content[found.offset : found.offset + found.captured], found.wire, found.seconds, found.nanos))
+            capture, seen = bpftap.Capture(content), []
+            self.assertEqual((len(capture), capture[:]), (len(wanted), wanted))
+            for packets, of in ((iter(capture), wanted), (capture.matching("tcp"), [packet for packet in wanted if Filter("tcp").matches(packet)])):
+                seen = []
+                if found.fault == bpftap._library.END:
+                    seen.extend(packets)
+                    self.assertIsNone(capture.fault)
+                else:
+                    with self.assertRaises(CaptureError) as caught:
+                        for packet in packets:
+                            seen.append(packet)
+                    fault = bpftap._errors.fault_line(found.fault, found.place)
+                    self.assertEqual((str(caught.exception), str(capture.fault)), (fault, fault))
+                self.assertEqual(seen, of)
+
     def test_a_torn_record_comes_after_the_packets_before_it(self):
         content = bpftap._captures.encode(self.PACKETS)
         capture, seen = bpftap.Capture(content[:-1]), []
@@ -339,7 +469,7 @@ class Captures(unittest.TestCase):
                     call(given)
 
     def test_what_may_not_be_written(self):
-        for packet, name in [(Packet(b"", 0, 0, 10**9), "BadFraction"), (Packet(bytes(262145), 0), "TooLong")]:
+        for packet, name in [(Packet(b"", 0, 0, 10**9), "BadFraction"), (Packet(bytes(262145), 0), "RecordTooLong")]:
             with self.assertRaises(CaptureError) as caught:
                 bpftap._captures.encode([self.PACKETS[0], packet])
             self.assertEqual((caught.exception.name, caught.exception.place), (name, 1))
@@ -372,8 +502,22 @@ class Assertions(unittest.TestCase):
             bpftap.assert_all_match([UDP, TCP], "udp")
         self.assertEqual(str(caught.exception), "not 'udp':\n  packet 1: No udp")
 
+    def test_exactly_these_match(self):
+        udp = Filter("udp")
+        udp.assert_matches([UDP, TCP, Packet(UDP, 60)], exactly={0, 2})
+        udp.assert_matches(iter([TCP]), exactly=[])
+        for packets, exactly, lines in [
+                ([UDP, TCP], {1}, ["packet 0: Yes udp, wanted No", "packet 1: No udp, wanted Yes"]), ([UDP[:20]], {0}, ["packet 0: Abort udp, byte 23 is not captured, wanted Yes"]),
+                ([UDP], [0, 3], ["packet 3: there are only 1 packets"]), ([UDP], (), ["packet 0: Yes udp, wanted No"])]:
+            with self.assertRaises(AssertionError) as caught:
+                udp.assert_matches(packets, exactly)
+            self.assertEqual(str(caught.exception).splitlines(), ["Filter('udp') differs:", *(f"  {line}" for line in lines)])
+        with self.assertRaisesRegex(AssertionError, "packet 0: rejects it, wanted Yes\n  packet 1: accepts it, wanted No"):
+            Filter.from_listing(LISTING).assert_matches([b"", UDP], {0})
+
     def test_the_version(self):
         self.assertRegex(bpftap.version(), r"^\d+\.\d+\.\d+")
+        self.assertEqual(bpftap.__version__, bpftap.version())
 
 
 if __name__ == "__main__":

@@ -1,3 +1,4 @@
+// SPDX-License-Identifier: MIT OR Apache-2.0
 //! Listeners of a packet tap.
 use std::fmt;
 
@@ -36,7 +37,17 @@ pub enum Fed {
 /// A listener of a packet tap: it keeps the packets that a filter accepts in two buffers until they are read.
 ///
 /// The store takes packets as they arrive, and the hold waits for its reader. If a packet finds no room in the store, the store becomes
-/// the hold; if the hold still waits, the packet is dropped.
+/// the hold; if the hold still waits, the packet is dropped. It is `Send` and `Sync`: what changes it wants it alone.
+///
+/// ```
+/// use bpftap::{Fed, Filter, Listener, Mode, Packet};
+///
+/// let mut tap = Listener::open(Filter::new("len < 100")?, 96, 128, Mode::Buffered)?;
+/// let packet = Packet { data: &[0; 60], wire: 60, seconds: 0, nanos: 0 };
+/// assert_eq!([0, 1, 2].map(|place| tap.arrive(0, place, &packet)), [Fed::Stored, Fed::Rotated, Fed::Dropped]);
+/// assert_eq!(tap.read().map(|message| message.place).collect::<Vec<_>>(), [0]);
+/// # Ok::<(), bpftap::Error>(())
+/// ```
 pub struct Listener {
     filter: Filter,
     tap: ffi::Listener,
@@ -45,8 +56,9 @@ pub struct Listener {
     _memory: Vec<u8>,
 }
 
-// The buffers belong to the listener alone.
+// The buffers belong to the listener alone, and what does not want it alone only reads numbers.
 unsafe impl Send for Listener {}
+unsafe impl Sync for Listener {}
 
 impl Listener {
     /// Opens a listener. `snap` is the most bytes that are kept of a packet, and `capacity` the room of each buffer in bytes: a packet
@@ -58,10 +70,8 @@ impl Listener {
         let buffer = |number: usize| ffi::Buffer { bytes: begin.wrapping_add(number * room), room, size: 0 };
         let (store, hold, batch) = (buffer(0), buffer(1), buffer(2));
         let mut tap = ffi::Listener { store, hold, received: 0, matched: 0, dropped: 0, snap, mode: mode as u32, closed: 0 };
-        match unsafe { ffi::bpftap_listener_open(&mut tap) } {
-            0 => Ok(Listener { filter, tap, batch, _memory: memory }),
-            fault => Err(Error::new(fault, 0)),
-        }
+        Error::check(unsafe { ffi::bpftap_listener_open(&mut tap) }, 0)?;
+        Ok(Listener { filter, tap, batch, _memory: memory })
     }
 
     /// A packet arrives. The number of its capture and its place there stay with it.
@@ -131,6 +141,7 @@ pub struct Message<'a> {
 }
 
 /// The messages that were read.
+#[derive(Clone)]
 pub struct Messages<'a> {
     batch: &'a ffi::Buffer,
     at: usize,

@@ -10,3 +10,4 @@ pub mod Answers
 pub mod Notation
 pub mod Arrays
 pub mod Laws
+pub mod Faults

@@ -1,22 +1,46 @@
 //! Programs as text, in whichever notation: decimal listings, assembly, images.
 
-ghost use Rattle.std.specs.Prelude.{◌≡◌, ◌≤◌, IfOk, IfErr, length};
+ghost use Rattle.std.specs.Prelude.{◌≡◌, ◌≤◌, Some, IfOk, IfErr, length};
 ghost use Rattle.std.specs.List.{prefix_len};
+ghost use Rattle.bpf_asm.specs.Faults.{program_text_fault_name, program_text_fault_text};
 ghost use Rattle.bpf_asm.specs.Notation.{is_space, past_spaces, is_assembly, IsProgramText, IsNoProgramText};
 
 use crate::fault::AssemblyFault;
 use crate::reading::read_assembly;
 use bpfvm::{ListingFault, Program, read_listing};
 use std::alloc::Global;
+use std::fmt;
+use std::fmt::{Display, Formatter};
 use thiserror::Error;
 
-/// Why a text is no program, in the notation that it is in.
+/// Why a text is no program, in the notation that it is in. It prints as the fault of that notation.
 #[derive(Clone, Copy, Debug, PartialEq, Eq, Error)]
 pub enum ProgramTextFault {
-    #[error("{0}")]
     Listing(ListingFault),
-    #[error("{0}")]
     Assembly(AssemblyFault),
+}
+
+impl ProgramTextFault {
+    /// The name of the fault in its notation.
+    pub fn name(self) -> &'static str
+        ensures { result.now ≡ program_text_fault_name self }
+    {
+        match self {
+            ProgramTextFault::Listing(fault) => fault.name(),
+            ProgramTextFault::Assembly(fault) => fault.name(),
+        }
+    }
+}
+
+impl Display for ProgramTextFault {
+    ghost output = { λ fault. Some (program_text_fault_text fault) };
+
+    fn fmt<W: fmt::Write>(&self, f: &mut Formatter<W>) -> fmt::Result {
+        match self {
+            ProgramTextFault::Listing(fault) => write!(f, "{fault}"),
+            ProgramTextFault::Assembly(fault) => write!(f, "{fault}"),
+        }
+    }
 }
 
 /// Whether a byte is a blank or ends a line.

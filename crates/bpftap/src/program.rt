@@ -11,7 +11,8 @@ use cli_explain::command::explain_command;
 use cli_faults::FaultStream;
 use cli_faults::file::Inputs;
 use cli_files::late::reserve_std_fd;
-use cli_filter_hints::quotes::hint_unquoted;
+use cli_filter_hints::quotes::{hint_listing_word, hint_unquoted};
+use cli_info::command::info_command;
 use cli_report::HintSink;
 use cli_report::commands::{
     hint_command, hint_dash_output, hint_failed_words, hint_missing, hint_option,
@@ -43,6 +44,7 @@ pub fn run<
     let takes_hints = !words.iter().any(|word| word.as_str() == "--json");
     if status == Status::Failed && takes_hints {
         hint_failed_words(words, err);
+        hint_listing_word(rt.alloc(), words, err);
     }
     status
 }
@@ -75,6 +77,11 @@ fn dispatch<
                 hint_dash_output(asked.output, &mut err);
             }
             hint_several(rt.alloc(), words, asked.inputs.as_slice(), status, &mut err)
+        }
+        Ok(Request::Info(words)) => {
+            let inputs = Inputs::Captures(words.inputs.as_slice());
+            let mut err = FaultStream::new(rt.alloc(), err, words.json, inputs);
+            info_command(rt, &words, out, &mut err)
         }
         Ok(Request::Steps(words)) => {
             let inputs = Inputs::Captures(words.inputs.as_slice());
@@ -124,6 +131,10 @@ fn report_usage<S: AsStr, O: Write, E: HintSink>(
     match error.kind() {
         ErrorKind::UnknownArgument => {
             hint_option(words, err);
+            hint_unquoted(alloc, words, err)
+        }
+        ErrorKind::TooManyValues => {
+            hint_failed_words(words, err);
             hint_unquoted(alloc, words, err)
         }
         ErrorKind::InvalidSubcommand => hint_command(words, err),

@@ -4,18 +4,22 @@ use Rattle.std.proofs.lemmas.Bool.{cases_lt}
 use Rattle.savefile.specs.declared.fault.Fault.{Fault as RecordFault}
 use Rattle.tap.specs.declared.fault.Fault.{Fault}
 use Rattle.tap.specs.declared.fault.Fault.TheVariants.{TooMany, NoListener, Capture, Expression, Compile, Open, NoMemory}
+use Rattle.filter_tree.specs.declared.tree.Expr.{Expr}
+use Rattle.tap.specs.Answers.{Traces}
+use Rattle.tap.specs.Filters.{AreExpressionsOf}
 use Rattle.tap.specs.Headline.{Replays}
 use Rattle.tap.specs.Refusals.{AreTooMany, IsFirst, NoneStands}
+use Rattle.tap_steps.specs.declared.answer.Answered.{Answered}
 use Rattle.tap_steps.specs.declared.filters.Spec.{Spec}
 use Rattle.tap_steps.specs.declared.step.Step.{Step}
 use Rattle.tap_steps.specs.declared.playlist.PlacedPacket.{PlacedPacket}
 use Rattle.tap_steps.specs.declared.report.Report.{Report}
 use Rattle.cli_json.specs.declared.form.LineForm.{LineForm}
 use Rattle.cli_text.specs.Files.{IsFileOf}
+use Rattle.cli_steps.specs.Answers.{answers_from, cursors_of}
 use Rattle.cli_steps.specs.Listeners.{IsListenerLine, AreFirstOf}
 use Rattle.cli_steps.specs.Script.{IsStepLine}
-use Rattle.cli_steps.specs.Printed.{reports_in}
-use Rattle.bpftap_c.specs.Steps.{IsReported, IsUnplayed}
+use Rattle.bpftap_c.specs.Steps.{IsAnswered, IsPlayed, IsUnplayed}
 use Rattle.bpftap_c.specs.declared.outcome.Failure.TheVariants as failures
 
 -- 64 listeners are all kept
@@ -51,12 +55,11 @@ first_of_all captures all steps fault first = by_number (cases_lt 64 (length all
     by_number (inl many) = by_fault fault many first
     by_number (inr few) = subst (λ (specs : List Spec). IsFirst captures specs steps fault) (few_are_kept all few) first
 
--- what was read, played and printed is reported
-pub is_reported : (form : LineForm) (listeners script : List ℕ) (captures : List (List ℕ)) (kept : List Spec) (steps : List Step) (record_fault : Option (ℕ × RecordFault))
-    (reports : List Report) (text : List ℕ) → AreFirstOf listeners kept → IsFileOf IsStepLine script steps →
-    (playlist : List PlacedPacket) × Replays captures kept steps playlist record_fault reports → NoneStands captures kept steps →
-    text ≡ reports_in form reports → IsReported form listeners script captures text record_fault
-is_reported form listeners script captures kept steps record_fault reports text asked of_script replays stands is =
+-- what was read and played
+pub is_played : (listeners script : List ℕ) (captures : List (List ℕ)) (kept : List Spec) (steps : List Step) (playlist : List PlacedPacket)
+    (record_fault : Option (ℕ × RecordFault)) (reports : List Report) → AreFirstOf listeners kept → IsFileOf IsStepLine script steps →
+    Replays captures kept steps playlist record_fault reports → NoneStands captures kept steps → IsPlayed listeners script captures reports record_fault
+is_played listeners script captures kept steps playlist record_fault reports asked of_script replays stands =
     let same : kept ≡ asked.all =
     asked.first ∙ all_kept captures asked.all steps (subst (λ (specs : List Spec). NoneStands captures specs steps) asked.first stands) in
     record {
@@ -64,12 +67,25 @@ is_reported form listeners script captures kept steps record_fault reports text 
       steps = steps;
       of_listeners = subst (λ (specs : List Spec). IsFileOf IsListenerLine listeners specs) (sym same) asked.asked;
       of_script = of_script;
-      playlist = replays.0;
-      reports = reports;
-      replays = replays.1;
+      playlist = playlist;
+      replays = replays;
       none_stands = stands;
-      is = is;
     }
+
+-- and what listeners answered
+pub is_answered : (form : LineForm) (listeners script : List ℕ) (captures : List (List ℕ)) (kept : List Spec) (steps : List Step) (playlist : List PlacedPacket)
+    (record_fault : Option (ℕ × RecordFault)) (reports : List Report) (expressions : List (Option Expr)) (answers : List (List Answered)) (text : List ℕ)
+    → AreFirstOf listeners kept → IsFileOf IsStepLine script steps → Replays captures kept steps playlist record_fault reports → NoneStands captures kept steps
+    → Traces captures kept steps playlist record_fault answers → AreExpressionsOf kept expressions
+    → text ≡ answers_from form 1 steps playlist (cursors_of kept expressions answers) → IsAnswered form listeners script captures text record_fault
+unfolding is_played
+is_answered form listeners script captures kept steps playlist record_fault reports expressions answers text asked of_script replays stands traces read is = (
+  reports,
+  is_played listeners script captures kept steps playlist record_fault reports asked of_script replays stands,
+  answers,
+  traces,
+  record { expressions = expressions; read = read; is = is },
+)
 
 -- a fault of what was read and played is the first of what the files ask for
 pub is_unplayed : (listeners script : List ℕ) (captures : List (List ℕ)) (kept : List Spec) (steps : List Step) (fault : Fault) →

@@ -14,3 +14,5 @@ pub mod Buffers
 pub mod Messages
 pub mod Listeners
 pub mod Steps
+pub mod Traces
+pub mod Looks

@@ -32,18 +32,18 @@ abbrev pub list_of : BpftapListener → PlainList
 list_of l =
     plain (messages l.hold ++ messages l.store) (length (messages l.hold)) l.received l.matched l.dropped (is_closed l.closed)
 
--- an open listener: two buffers of one capacity in its range, and counts of which one is part of the other
+-- an open listener has two buffers of one capacity in its range, and counts of which one is part of the other
 pub record IsOpen (l : BpftapListener) : Type 0 where
-  pub store : IsBuffer l.store
-  pub hold : IsBuffer l.hold
   pub same : capacity l.hold ≡ capacity l.store
   pub range : InRange l.snap (capacity l.store)
   pub matched : l.matched ≤ l.received
   pub dropped : l.dropped ≤ l.matched
 
--- what each call leaves in a listener, and the next one finds
-abbrev pub IsListener : BpftapListener → Type 0
-IsListener l = l.closed ≡ 0 → IsOpen l
+-- what each call leaves in a listener, and the next one finds: records in both buffers, whether it is open or closed
+pub record IsListener (l : BpftapListener) : Type 0 where
+  pub store : IsBuffer l.store
+  pub hold : IsBuffer l.hold
+  pub if_open : l.closed ≡ 0 → IsOpen l
 
 -- each buffer has its memory still
 abbrev pub Keeps : BpftapListener → BpftapListener → Type 0
@@ -113,8 +113,12 @@ reset l code = record { store = emptied l.store; hold = emptied l.hold; received
 -- The listener is open, and nothing has arrived. Or it is refused for this fault, and is closed.
 abbrev pub Opens : BpftapListener → BpftapListener → ℕ → Type 0
 Opens old new fault =
-    ((fault ≡ 0) × IsOpen new × (list_of new ≡ empty) × (new ≡ reset old 0))
-    ⊎ ((why : OpenFault) × RefusesListener old why × (fault ≡ open_code why) × (new ≡ reset old 1))
+    ((fault ≡ 0) × IsListener new × (list_of new ≡ empty) × (new ≡ reset old 0))
+    ⊎ ((why : OpenFault) × RefusesListener old why × (fault ≡ open_code why) × IsListener new × (new ≡ reset old 1))
+
+-- the same listener, closed: not a byte of its buffers changes
+abbrev pub shut : BpftapListener → BpftapListener
+shut l = record { store = l.store; hold = l.hold; received = l.received; matched = l.matched; dropped = l.dropped; snap = l.snap; mode = l.mode; closed = 1 }
 
 -- the messages that a read took
 abbrev pub batch_of : Option (List Message) → List Message

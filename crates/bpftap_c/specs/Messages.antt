@@ -1,5 +1,5 @@
 -- The messages of a batch, which are read one by one.
-use Rattle.std.specs.Prelude.{◌≡◌, ◌+◌, ◌⊎◌, ℕ, List, [], ◌∷◌, length, take, drop}
+use Rattle.std.specs.Prelude.{◌≡◌, ◌+◌, ◌<◌, ◌≤◌, ◌⊎◌, ℕ, List, [], ◌∷◌, length, take, drop}
 use Rattle.listener.specs.declared.message.Message.{Message}
 use Rattle.listener.specs.Decoded.{messages_in, AreRecords}
 use Rattle.listener.specs.Messages.{size}
@@ -21,6 +21,13 @@ pub record IsFirst (text : List ℕ) (old new : ℕ) (m : Message) (found : Bpft
   pub after : new ≡ old + size (length m.bytes)
   pub is : found ≡ message_found old m
   pub bytes : take found.captured (drop found.offset text) ≡ m.bytes
+
+-- Whatever the bytes are: a message that is found lies in the text, and the next one begins after it. Or none is found, and the place
+-- stays.
+abbrev pub LiesWithin : List ℕ → ℕ → ℕ → BpftapMessage → Type 0
+LiesWithin text old new found =
+    ((found.fault ≡ 0) × (old < found.offset) × (found.offset + found.captured ≤ new) × (new ≤ length text))
+    ⊎ ((found ≡ no_message old) × (new ≡ old))
 
 -- Where records begin, the first message is found, or there is none.
 abbrev pub GivesMessage : List ℕ → ℕ → ℕ → BpftapMessage → Type 0

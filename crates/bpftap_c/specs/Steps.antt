@@ -1,14 +1,17 @@
 -- Steps that are played to listeners over captures.
 use Rattle.std.specs.Prelude.{◌≡◌, ◌==◌, ◌⊎◌, ℕ, List, Option, Some, None, map, if◌then◌else◌}
 use Rattle.savefile.specs.declared.fault.Fault.{Fault as RecordFault}
+use Rattle.tap_steps.specs.declared.answer.Answered.{Answered}
 use Rattle.tap_steps.specs.declared.filters.Spec.{Spec}
 use Rattle.tap_steps.specs.declared.step.Step.{Step}
 use Rattle.tap_steps.specs.declared.playlist.PlacedPacket.{PlacedPacket}
 use Rattle.tap_steps.specs.declared.report.Report.{Report}
+use Rattle.tap.specs.Answers.{Traces}
 use Rattle.tap.specs.Headline.{Replays}
 use Rattle.tap.specs.Refusals.{IsFirst, NoneStands}
 use Rattle.cli_json.specs.declared.form.LineForm.{LineForm}
 use Rattle.cli_text.specs.Files.{IsFileOf}
+use Rattle.cli_steps.specs.Answers.{ArePrintedAnswers}
 use Rattle.cli_steps.specs.Listeners.{IsListenerLine}
 use Rattle.cli_steps.specs.Script.{IsStepLine}
 use Rattle.cli_steps.specs.Stepping.{IsRefusedFiles}
@@ -25,17 +28,31 @@ use Rattle.bpftap_c.specs.Outcome.{capture_code, capture_place, code_of, number_
 abbrev pub texts_of : List BpftapCapture → List (List ℕ)
 texts_of captures = map (λ c. c.bytes.now) captures
 
--- The two texts say listeners and steps. Their replay gave reports, no fault applies, and these are the reports in this form.
-pub record IsReported (form : LineForm) (listeners script : List ℕ) (captures : List (List ℕ)) (text : List ℕ) (record_fault : Option (ℕ × RecordFault)) : Type 0 where
+-- The two texts say listeners and steps. Their replay gave these reports, and no fault applies.
+pub record IsPlayed (listeners script : List ℕ) (captures : List (List ℕ)) (reports : List Report) (record_fault : Option (ℕ × RecordFault)) : Type 0 where
   pub specs : List Spec
   pub steps : List Step
   pub of_listeners : IsFileOf IsListenerLine listeners specs
   pub of_script : IsFileOf IsStepLine script steps
   pub playlist : List PlacedPacket
-  pub reports : List Report
   pub replays : Replays captures specs steps playlist record_fault reports
   pub none_stands : NoneStands captures specs steps
-  pub is : text ≡ reports_in form reports
+
+-- the reports in this form
+abbrev pub IsReported : LineForm → List ℕ → List ℕ → List (List ℕ) → List ℕ → Option (ℕ × RecordFault) → Type 0
+IsReported form listeners script captures text record_fault =
+    (reports : List Report) × IsPlayed listeners script captures reports record_fault × (text ≡ reports_in form reports)
+
+-- the answers of each listener to its own steps in this form, the steps being played
+abbrev pub IsAnswered : LineForm → List ℕ → List ℕ → List (List ℕ) → List ℕ → Option (ℕ × RecordFault) → Type 0
+IsAnswered form listeners script captures text record_fault =
+    (reports : List Report) × (played : IsPlayed listeners script captures reports record_fault) × (answers : List (List Answered))
+    × Traces captures played.specs played.steps played.playlist record_fault answers
+    × ArePrintedAnswers form played.specs played.steps played.playlist answers text
+
+-- some text, the steps being played
+abbrev pub IsDrawn : List ℕ → List ℕ → List (List ℕ) → Option (ℕ × RecordFault) → Type 0
+IsDrawn listeners script captures record_fault = (reports : List Report) × IsPlayed listeners script captures reports record_fault
 
 -- Why there are no reports: the first bad line, the first fault of the replay that applies, or out of memory.
 abbrev pub IsUnplayed : List ℕ → List ℕ → List (List ℕ) → Failure → Type 0
@@ -56,6 +73,20 @@ replay_of put (Some f) =
 -- what a call returns if there are no reports
 abbrev pub no_replay : Failure → BpftapReplay
 no_replay failure = record { fault = code_of failure; number = number_of failure; size = size_of failure; place = place_of failure }
+
+-- A text is put, the steps being played. Or they are not, and all is as it was.
+abbrev pub PutsPicture : List ℕ → List ℕ → List (List ℕ) → List ℕ → List ℕ → BpftapReplay → Type 0
+PutsPicture listeners script captures old new told =
+    ((text : List ℕ) × (record_fault : Option (ℕ × RecordFault)) × (put : BpftapResult) × IsDrawn listeners script captures record_fault
+    × PutsText text old new put × (told ≡ replay_of put record_fault))
+    ⊎ ((failure : Failure) × IsUnplayed listeners script captures failure × (told ≡ no_replay failure) × (new ≡ old))
+
+-- The answers are put in this form. Or there are none, and all is as it was.
+abbrev pub PutsAnswers : LineForm → List ℕ → List ℕ → List (List ℕ) → List ℕ → List ℕ → BpftapReplay → Type 0
+PutsAnswers form listeners script captures old new told =
+    ((text : List ℕ) × (record_fault : Option (ℕ × RecordFault)) × (put : BpftapResult) × IsAnswered form listeners script captures text record_fault
+    × PutsText text old new put × (told ≡ replay_of put record_fault))
+    ⊎ ((failure : Failure) × IsUnplayed listeners script captures failure × (told ≡ no_replay failure) × (new ≡ old))
 
 -- The reports are put in this form. Or there are none, and all is as it was.
 abbrev pub PutsReports : LineForm → List ℕ → List ℕ → List (List ℕ) → List ℕ → List ℕ → BpftapReplay → Type 0

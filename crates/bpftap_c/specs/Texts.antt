@@ -32,7 +32,7 @@ IsPrinted text (Err failure) = IsUnread text failure
 
 -- the version of the library
 abbrev pub version : List ℕ
-version = codes "1.3.0"
+version = codes "2.0.0"
 
 -- some text, or memory was refused
 abbrev pub MayLackMemory : Result (List ℕ) Failure → Type 0

@@ -3,6 +3,7 @@
 ghost use Rattle.std.specs.Prelude.{◌≡◌, length, map};
 ghost use Rattle.bpftap_c.specs.Batches.{packet_in, answer_in, answer_to, answers_joined, Answers};
 ghost use Rattle.bpftap_c.specs.Insns.{insns_of};
+ghost use Rattle.bpftap_c.specs.Memory.{Puts};
 
 use crate::insns::{BpftapInsn, program_of};
 use crate::outcome::{BpftapResult, Failure, done, failed};
@@ -72,6 +73,58 @@ fn fill_answers_joined(program: &Program, memory: &[u8], sizes: &[u32], answers:
     }
 }
 
+/// Puts what a program answers to each of some packets into the front of the caller's array. The packets come first, so that their lifetime
+/// has one number here and in the export that calls this, whose proof is by hand.
+pub(crate) fn put_answers(
+    packets: &[BpftapPacket<'_>],
+    program: &Program,
+    answers: &mut [u32],
+) -> BpftapResult
+    ensures { Puts (map (answer_to program.now) packets.now) answers.old answers.new result }
+{
+    let size = packets.len();
+    if answers.len() < size {
+        return failed(Failure::NoRoom(size));
+    }
+    fill_answers(program, packets, &mut answers[..size]);
+    done(size)
+}
+
+/// Puts what a program answers to each packet of a memory into the front of the caller's array.
+pub(crate) fn put_answers_in(
+    program: &Program,
+    memory: &[u8],
+    spans: &[BpftapSpan],
+    answers: &mut [u32],
+) -> BpftapResult
+    ensures { Puts (map (answer_in program.now memory.now) spans.now) answers.old answers.new result }
+{
+    let size = spans.len();
+    if answers.len() < size {
+        return failed(Failure::NoRoom(size));
+    }
+    fill_answers_in(program, memory, spans, &mut answers[..size]);
+    done(size)
+}
+
+/// Puts what a program answers to each packet of a memory, in which they lie one after the other, into the front of the caller's array.
+#[tactic(auto, using(crate::proofs::Joined::length_joined))]
+pub(crate) fn put_answers_joined(
+    program: &Program,
+    memory: &[u8],
+    sizes: &[u32],
+    answers: &mut [u32],
+) -> BpftapResult
+    ensures { Puts (answers_joined program.now memory.now sizes.now) answers.old answers.new result }
+{
+    let size = sizes.len();
+    if answers.len() < size {
+        return failed(Failure::NoRoom(size));
+    }
+    fill_answers_joined(program, memory, sizes, &mut answers[..size]);
+    done(size)
+}
+
 /// Validates instructions once, and puts what they answer to each packet into the front of the caller's array.
 #[unsafe(no_mangle)]
 pub extern "C" fn bpftap_run_each(
@@ -81,16 +134,10 @@ pub extern "C" fn bpftap_run_each(
 ) -> BpftapResult
     ensures { Answers (insns_of insns.now) (map (answer_to (insns_of insns.now)) packets.now) answers.old answers.new result }
 {
-    let program = match program_of(insns) {
-        Ok(program) => program,
-        Err(fault) => return failed(Failure::Program(fault)),
-    };
-    let size = packets.len();
-    if answers.len() < size {
-        return failed(Failure::NoRoom(size));
+    match program_of(insns) {
+        Ok(program) => put_answers(packets, &program, answers),
+        Err(fault) => failed(Failure::Program(fault)),
     }
-    fill_answers(&program, packets, &mut answers[..size]);
-    done(size)
 }
 
 /// Validates instructions once, and puts what they answer to each packet of a memory into the front of the caller's array.
@@ -103,22 +150,15 @@ pub extern "C" fn bpftap_run_spans(
 ) -> BpftapResult
     ensures { Answers (insns_of insns.now) (map (answer_in (insns_of insns.now) memory.now) spans.now) answers.old answers.new result }
 {
-    let program = match program_of(insns) {
-        Ok(program) => program,
-        Err(fault) => return failed(Failure::Program(fault)),
-    };
-    let size = spans.len();
-    if answers.len() < size {
-        return failed(Failure::NoRoom(size));
+    match program_of(insns) {
+        Ok(program) => put_answers_in(&program, memory, spans, answers),
+        Err(fault) => failed(Failure::Program(fault)),
     }
-    fill_answers_in(&program, memory, spans, &mut answers[..size]);
-    done(size)
 }
 
 /// Validates instructions once, and puts what they answer to each packet of a memory into the front of the caller's array. The packets lie
 /// in the memory one after the other, and each has all its bytes.
 #[unsafe(no_mangle)]
-#[tactic(auto, using(crate::proofs::Joined::length_joined))]
 pub extern "C" fn bpftap_run_joined(
     insns: &[BpftapInsn],
     memory: &[u8],
@@ -127,14 +167,8 @@ pub extern "C" fn bpftap_run_joined(
 ) -> BpftapResult
     ensures { Answers (insns_of insns.now) (answers_joined (insns_of insns.now) memory.now sizes.now) answers.old answers.new result }
 {
-    let program = match program_of(insns) {
-        Ok(program) => program,
-        Err(fault) => return failed(Failure::Program(fault)),
-    };
-    let size = sizes.len();
-    if answers.len() < size {
-        return failed(Failure::NoRoom(size));
+    match program_of(insns) {
+        Ok(program) => put_answers_joined(&program, memory, sizes, answers),
+        Err(fault) => failed(Failure::Program(fault)),
     }
-    fill_answers_joined(&program, memory, sizes, &mut answers[..size]);
-    done(size)
 }

@@ -1,16 +1,13 @@
 //! Buffers of records in the caller's memory.
 
-ghost use Rattle.std.specs.Prelude.{◌≡◌, ◌↔◌, false, ◌+◌, ◌≤◌, ◌<◌, ◌^◌, ◌++◌, ◌∷◌, [], length, take, IsTrue};
+ghost use Rattle.std.specs.Prelude.{◌≡◌, ◌↔◌, false, ◌+◌, ◌≤◌, ◌++◌, ◌∷◌, [], length, take, IsTrue};
 ghost use Rattle.std.specs.Bool.{OnTrue};
-ghost use Rattle.byteorder.specs.Endian.{little_bytes};
 ghost use Rattle.listener.specs.Messages.{size, room};
-ghost use Rattle.listener.specs.RecordBytes.{fields_text};
-ghost use Rattle.savefile.specs.Filling.{Fills};
 ghost use Rattle.savefile.specs.declared.record.TheConstants.{MAX_SNAP};
 ghost use Rattle.bpftap_c.specs.Buffers.{capacity, memory, messages, message_of, IsBuffer};
 
 use crate::captures::BpftapRecord;
-use byteorder::{ByteOrder, LittleEndian};
+use listener::{fields, size};
 
 /// The bytes of a record's fields.
 pub(crate) const FIELDS_LEN: usize = 32;
@@ -24,46 +21,6 @@ pub struct BpftapBuffer<'a> {
     pub bytes: &'a mut [u8],
     /// How many of the bytes are records.
     pub size: usize,
-}
-
-/// The bytes of the record of so many bytes of data.
-pub(crate) fn record_size(kept: usize) -> usize
-    requires { kept < 2 ^ 32 }
-    ensures { result ≡ size kept }
-{
-    FIELDS_LEN + (kept + 7) / 8 * 8
-}
-
-/// Writes a number of four bytes into a text from a place on.
-fn fill_u32(text: &mut [u8], at: usize, n: u32)
-    requires { at + 4 ≤ length text.old }
-    ensures { Fills at text.old (little_bytes 4 n) text.new }
-{
-    LittleEndian::write_u32(&mut text[at..], n);
-}
-
-/// Writes a number of eight bytes into a text from a place on.
-fn fill_u64(text: &mut [u8], at: usize, n: u64)
-    requires { at + 8 ≤ length text.old }
-    ensures { Fills at text.old (little_bytes 8 n) text.new }
-{
-    LittleEndian::write_u64(&mut text[at..], n);
-}
-
-/// The fields of a record.
-fn fields(sec: u32, nanos: u32, kept: u32, len: u32, place: u64, capture: u32) -> [u8; 32]
-    ensures text { result ≡ fields_text sec nanos kept len place capture }
-    ensures small { (sec < 2 ^ 32) × (nanos < 2 ^ 32) × (len < 2 ^ 32) × (place < 2 ^ 64) × (capture < 2 ^ 32) }
-{
-    let mut text = [0; FIELDS_LEN];
-    fill_u32(&mut text, 0, sec);
-    fill_u32(&mut text, 4, nanos);
-    fill_u32(&mut text, 8, kept);
-    fill_u32(&mut text, 12, len);
-    fill_u64(&mut text, 16, place);
-    fill_u32(&mut text, 24, capture);
-    fill_u32(&mut text, 28, 0);
-    text
 }
 
 /// Writes bytes into a memory from a place on.
@@ -89,7 +46,7 @@ impl BpftapBuffer<'_> {
     {
         let at = self.size;
         let kept = data.len();
-        let size = record_size(kept);
+        let size = size(kept as u32);
         if size > self.bytes.len() - at {
             return false;
         }

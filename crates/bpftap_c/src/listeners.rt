@@ -4,7 +4,7 @@ ghost use Rattle.std.specs.Prelude.{◌≡◌, ◌<◌, ◌-◌, ◌^◌, ◌≤
 ghost use Rattle.listener.specs.declared.answer.Fed.{Fed};
 ghost use Rattle.listener.specs.PlainList.{arrived, flushed, closed};
 ghost use Rattle.bpftap_c.specs.Buffers.{arrival_of};
-ghost use Rattle.bpftap_c.specs.Listeners.{kept_by_answer, fed_code, reset, IsListener, Takes, Opens, Reads};
+ghost use Rattle.bpftap_c.specs.Listeners.{kept_by_answer, fed_code, reset, shut, IsListener, Takes, Opens, Reads};
 
 use crate::buffers::BpftapBuffer;
 use crate::captures::BpftapRecord;
@@ -164,11 +164,12 @@ pub extern "C" fn bpftap_listener_read<'a>(
     done(batch.size)
 }
 
-/// Closes a listener: from now on nothing changes.
+/// Closes a listener: from now on nothing changes. Not a byte of its buffers does now.
 #[unsafe(no_mangle)]
 pub extern "C" fn bpftap_listener_close(listener: &mut BpftapListener<'_>)
     requires { IsListener listener.old }
-    ensures { Takes listener.old closed listener.new }
+    ensures closes { Takes listener.old closed listener.new }
+    ensures rest { listener.new ≡ shut listener.old }
 {
     listener.closed = 1;
 }

@@ -2,10 +2,11 @@
 
 ghost use Rattle.std.specs.Prelude.{◌≡◌};
 ghost use Rattle.bpftap_c.specs.Buffers.{text_of};
-ghost use Rattle.bpftap_c.specs.Messages.{no_message, GivesMessage};
+ghost use Rattle.bpftap_c.specs.Messages.{no_message, GivesMessage, LiesWithin};
 
-use crate::buffers::{BpftapBuffer, FIELDS_LEN, record_size};
+use crate::buffers::{BpftapBuffer, FIELDS_LEN};
 use byteorder::{ByteOrder, LittleEndian};
+use listener::size;
 
 /// A message of a batch.
 #[repr(C)]
@@ -44,7 +45,8 @@ fn no_message(offset: usize) -> BpftapMessage
 
 /// Reads the message whose record begins in a text at `offset`, and moves this past the record.
 fn next_message(text: &[u8], offset: &mut usize) -> BpftapMessage
-    ensures { GivesMessage text.now offset.old offset.new result }
+    ensures message { GivesMessage text.now offset.old offset.new result }
+    ensures within { LiesWithin text.now offset.old offset.new result }
 {
     let at = *offset;
     if at > text.len() || text.len() - at < FIELDS_LEN {
@@ -52,7 +54,7 @@ fn next_message(text: &[u8], offset: &mut usize) -> BpftapMessage
     }
     let (_before, rest) = text.split_at(at);
     let captured = LittleEndian::read_u32(&rest[8..]);
-    let size = record_size(captured as usize);
+    let size = size(captured);
     if size > rest.len() {
         return no_message(at);
     }
@@ -69,13 +71,15 @@ fn next_message(text: &[u8], offset: &mut usize) -> BpftapMessage
     }
 }
 
-/// Reads the next message of a batch, and moves `offset` past its record.
+/// Reads the next message of a batch, and moves `offset` past its record. Whatever the bytes of the batch are, a message lies within its
+/// first `size` bytes, or in all of them if there are fewer.
 #[unsafe(no_mangle)]
 pub extern "C" fn bpftap_listener_next(
     batch: &BpftapBuffer<'_>,
     offset: &mut usize,
 ) -> BpftapMessage
-    ensures { GivesMessage (text_of batch.now) offset.old offset.new result }
+    ensures message { GivesMessage (text_of batch.now) offset.old offset.new result }
+    ensures within { LiesWithin (text_of batch.now) offset.old offset.new result }
 {
     let size = batch.size.min(batch.bytes.len());
     next_message(&batch.bytes[..size], offset)

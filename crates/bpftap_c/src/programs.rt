@@ -1,17 +1,20 @@
 //! A program that is kept in the caller's memory.
 
-ghost use Rattle.std.specs.Prelude.{◌≡◌, List};
+ghost use Rattle.std.specs.Prelude.{◌≡◌, List, map};
 ghost use Rattle.std.specs.Borrow.{full_share, sem};
 ghost use Rattle.std.specs.Ptr.{lies_at, room_at};
 ghost use Rattle.bpfvm.specs.declared.insn.Insn.{Insn};
 ghost use Rattle.bpfvm.specs.Machine.{verdict};
 ghost use Rattle.bpfvm.specs.Validity.{IsValidProgram, IsRefusedAs};
 ghost use Rattle.bpfvm.specs.contracts.program.Program.{the_row};
+ghost use Rattle.bpftap_c.specs.Batches.{answer_in, answer_to, answers_joined};
 ghost use Rattle.bpftap_c.specs.Insns.{insns_of};
+ghost use Rattle.bpftap_c.specs.Memory.{Puts};
 ghost use Rattle.bpftap_c.specs.Programs.{reject_all, IsLayout, IsPrepared, Prepares, HasFault, Lent, lies_lent};
 
+use crate::batches::{BpftapPacket, BpftapSpan, put_answers, put_answers_in, put_answers_joined};
 use crate::insns::{BpftapInsn, program_of};
-use crate::outcome::{Failure, code_of};
+use crate::outcome::{BpftapResult, Failure, code_of};
 use bpfvm::{Insn, Program, code, run};
 
 /// What C sees of a program: nothing.
@@ -96,4 +99,56 @@ pub unsafe extern "C" fn bpftap_program_run(
 {
     let at = program as *const Program;
     answer(&*at, packet, wire)
+}
+
+/// Puts what the program in the caller's memory answers to each packet into the front of the caller's array. As with
+/// [`bpftap_program_run`], the program is only read.
+#[unsafe(no_mangle)]
+pub unsafe extern "C" fn bpftap_program_run_each(
+    program: *const BpftapProgram,
+    packets: &[BpftapPacket<'_>],
+    answers: &mut [u32],
+) -> BpftapResult
+    ghost lent: { Lent }
+    requires* { sem 𝓛 (lies_lent program lent) }
+    ensures* { sem 𝓛 (lies_lent program lent)
+        ∗ ⌜ Puts (map (answer_to lent.insns) packets.now) answers.old answers.new result ⌝ }
+{
+    let at = program as *const Program;
+    put_answers(packets, &*at, answers)
+}
+
+/// Puts what the program in the caller's memory answers to each packet of another memory into the front of the caller's array.
+#[unsafe(no_mangle)]
+pub unsafe extern "C" fn bpftap_program_run_spans(
+    program: *const BpftapProgram,
+    memory: &[u8],
+    spans: &[BpftapSpan],
+    answers: &mut [u32],
+) -> BpftapResult
+    ghost lent: { Lent }
+    requires* { sem 𝓛 (lies_lent program lent) }
+    ensures* { sem 𝓛 (lies_lent program lent)
+        ∗ ⌜ Puts (map (answer_in lent.insns memory.now) spans.now) answers.old answers.new result ⌝ }
+{
+    let at = program as *const Program;
+    put_answers_in(&*at, memory, spans, answers)
+}
+
+/// Puts what the program in the caller's memory answers to each packet of another memory into the front of the caller's array. The packets
+/// lie in that memory one after the other, and each has all its bytes.
+#[unsafe(no_mangle)]
+pub unsafe extern "C" fn bpftap_program_run_joined(
+    program: *const BpftapProgram,
+    memory: &[u8],
+    sizes: &[u32],
+    answers: &mut [u32],
+) -> BpftapResult
+    ghost lent: { Lent }
+    requires* { sem 𝓛 (lies_lent program lent) }
+    ensures* { sem 𝓛 (lies_lent program lent)
+        ∗ ⌜ Puts (answers_joined lent.insns memory.now sizes.now) answers.old answers.new result ⌝ }
+{
+    let at = program as *const Program;
+    put_answers_joined(&*at, memory, sizes, answers)
 }

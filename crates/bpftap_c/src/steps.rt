@@ -34,7 +34,10 @@ pub struct BpftapReplay {
 }
 
 /// The bytes of each capture.
-fn slices_of<'a>(alloc: Global, captures: &[BpftapCapture<'a>]) -> Result<Vec<&'a [u8]>, AllocError>
+pub(crate) fn slices_of<'a>(
+    alloc: Global,
+    captures: &[BpftapCapture<'a>],
+) -> Result<Vec<&'a [u8]>, AllocError>
     ensures { IfOk result (λ slices. map (λ s. s.now) slices.items ≡ texts_of captures.now) }
 {
     let mut slices = Vec::with_capacity(alloc, captures.len())?;
@@ -76,7 +79,10 @@ fn reports_text(
 }
 
 /// The result of a call that put a text: the record fault that a capture ended with, if the text found room, and else what `put` says.
-fn replay_of(put: BpftapResult, record_fault: Option<(u32, savefile::Fault)>) -> BpftapReplay
+pub(crate) fn replay_of(
+    put: BpftapResult,
+    record_fault: Option<(u32, savefile::Fault)>,
+) -> BpftapReplay
     ensures { result ≡ replay_of put record_fault }
 {
     match record_fault {
@@ -99,7 +105,7 @@ fn replay_of(put: BpftapResult, record_fault: Option<(u32, savefile::Fault)>) ->
 }
 
 /// The result of a call that has no reports.
-fn no_replay(failure: Failure) -> BpftapReplay
+pub(crate) fn no_replay(failure: Failure) -> BpftapReplay
     ensures { result ≡ no_replay failure }
 {
     let told = failed(failure);

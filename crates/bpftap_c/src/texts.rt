@@ -39,7 +39,7 @@ pub extern "C" fn bpftap_print(alloc: Global, text: &[u8], to: &mut [u8]) -> Bpf
 }
 
 /// The version of the library.
-const VERSION: &str = "1.3.0";
+const VERSION: &str = "2.0.0";
 
 /// Writes the version.
 #[unsafe(no_mangle)]
@@ -109,7 +109,7 @@ fn capture_fault_name(fault: u32) -> &'static str {
         67 => "LinkType",
         68 => "TornRecord",
         69 => "BadFraction",
-        70 => "TooLong",
+        70 => "RecordTooLong",
         71 => "Device",
         72 => "Failed",
         _ => "CountFull",
@@ -120,7 +120,7 @@ fn steps_fault_name(fault: u32) -> &'static str {
     match fault {
         88 => "Listeners",
         89 => "Script",
-        90 => "TooMany",
+        90 => "StepsTooMany",
         _ => "NoListener",
     }
 }
@@ -142,7 +142,8 @@ fn fault_line(alloc: Global, fault: u32, place: usize) -> Result<String, AllocEr
     Ok(line)
 }
 
-/// Writes the name of a fault, and its place where it has one, as the program prints it.
+/// Writes the name of a fault, and its place where it has one, as the program prints it; but a name stands for one number, so that what the
+/// program prints as `TooLong` of a record is `RecordTooLong`, and as `TooMany` of steps `StepsTooMany`.
 #[unsafe(no_mangle)]
 pub extern "C" fn bpftap_fault_text(
     alloc: Global,

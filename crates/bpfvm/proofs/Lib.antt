@@ -12,3 +12,4 @@ pub mod Traces
 pub mod Images
 pub mod Entries
 pub mod Turning
+pub mod Endings

@@ -5,8 +5,11 @@ pub mod Next
 pub mod Decoding
 pub mod Turns
 pub mod Traces
+pub mod Ends
+pub mod Endings
 pub mod Listing
 pub mod Laws
 pub mod Lines
 pub mod Images
 pub mod Naming
+pub mod Faults

@@ -8,6 +8,7 @@
 
 pub mod code;
 mod decoded;
+mod ending;
 mod fault;
 mod image;
 mod insn;
@@ -18,6 +19,7 @@ mod program;
 mod running;
 mod tracing;
 
+pub use ending::{End, How, run_to_end};
 pub use fault::{Invalid, ListingFault, NoMemory};
 pub use image::{Brief, PlacedInsn, write_image};
 pub use insn::Insn;

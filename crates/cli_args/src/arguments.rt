@@ -38,8 +38,10 @@ pub(crate) enum Argument {
     Quiet(&'static str),
     /// Whether JSON Lines are printed.
     Json,
-    /// An expression, as a word of its own, where no listing is given.
+    /// An expression, as a word of its own, where no other filter is given.
     Word,
+    /// An expression after `-e`, in place of the word.
+    Expr,
 }
 
 impl Argument {
@@ -65,6 +67,7 @@ impl Argument {
             Argument::Quiet(help) => Ok(quiet(alloc, help)),
             Argument::Json => Ok(json(alloc)),
             Argument::Word => word(alloc),
+            Argument::Expr => expr(alloc),
         }
     }
 }
@@ -182,10 +185,24 @@ fn json<'a>(alloc: Global) -> Arg<'a> {
         .help("Print JSON Lines: one object for each line; faults too")
 }
 
-/// An expression, as a word of its own, where no listing is given.
+/// An expression, as a word of its own, where no other filter is given.
 fn word<'a>(alloc: Global) -> Result<Arg<'a>, AllocError> {
     Arg::new(alloc, "EXPR")
         .help("Filter expression of pcap-filter(7), as one word; it may be empty")
+        .required_unless_present("expr")?
         .required_unless_present("listing")?
         .conflicts_with("listing")
+}
+
+/// An expression after `-e`, in place of the word.
+fn expr<'a>(alloc: Global) -> Result<Arg<'a>, AllocError> {
+    option(
+        alloc,
+        "expr",
+        'e',
+        "EXPR",
+        "The expression, as cut and explain take it",
+    )
+    .conflicts_with("EXPR")?
+    .conflicts_with("listing")
 }

@@ -1,9 +1,9 @@
 //! The words of `bpftap check`, by `clap`.
 
 use crate::arguments::Argument;
-use crate::subcommand::subcommand;
-use clap::{ArgGroup, ArgMatches, Command};
-use cli_text::fields::snapshot_length;
+use crate::snap::{SNAP_WANTED, snap_of};
+use crate::subcommand::{bad_value, subcommand};
+use clap::{ArgGroup, ArgMatches, Command, Error};
 use std::alloc::{AllocError, Global};
 
 /// What one call of `bpftap check` asks for.
@@ -45,7 +45,7 @@ expression at fault, from 0; docs/LANGUAGE.md has the language.
 Exit status: 0 the program is printed; 1 the expression or listing is refused or the program is
 too long, bad usage, or out of memory; 3 a file or standard output failed.";
 
-static ARGUMENTS: [Argument; 6] = [
+static ARGUMENTS: [Argument; 7] = [
     Argument::Count(
         "named",
         'd',
@@ -54,6 +54,7 @@ static ARGUMENTS: [Argument; 6] = [
     Argument::Read,
     Argument::Json,
     Argument::DefaultSnap,
+    Argument::Expr,
     Argument::Text(
         "listing",
         'f',
@@ -87,11 +88,16 @@ pub fn check_usage<'a>(alloc: Global) -> Result<Command<'a>, AllocError> {
 /// The words that were found, nothing if one is missing or the snapshot length is invalid.
 pub fn check_words<'a>(matches: &ArgMatches<'a>) -> Option<CheckWords<'a>> {
     Some(CheckWords {
-        expr: matches.get_str("EXPR"),
+        expr: matches.get_str("EXPR").or(matches.get_str("expr")),
         listing: matches.get_str("listing"),
-        snap: snapshot_length(matches.get_str("snap")?.as_bytes())?,
+        snap: snap_of(matches)?,
         named: matches.get_count("named"),
         read: matches.get_flag("read"),
         json: matches.get_flag("json"),
     })
+}
+
+/// The error of a snapshot length that has more than digits.
+pub fn bad_check_words(alloc: Global) -> Result<Error, AllocError> {
+    bad_value(check_usage(alloc), "bpftap check", SNAP_WANTED)
 }

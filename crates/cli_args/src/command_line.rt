@@ -1,41 +1,19 @@
 //! The words of the command line, by `clap`.
-use crate::arguments::Argument;
-use crate::check::{CheckWords, check_usage, check_words};
+use crate::check::{CheckWords, bad_check_words, check_usage, check_words};
 use crate::compare::{CompareWords, bad_compare_words, compare_usage, compare_words};
+use crate::cut::{CutWords, bad_cut_words, cut_usage, cut_words};
 use crate::explain::{ExplainWords, bad_explain_words, explain_usage, explain_words};
+use crate::info::{InfoWords, info_usage, info_words};
 use crate::refusal::refusal_of;
 use crate::run::{RunWords, run_usage, run_words};
 use crate::split::{SplitWords, split_usage, split_words};
 use crate::steps::{StepsWords, steps_usage, steps_words};
-use crate::subcommand::{bad_value, subcommand};
 use crate::topics::topic_of;
 use clap::error::ErrorKind;
 use clap::{Arg, ArgAction, ArgMatches, Command, Error};
-use cli_text::fields::snapshot_length;
 use savefile::{Order, Unit};
 use std::alloc::{AllocError, Global};
 use std::convert::AsStr;
-
-/// What one call of `bpftap cut` asks for.
-#[derive(Drop)]
-pub struct CutWords<'a> {
-    /// The snapshot length, 1 to [`cli_text::MAX_SNAP`].
-    pub snap: u32,
-    /// The path of the listing, where `-f` is given.
-    pub listing: Option<&'a str>,
-    /// The expression, where `-e` is given.
-    pub expr: Option<&'a str>,
-    pub order: Order,
-    pub unit: Unit,
-    /// Whether the packets are counted on standard error.
-    pub counted: bool,
-    /// Whether the counts and faults are printed as JSON.
-    pub json: bool,
-    /// The paths of the captures that are read, in order.
-    pub inputs: Vec<&'a str>,
-    /// The path of the capture that is written.
-    pub output: &'a str,
-}
 
 /// What the words ask for.
 #[derive(Drop)]
@@ -44,6 +22,7 @@ pub enum Request<'a> {
     Explain(ExplainWords<'a>),
     Compare(CompareWords<'a>),
     Cut(CutWords<'a>),
+    Info(InfoWords<'a>),
     Steps(StepsWords<'a>),
     Run(RunWords<'a>),
     Split(SplitWords<'a>),
@@ -52,7 +31,7 @@ pub enum Request<'a> {
 }
 
 /// What the program calls itself, and in which logic it was proved, as `rt version` names it. Kits share one.
-const VERSION: &str = "1.3.0, proved in the logic dac8208d650f15bf";
+const VERSION: &str = "2.0.0, proved in the logic dac8208d650f15bf";
 
 const ABOUT: &str =
     "Filters captures offline, and replays them to listeners that keep and drop packets";
@@ -63,6 +42,7 @@ const EXAMPLES: &str = "Examples:
   bpftap compare 'tcp port 80' 'tcp dst port 80' examples/veth.pcap
   bpftap cut -s 0 -e 'udp port 5353' examples/veth.pcap dns.pcap
   bpftap cut -s 0 -f examples/ip.bpf examples/veth.pcap ip.pcap
+  bpftap info examples/veth.pcap
   bpftap split examples/split/lines.txt examples/veth.pcap
   bpftap steps -v examples/steps/listeners.txt examples/steps/script.txt examples/veth.pcap
   bpftap run examples/run/listeners.txt examples/veth.pcap
@@ -73,79 +53,15 @@ the packets before it; 3 a file or device failed; 4 an answer, no fault: explain
 packet, compare -q or without IN finds one that is treated differently; 5 compare without IN has
 not decided it.";
 
-const CUT_EXAMPLES: &str = "Examples:
-  bpftap cut -s 0 -e 'udp port 5353' examples/veth.pcap dns.pcap
-  bpftap cut -s 0 -f examples/ip.bpf examples/veth.pcap ip.pcap
-  bpftap cut -s 64 examples/veth.pcap headers.pcap     # the first 64 bytes of every packet
-  bpftap cut -s 0 -e arp examples/veth.pcap examples/veth-big-nano.pcap arp.pcap
-
-The last path is OUT. Several IN are read in order, up to the first fault; -c counts the packets of
-all. -u micro cuts nanoseconds off, and -u nano keeps them. -e and -f exclude each other. Write an
-expression that begins with - in parentheses, or after -e=, as in -e='-1 + len > 60'.
-
-Exit status: 0 clean; 1 bad usage, invalid input, or out of memory; 2 a torn or bad record, after
-the packets before it; 3 a file or device failed.";
-
 /// The subcommands, in the order of the help.
-static SUBCOMMANDS: [&str; 7] = [
-    "check", "explain", "compare", "cut", "split", "steps", "run",
+static SUBCOMMANDS: [&str; 8] = [
+    "check", "explain", "compare", "info", "cut", "split", "steps", "run",
 ];
 
-/// The option that asks for hints, without its dashes.
-const HINTS: &str = "hints";
-
-/// Whether the words, the program's name first, ask for hints: by `--hints` before the subcommand.
-pub fn asks_hints<S: AsStr>(words: &[S]) -> bool {
-    match words.get(1) {
-        Some(word) => word.as_str().strip_prefix("--") == Some(HINTS),
-        None => false,
-    }
-}
-
-static CUT: [Argument; 9] = [
-    Argument::Snap,
-    Argument::Listing,
-    Argument::Text(
-        "expr",
-        'e',
-        "EXPR",
-        "Filter expression of pcap-filter(7), as one word; without -e and -f every packet is kept",
-    ),
-    Argument::Order,
-    Argument::Unit,
-    Argument::Flag(
-        "counted",
-        'c',
-        "Print on standard error how many of the packets were written",
-    ),
-    Argument::Json,
-    Argument::Path(
-        "IN",
-        "First capture to read: classic savefiles of Ethernet frames",
-    ),
-    // Of the words after the first IN the last one is OUT, wherever options come between them.
-    Argument::Paths(
-        "OUT",
-        "Further captures to read, in order, and last the one to write, which is created once the filter and the first header of IN are accepted",
-    ),
-];
-
-const CUT_USAGE: &str = "bpftap cut [OPTIONS] -s <N> <IN>... <OUT>";
-
-pub(crate) fn cut_usage<'a>(alloc: Global) -> Result<Command<'a>, AllocError> {
-    let command = subcommand(
-        alloc,
-        "cut",
-        "Write each packet of IN that the filter accepts, cut to N bytes, to OUT",
-        CUT_EXAMPLES,
-        &CUT,
-    )?;
-    Ok(command.override_usage(CUT_USAGE))
-}
-
+/// The option that asks for hints, for the help: [`called_words`](crate::hints::called_words) takes it.
 fn hints_arg<'a>(alloc: Global) -> Arg<'a> {
     Arg::new(alloc, "hints")
-        .long(HINTS)
+        .long("hints")
         .action(ArgAction::SetTrue)
         .help("Explain errors, as on a terminal")
 }
@@ -161,12 +77,13 @@ fn bare_program<'a>(alloc: Global) -> Command<'a> {
 }
 
 /// The subcommand of this name.
-fn subcommand_of<'a>(alloc: Global, name: &str) -> Result<Command<'a>, AllocError> {
+pub(crate) fn subcommand_of<'a>(alloc: Global, name: &str) -> Result<Command<'a>, AllocError> {
     match name {
         "check" => check_usage(alloc),
         "explain" => explain_usage(alloc),
         "compare" => compare_usage(alloc),
         "cut" => cut_usage(alloc),
+        "info" => info_usage(alloc),
         "split" => split_usage(alloc),
         "steps" => steps_usage(alloc),
         _ => run_usage(alloc),
@@ -241,6 +158,14 @@ fn run_request_of<'a>(
     Ok(run_words(alloc, words)?.map(Request::Run))
 }
 
+/// What the words of `info` ask for; nothing if one is missing.
+fn info_request_of<'a>(
+    alloc: Global,
+    words: &ArgMatches<'a>,
+) -> Result<Option<Request<'a>>, AllocError> {
+    Ok(info_words(alloc, words)?.map(Request::Info))
+}
+
 /// What the words of `split` ask for; nothing if one is missing.
 fn split_request_of<'a>(
     alloc: Global,
@@ -258,6 +183,7 @@ fn request_of<'a>(
     match name {
         "steps" => steps_request_of(alloc, words),
         "run" => run_request_of(alloc, words),
+        "info" => info_request_of(alloc, words),
         "split" => split_request_of(alloc, words),
         "explain" => explain_request_of(alloc, words),
         "compare" => compare_request_of(alloc, words),
@@ -267,8 +193,8 @@ fn request_of<'a>(
     }
 }
 
-/// The error of words that `clap` took and a subcommand refuses. For `cut` and `check` it is the snapshot length, for `explain`
-/// that or the place, for `compare` that or a missing IN. For the others a word is missing, which `clap` has reported.
+/// The error of words that `clap` took and a subcommand refuses. For `check` it is the snapshot length, for `cut` that or OUT, for
+/// `explain` that or the place, for `compare` that or a missing IN. For the others a word is missing, which `clap` has reported.
 fn bad_words(
     alloc: Global,
     name: &str,
@@ -276,7 +202,8 @@ fn bad_words(
     program: &mut Command<'_>,
 ) -> Result<Error, AllocError> {
     match name {
-        "check" | "cut" => bad_snap(alloc, name),
+        "check" => bad_check_words(alloc),
+        "cut" => bad_cut_words(alloc, words),
         "explain" => bad_explain_words(alloc, words),
         "compare" => bad_compare_words(alloc, words),
         _ => program.error(ErrorKind::MissingRequiredArgument, "a word is wanted"),
@@ -328,59 +255,4 @@ pub fn read_words<'a, S: AsStr>(alloc: Global, words: &'a [S]) -> Result<Request
         Ok(request) => Ok(request),
         Err(error) => Err(refusal_of(alloc, words, error)),
     }
-}
-
-/// What a snapshot length is.
-const SNAP_WANTED: &str = "-s takes a number from 0 to 262144";
-
-/// The error of a snapshot length that has more than digits, with the usage of its subcommand.
-fn bad_snap(alloc: Global, name: &str) -> Result<Error, AllocError> {
-    match name {
-        "check" => bad_value(check_usage(alloc), "bpftap check", SNAP_WANTED),
-        _ => bad_value(cut_usage(alloc), "bpftap cut", SNAP_WANTED),
-    }
-}
-
-/// The snapshot length, `None` if it is invalid.
-fn snap_of(matches: &ArgMatches<'_>) -> Option<u32> {
-    snapshot_length(matches.get_str("snap")?.as_bytes())
-}
-
-/// The paths of all IN: the first one, and the others.
-fn inputs_of<'a>(
-    alloc: Global,
-    first: &'a str,
-    others: &[&'a str],
-) -> Result<Vec<&'a str>, AllocError> {
-    let mut inputs = Vec::with_capacity(alloc, others.len().saturating_add(1))?;
-    inputs.push(first)?;
-    inputs.extend_from_slice(others)?;
-    Ok(inputs)
-}
-
-/// The words that were found, `None` if one is missing, or if the snapshot length is invalid.
-fn cut_words<'a>(
-    alloc: Global,
-    matches: &ArgMatches<'a>,
-) -> Result<Option<CutWords<'a>>, AllocError> {
-    let Some(snap) = snap_of(matches) else {
-        return Ok(None);
-    };
-    let (Some(first), Some(paths)) = (matches.get_str("IN"), matches.get_strs("OUT")) else {
-        return Ok(None);
-    };
-    let Some((output, others)) = paths.split_last() else {
-        return Ok(None);
-    };
-    Ok(Some(CutWords {
-        snap,
-        listing: matches.get_str("listing"),
-        expr: matches.get_str("expr"),
-        order: order_of(matches),
-        unit: unit_of(matches),
-        counted: matches.get_flag("counted"),
-        json: matches.get_flag("json"),
-        inputs: inputs_of(alloc, first, others)?,
-        output: *output,
-    }))
 }

@@ -1,9 +1,9 @@
 //! The words of `bpftap compare`, by `clap`.
 
 use crate::arguments::Argument;
+use crate::snap::{SNAP_WANTED, snap_of};
 use crate::subcommand::{bad_value, subcommand};
 use clap::{ArgMatches, Command, Error};
-use cli_text::fields::snapshot_length;
 use std::alloc::{AllocError, Global};
 
 /// What one call of `bpftap compare` asks for.
@@ -119,7 +119,7 @@ impl Objection {
     /// What is wanted instead.
     fn wanted(self) -> &'static str {
         match self {
-            Objection::Snap => "-s takes a number from 0 to 262144",
+            Objection::Snap => SNAP_WANTED,
             Objection::Filters => "compare takes EXPR1, and EXPR2 or -f LISTING",
             Objection::Output => "-w OUT goes without IN",
         }
@@ -149,11 +149,6 @@ pub fn compare_words<'a>(
         output: matches.get_str("output"),
         inputs: inputs_of(alloc, listing.is_some(), second, others)?,
     }))
-}
-
-/// The snapshot length, `None` if it is none.
-fn snap_of(matches: &ArgMatches<'_>) -> Option<u32> {
-    snapshot_length(matches.get_str("snap")?.as_bytes())
 }
 
 /// What is wrong with words that `clap` took, if anything is.

@@ -2,9 +2,9 @@
 
 use crate::arguments::Argument;
 use crate::places::{PLACES_WANTED, PlaceRange, place_range};
+use crate::snap::{SNAP_WANTED, snap_of};
 use crate::subcommand::{bad_value, subcommand};
 use clap::{ArgGroup, ArgMatches, Command, Error};
-use cli_text::fields::snapshot_length;
 use std::alloc::{AllocError, Global};
 
 /// What one call of `bpftap explain` asks for.
@@ -122,11 +122,6 @@ fn places_of(matches: &ArgMatches<'_>) -> Option<Option<PlaceRange>> {
     }
 }
 
-/// The snapshot length, `None` if it is invalid.
-fn snap_of(matches: &ArgMatches<'_>) -> Option<u32> {
-    snapshot_length(matches.get_str("snap")?.as_bytes())
-}
-
 /// The words that were found, `None` if one is missing, or if the snapshot length or the place is invalid.
 pub fn explain_words<'a>(
     alloc: Global,
@@ -152,7 +147,7 @@ pub fn explain_words<'a>(
 /// What a snapshot length or a place has to be that was found to be none.
 fn range_of_value(matches: &ArgMatches<'_>) -> &'static str {
     match places_of(matches) {
-        Some(_) => "-s takes a number from 0 to 262144",
+        Some(_) => SNAP_WANTED,
         None => PLACES_WANTED,
     }
 }

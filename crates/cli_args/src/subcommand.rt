@@ -29,12 +29,22 @@ pub(crate) fn subcommand<'a>(
     Ok(command)
 }
 
+/// The error of words that a subcommand does not take, with the usage of that, by its whole name.
+pub(crate) fn usage_error(
+    subcommand: Result<Command<'_>, AllocError>,
+    name: &str,
+    kind: ErrorKind,
+    wanted: &str,
+) -> Result<Error, AllocError> {
+    let mut command = subcommand?.bin_name(name)?;
+    command.error(kind, wanted)
+}
+
 /// The error of a value that a subcommand does not take, with the usage of that, by its whole name.
 pub(crate) fn bad_value(
     subcommand: Result<Command<'_>, AllocError>,
     name: &str,
     wanted: &str,
 ) -> Result<Error, AllocError> {
-    let mut command = subcommand?.bin_name(name)?;
-    command.error(ErrorKind::ValueValidation, wanted)
+    usage_error(subcommand, name, ErrorKind::ValueValidation, wanted)
 }

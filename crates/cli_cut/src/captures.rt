@@ -9,7 +9,7 @@ use crate::paths::{LateOutput, check_paths, is_standard_output, late_output};
 use crate::plan::read_filter;
 use crate::report::report_tally;
 use bpfvm::Program;
-use cli_args::command_line::CutWords;
+use cli_args::cut::CutWords;
 use cli_json::LineForm;
 use cli_report::HintSink;
 use cli_report::probe::ProbedOutput;

@@ -9,7 +9,7 @@ use crate::print::{PrintFault, ProgramForm, check, show, show_read};
 use crate::report::{report_count, report_cut, report_print};
 use bpfvm::Program;
 use cli_args::check::CheckWords;
-use cli_args::command_line::CutWords;
+use cli_args::cut::CutWords;
 use cli_json::LineForm;
 use cli_report::HintSink;
 use cli_report::probe::{ProbedInput, ProbedOutput};

@@ -1,7 +1,7 @@
 //! Hints on a cut or a print that failed.
 
 use crate::print::PrintFault;
-use cli_args::command_line::CutWords;
+use cli_args::cut::CutWords;
 use cli_filter::hint_expression;
 use cli_report::HintSink;
 use cli_report::failures::{hint_failure, hint_input, hint_unprinted};

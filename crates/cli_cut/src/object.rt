@@ -1,20 +1,31 @@
 //! A program as an object of JSON: the functions under `bpftap check --json`.
 
-ghost use Rattle.std.specs.Prelude.{◌≡◌, ◌++◌, codes, IfErr, IfOk, OnOk, option_map, string_bytes};
+ghost use Rattle.std.specs.Prelude.{◌≡◌, ◌<◌, ◌^◌, ◌++◌, codes, IfErr, IfOk, OnOk, option_map, string_bytes};
 ghost use Rattle.std.specs.Io.KnownBytes.{Appends};
 ghost use Rattle.filterlang.specs.Trees.{tree_of};
 ghost use Rattle.cli_text.specs.Texts.{numbered};
 ghost use Rattle.cli_cut.specs.Printing.{IsUnprinted};
-ghost use Rattle.cli_cut.specs.Objects.{PrintsObject, IsObjectUnprinted, element_json, expression_json, insn_json, program_json};
+ghost use Rattle.cli_cut.specs.Objects.{PrintsObject, IsObjectUnprinted, element_json, expression_json, insn_json, named, program_json};
 
-use crate::print::{PrintFault, print};
-use bpfvm::{Brief, Insn, NoMemory, Program};
+use crate::print::{PrintFault, print, read_text};
+use bpfvm::{Brief, Insn, NoMemory, Program, code};
 use cli_json::put_string;
-use filter_print::Canonical;
 use filtergen::{ExpressionFault, compile_text};
 use filterlang::{Expr, parse};
 use std::alloc::{AllocError, Global};
 use std::io::Write;
+
+/// Appends the name and the operand of an instruction. A jump has the place that it leads to.
+fn put_name(name: &mut String, place: usize, insn: &Insn) -> Result<(), AllocError>
+    requires { place < 2 ^ 63 }
+    ensures { OnOk result (string_bytes name.new ≡ string_bytes name.old ++ named place insn.now) }
+{
+    if insn.code == code::JA {
+        write!(name, "ja {}", place as u64 + 1 + u64::from(insn.k))
+    } else {
+        write!(name, "{}", Brief(insn))
+    }
+}
 
 /// Appends an instruction.
 #[tactic(auto, unfolding(crate::specs::Objects::insn_json))]
@@ -24,11 +35,12 @@ fn put_insn(
     place: usize,
     insn: &Insn,
 ) -> Result<(), AllocError>
+    requires { place < 2 ^ 63 }
     ensures { OnOk result (string_bytes text.new ≡ string_bytes text.old ++ insn_json place insn.now) }
 {
     let Insn { code, jt, jf, k } = *insn;
     name.clear();
-    write!(name, "{}", Brief(insn))?;
+    put_name(name, place, insn)?;
     write!(text, "{{\"place\":{place},\"code\":{code},\"jt\":{jt}")?;
     write!(text, ",\"jf\":{jf},\"k\":{k},\"name\":")?;
     put_string(text, name.as_str())?;
@@ -42,6 +54,7 @@ fn put_element(
     place: usize,
     insn: &Insn,
 ) -> Result<(), AllocError>
+    requires { place < 2 ^ 63 }
     ensures { OnOk result (string_bytes text.new ≡ string_bytes text.old ++ element_json place insn.now) }
 {
     if place > 0 {
@@ -60,20 +73,15 @@ fn put_insns(text: &mut String, name: &mut String, insns: &[Insn]) -> Result<(),
     Ok(())
 }
 
-/// Appends an expression as it was read, if there is one.
-fn put_expression(
-    text: &mut String,
-    name: &mut String,
-    expr: Option<&Expr>,
-) -> Result<(), AllocError>
+/// Appends an expression as it was read, as it is given back on a command line, if there is one.
+fn put_expression(alloc: Global, text: &mut String, expr: Option<&Expr>) -> Result<(), NoMemory>
     ensures { OnOk result (string_bytes text.new ≡ string_bytes text.old ++ expression_json (option_map (λ e. tree_of e.now) expr.entry)) }
 {
-    let Some(expr) = expr else {
-        return text.push_str("null");
-    };
-    name.clear();
-    write!(name, "{}", Canonical(expr))?;
-    put_string(text, name.as_str())
+    match expr {
+        Some(expr) => put_string(text, read_text(alloc, expr)?.as_str())?,
+        None => text.push_str("null")?,
+    }
+    Ok(())
 }
 
 /// The object of a program, and of the expression that it is of.
@@ -83,7 +91,7 @@ fn object_of(alloc: Global, expr: Option<&Expr>, program: &Program) -> Result<St
 {
     let (mut text, mut name) = (String::new(alloc), String::new(alloc));
     text.push_str("{\"expression\":")?;
-    put_expression(&mut text, &mut name, expr)?;
+    put_expression(alloc, &mut text, expr)?;
     text.push_str(",\"instructions\":[")?;
     put_insns(&mut text, &mut name, program.insns())?;
     text.push_str("]}\n")?;
@@ -92,7 +100,7 @@ fn object_of(alloc: Global, expr: Option<&Expr>, program: &Program) -> Result<St
 
 /// Prints a program as an object of JSON on a line, with the expression that it is of as it was read, or `null`:
 /// `{"expression":"ip","instructions":[{"place":0,"code":40,"jt":0,"jf":0,"k":12,"name":"ldh [12]"},..]}`. Places count from 0, and `name`
-/// has no places of jumps.
+/// has no places of conditional jumps. An expression that begins with `-` is in parentheses.
 ///
 /// The fault is [`PrintFault::NoMemory`], and then nothing was printed, or [`PrintFault::Output`]: `out` failed, and took a prefix of the
 /// object and no more.

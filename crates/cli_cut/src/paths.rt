@@ -1,6 +1,6 @@
 //! The files of a cut.
 
-use cli_args::command_line::CutWords;
+use cli_args::cut::CutWords;
 use cli_files::captures::with_buffer;
 use cli_files::late::LateFile;
 use cli_files::paths::{Opening, STANDARD_OUTPUT, refuse_shared_files};

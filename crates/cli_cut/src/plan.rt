@@ -3,7 +3,7 @@
 use crate::paths::check_listing;
 use bpfvm::Program;
 use cli_args::check::CheckWords;
-use cli_args::command_line::CutWords;
+use cli_args::cut::CutWords;
 use cli_filter::{FilterFault, program_of_expression, program_of_file};
 use cli_report::HintSink;
 use cli_text::Status;

@@ -107,17 +107,25 @@ fn begins_with_minus(text: &[u8]) -> bool
     }
 }
 
+/// An expression as it was read, as it is given back on a command line.
+pub(crate) fn read_text(alloc: Global, expr: &Expr) -> Result<String, NoMemory>
+    ensures { IfOk result (λ text. string_bytes text ≡ given_back (canonical (tree_of expr.now))) }
+{
+    let text = Canonical(expr).to_string(alloc)?;
+    if !begins_with_minus(text.as_bytes()) {
+        return Ok(text);
+    }
+    let mut given_back = String::new(alloc);
+    write!(given_back, "({text})")?;
+    Ok(given_back)
+}
+
 /// The line of an expression as it was read.
 fn read_line(alloc: Global, expr: &Expr) -> Result<String, NoMemory>
     ensures { IfOk result (λ line. string_bytes line ≡ given_back (canonical (tree_of expr.now)) ++ end_of_line) }
 {
-    let text = Canonical(expr).to_string(alloc)?;
-    let mut line = String::new(alloc);
-    if begins_with_minus(text.as_bytes()) {
-        writeln!(line, "({text})")?;
-    } else {
-        writeln!(line, "{text}")?;
-    }
+    let mut line = read_text(alloc, expr)?;
+    line.push_str("\n")?;
     Ok(line)
 }
 

@@ -1,8 +1,9 @@
 //! The object of a fault.
 
 use crate::file::{Inputs, file_of, split_path};
-use cli_json::put_string;
-use std::alloc::{AllocError, Global};
+use cli_json::{JsonEscaped, JsonString};
+use std::fmt;
+use std::fmt::{Display, Formatter};
 
 /// Whether a word is a number.
 fn is_number(word: &str) -> bool {
@@ -10,54 +11,62 @@ fn is_number(word: &str) -> bool {
 }
 
 /// The names of a fault, with a space between.
-fn names_of(alloc: Global, fault: &str) -> Result<String, AllocError> {
-    let mut names = String::new(alloc);
-    for word in fault.split(' ') {
-        if is_number(word) {
-            continue;
+#[derive(Clone, Copy)]
+struct Names<'a>(&'a str);
+
+impl Display for Names<'_> {
+    fn fmt<W: fmt::Write>(&self, f: &mut Formatter<W>) -> fmt::Result {
+        let mut is_first = true;
+        for word in self.0.split(' ') {
+            if is_number(word) {
+                continue;
+            }
+            if !is_first {
+                f.write_char(' ')?;
+            }
+            write!(f, "{}", JsonEscaped(word))?;
+            is_first = false;
         }
-        if !names.is_empty() {
-            names.push(' ')?;
-        }
-        names.push_str(word)?;
+        Ok(())
     }
-    Ok(names)
 }
 
-/// Appends the numbers of a fault.
-fn put_numbers(line: &mut String, fault: &str) -> Result<(), AllocError> {
-    let mut is_first = true;
-    for word in fault.split(' ') {
-        if !is_number(word) {
-            continue;
+/// The numbers of a fault, with a comma between.
+#[derive(Clone, Copy)]
+struct Numbers<'a>(&'a str);
+
+impl Display for Numbers<'_> {
+    fn fmt<W: fmt::Write>(&self, f: &mut Formatter<W>) -> fmt::Result {
+        let mut is_first = true;
+        for word in self.0.split(' ') {
+            if !is_number(word) {
+                continue;
+            }
+            if !is_first {
+                f.write_char(',')?;
+            }
+            f.write_str(word)?;
+            is_first = false;
         }
-        if !is_first {
-            line.push(',')?;
-        }
-        line.push_str(word)?;
-        is_first = false;
+        Ok(())
     }
-    Ok(())
 }
 
-/// The object of a fault, on a line.
-pub(crate) fn object_of(
-    alloc: Global,
-    fault: &str,
-    inputs: Inputs<'_>,
-) -> Result<String, AllocError> {
-    let (named, _) = split_path(fault);
-    let names = names_of(alloc, named)?;
-    let mut line = String::new(alloc);
-    line.push_str("{\"fault\":")?;
-    put_string(&mut line, names.as_str())?;
-    line.push_str(",\"numbers\":[")?;
-    put_numbers(&mut line, named)?;
-    line.push(']')?;
-    if let Some(path) = file_of(fault, inputs) {
-        line.push_str(",\"file\":")?;
-        put_string(&mut line, path)?;
+/// A fault as an object, of the command that reads these captures. It takes no memory, since it may have to say that memory ran out.
+#[derive(Clone, Copy)]
+pub(crate) struct FaultObject<'a> {
+    pub fault: &'a str,
+    pub inputs: Inputs<'a>,
+}
+
+impl Display for FaultObject<'_> {
+    fn fmt<W: fmt::Write>(&self, f: &mut Formatter<W>) -> fmt::Result {
+        let (named, _) = split_path(self.fault);
+        let (names, numbers) = (Names(named), Numbers(named));
+        write!(f, "{{\"fault\":\"{names}\",\"numbers\":[{numbers}]")?;
+        if let Some(path) = file_of(self.fault, self.inputs) {
+            write!(f, ",\"file\":{}", JsonString(path))?;
+        }
+        f.write_char('}')
     }
-    line.push_str("}\n")?;
-    Ok(line)
 }

@@ -3,24 +3,19 @@
 ghost use Rattle.std.specs.Prelude.{false, if◌then◌else◌};
 
 use crate::file::Inputs;
-use crate::object::object_of;
+use crate::object::FaultObject;
 use cli_report::HintSink;
+use cli_text::Line;
 use cli_text::sending::send;
 use std::alloc::Global;
-use std::io::{ErrorKind, Write};
-use std::{io, str};
+use std::io::Write;
+use std::{io, mem, str};
 
 /// What a line of a fault begins with.
 const PREFIX: &str = "bpftap: ";
 
-/// The line of a fault for which there is no memory.
-const NO_MEMORY: &str = "NoMemory";
-
-/// That fault as an object.
-const NO_MEMORY_OBJECT: &str = "{\"fault\":\"NoMemory\",\"numbers\":[]}\n";
-
 /// A writer that faults are reported to: as lines, or with `--json` as objects, and then without hints. A line that is no fault goes out as
-/// it is, and so does a fault if memory for its object runs out.
+/// it is, and so does a line that comes in parts, as one of more than 512 bytes, if memory for it is refused.
 #[derive(Drop)]
 pub struct FaultStream<'a, 'e, E> {
     alloc: Global,
@@ -29,6 +24,8 @@ pub struct FaultStream<'a, 'e, E> {
     inputs: Inputs<'a>,
     /// The part of a line that came so far.
     part: Vec<u8>,
+    /// Whether the rest of a line goes out as it is.
+    is_passed_on: bool,
 }
 
 impl<'a, 'e, E: Write> FaultStream<'a, 'e, E> {
@@ -45,17 +42,20 @@ impl<'a, 'e, E: Write> FaultStream<'a, 'e, E> {
             is_json,
             inputs,
             part: Vec::new(alloc),
+            is_passed_on: false,
         }
     }
 
-    /// Writes the object of a fault.
-    fn write_fault(&mut self, line: &str, fault: &str) -> io::Result<()> {
-        if fault == NO_MEMORY {
-            return send(NO_MEMORY_OBJECT.as_bytes(), &mut *self.inner);
-        }
-        match object_of(self.alloc, fault, self.inputs) {
-            Ok(object) => send(object.as_bytes(), &mut *self.inner),
-            Err(_) => send(line.as_bytes(), &mut *self.inner),
+    /// Writes the object of a fault: in one piece, if it has at most 512 bytes.
+    fn write_fault(&mut self, fault: &str) -> io::Result<()> {
+        let object = FaultObject {
+            fault,
+            inputs: self.inputs,
+        };
+        let mut line = Line::new();
+        match writeln!(line, "{object}") {
+            Ok(()) => send(line.as_bytes(), &mut *self.inner),
+            Err(_) => writeln!(self.inner, "{object}"),
         }
     }
 
@@ -65,22 +65,35 @@ impl<'a, 'e, E: Write> FaultStream<'a, 'e, E> {
             return send(line, &mut *self.inner);
         };
         match text.strip_prefix(PREFIX) {
-            Some(fault) => self.write_fault(text, fault.trim_end_matches('\n')),
+            Some(fault) => self.write_fault(fault.trim_end_matches('\n')),
             None => send(line, &mut *self.inner),
         }
     }
 
+    /// Takes the part of a line that came so far.
+    fn take_part(&mut self) -> Vec<u8> {
+        mem::replace(&mut self.part, Vec::new(self.alloc))
+    }
+
+    /// Sends on what came of a line, and a further part of it.
+    fn pass_on(&mut self, from: &[u8]) -> io::Result<()> {
+        self.is_passed_on = !from.ends_with(b"\n");
+        let part = self.take_part();
+        send(part.as_slice(), &mut *self.inner)?;
+        send(from, &mut *self.inner)
+    }
+
     /// Gathers a part of a line, and writes the line once it has its end.
     fn gather(&mut self, from: &[u8]) -> io::Result<()> {
-        if self.part.extend_from_slice(from).is_err() {
-            return Err(io::Error::from(ErrorKind::OutOfMemory));
+        if self.is_passed_on || self.part.extend_from_slice(from).is_err() {
+            return self.pass_on(from);
         }
-        if !from.ends_with(b"\n") {
-            return Ok(());
+        if from.ends_with(b"\n") {
+            let line = self.take_part();
+            self.write_line(line.as_slice())
+        } else {
+            Ok(())
         }
-        let line = self.part.clone()?;
-        self.part.clear();
-        self.write_line(line.as_slice())
     }
 }
 
@@ -89,7 +102,7 @@ impl<E: Write> Write for FaultStream<'_, '_, E> {
         if !self.is_json {
             return self.inner.write(from);
         }
-        if self.part.is_empty() && from.ends_with(b"\n") {
+        if self.part.is_empty() && !self.is_passed_on && from.ends_with(b"\n") {
             self.write_line(from)?;
         } else {
             self.gather(from)?;

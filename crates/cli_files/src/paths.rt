@@ -14,7 +14,9 @@ use std::io::ErrorKind;
 use std::os::unix::fs::{FileTypeExt, MetadataExt};
 use std::{fs, io};
 
-/// The names of the streams that the program prints and reports on.
+/// The names of the streams that the program reads, prints and reports on.
+const STANDARD_INPUT: &str = "/dev/stdin";
+
 pub const STANDARD_OUTPUT: &str = "/dev/stdout";
 
 const STANDARD_ERROR: &str = "/dev/stderr";
@@ -55,6 +57,7 @@ pub enum Opening {
 enum Use {
     Read,
     Written,
+    StandardInput,
     StandardOutput,
     StandardError,
 }
@@ -65,6 +68,7 @@ impl Use {
         match self {
             Use::Read => "this command reads that file: name another OUT",
             Use::Written => "it is the OUT of an earlier line: name another one",
+            Use::StandardInput => "standard input comes from that file: name another OUT",
             Use::StandardOutput => "standard output goes to that file: name another OUT",
             Use::StandardError => "standard error goes to that file: name another OUT",
         }
@@ -173,14 +177,17 @@ fn in_folder<R: Files + AllocGlobal>(rt: &R, path: &str) -> io::Result<Option<Ta
     }
 }
 
+/// A file that loses something if it is written while it is used otherwise: a regular file or a fifo.
+fn lost_file(metadata: &Metadata) -> Option<Target> {
+    let is_lost = metadata.is_file() || metadata.file_type().is_fifo();
+    is_lost.then_some(Target::File(id_of(metadata)))
+}
+
 /// Where a path leads. Nothing if there is no file and none can be made, and for a device or a folder, which lose nothing. An
 /// error means that the system does not say.
 pub fn target_of<R: Files + AllocGlobal>(rt: &R, path: &str) -> io::Result<Option<Target>> {
     match metadata_of(rt, path)? {
-        Some(metadata) => {
-            let is_lost = metadata.is_file() || metadata.file_type().is_fifo();
-            Ok(is_lost.then_some(Target::File(id_of(&metadata))))
-        }
+        Some(metadata) => Ok(lost_file(&metadata)),
         None => new_file(rt, path),
     }
 }
@@ -201,6 +208,15 @@ fn is_missing<'a, R: Files>(rt: &R, path: &'a str) -> Result<bool, PathFault<'a>
     match metadata_of(rt, path) {
         Ok(metadata) => Ok(metadata.is_none()),
         Err(error) => Err(PathFault::Untold(path, error)),
+    }
+}
+
+/// The regular file or pipe that standard input comes from. Who writes to that pipe waits for what was written there.
+fn input_file<R: Files>(rt: &R) -> Result<Option<Target>, PathFault<'static>> {
+    match metadata_of(rt, STANDARD_INPUT) {
+        Ok(Some(metadata)) => Ok(lost_file(&metadata)),
+        Ok(None) => Ok(None),
+        Err(error) => Err(PathFault::Untold(STANDARD_INPUT, error)),
     }
 }
 
@@ -230,8 +246,8 @@ impl<'a> Taken<'a> {
         }
     }
 
-    /// Takes the files that are read, which may be the same file, but not the one that is printed to; then that one, and the one that
-    /// faults are reported to.
+    /// Takes the files that are read, which may be the same file, but not the one that is printed to; then the file of standard input,
+    /// and those that are printed and reported to.
     fn add_read<R: Files + AllocGlobal>(
         &mut self,
         rt: &R,
@@ -254,6 +270,7 @@ impl<'a> Taken<'a> {
             }
             self.add(target, Use::Read)?;
         }
+        self.add(input_file(rt)?, Use::StandardInput)?;
         self.add(standard_output, Use::StandardOutput)?;
         self.add(error_file(rt)?, Use::StandardError)?;
         Ok(())
@@ -315,8 +332,8 @@ fn report_path<E: HintSink>(fault: &PathFault<'_>, err: &mut E) -> Status {
     }
 }
 
-/// Checks that no file that is written is one that is read, the file of an earlier path that is written, or the one that standard
-/// output or standard error goes to; and that standard output goes to no file that is read. Else it reports that, and returns the exit
+/// Checks that no file that is written is one that is read, the file of an earlier path that is written, the one that standard input
+/// comes from, or the one that standard output or standard error goes to; and that standard output goes to no file that is read. Else it reports that, and returns the exit
 /// status.
 ///
 /// Two paths are one file if they lead to one regular file or fifo, or to one new file; one that is read and one that is written also

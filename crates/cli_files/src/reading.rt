@@ -1,13 +1,18 @@
 //! What is reported of files that can't be read.
 
+use crate::retried::Retried;
 use cli_report::HintSink;
 use cli_report::files::hint_reason;
+use cli_report::stream::give_hint;
 use cli_text::Status;
-use cli_text::report::{report_device, report_fault};
+use cli_text::report::{EscapedPath, report_device, report_fault};
 use savefile::Fault;
 use std::fs::Files;
-use std::io::ErrorKind;
+use std::io::{ErrorKind, Read};
 use std::{fs, io};
+
+/// How many bytes a LISTING, LINES, LISTENERS or SCRIPT has at most.
+pub const MAX_TEXT: usize = 1 << 24;
 
 /// Whether memory was refused to this program. An error that the system gave for a file has a number, even if it is that of
 /// memory (`ENOMEM`).
@@ -34,6 +39,35 @@ pub fn read_file<R: Files + AllocGlobal, E: HintSink>(
 ) -> Result<Vec<u8>, Status> {
     match fs::read(rt, path) {
         Ok(text) => Ok(text),
+        Err(error) => Err(report_io(&error, path, err)),
+    }
+}
+
+/// The bytes of a text, but no more than one above [`MAX_TEXT`].
+fn read_bounded<R: Files + AllocGlobal>(rt: &R, path: &str) -> io::Result<Vec<u8>> {
+    let mut text = Vec::new(rt.alloc());
+    let mut file = Retried::new(fs::open(rt, path)?).take(MAX_TEXT as u64 + 1);
+    file.read_to_end(&mut text)?;
+    Ok(text)
+}
+
+/// The bytes of a LISTING, LINES, LISTENERS or SCRIPT; or reports why there are none, and returns the exit status. One that is longer than
+/// [`MAX_TEXT`], as a pipe without end, is `TextTooLong`, and no more of it is read.
+pub fn read_text<R: Files + AllocGlobal, E: HintSink>(
+    rt: &R,
+    path: &str,
+    err: &mut E,
+) -> Result<Vec<u8>, Status> {
+    match read_bounded(rt, path) {
+        Ok(text) if text.len() <= MAX_TEXT => Ok(text),
+        Ok(_) => {
+            let status = report_fault("TextTooLong", Status::Refused, err);
+            give_hint(
+                format_args!("{} has more than {MAX_TEXT} bytes", EscapedPath(path)),
+                err,
+            );
+            Err(status)
+        }
         Err(error) => Err(report_io(&error, path, err)),
     }
 }

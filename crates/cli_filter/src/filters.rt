@@ -8,9 +8,11 @@ use crate::listing_hints::hint_listing;
 use crate::program::{FilterFault, filter};
 use crate::report::report_filter;
 use bpfvm::Program;
-use cli_files::reading::read_file;
+use cli_files::reading::read_text;
 use cli_filter_hints::expressions::{hint_refusal, hint_text_fault};
 use cli_report::HintSink;
+use cli_report::captures::is_capture;
+use cli_report::stream::give_hint;
 use cli_text::Status;
 use filtergen::ExpressionFault;
 use std::alloc::Global;
@@ -33,6 +35,10 @@ fn hint_filter<E: HintSink>(
     fault: FilterFault,
     err: &mut E,
 ) {
+    if listing.is_some_and(is_capture) {
+        give_hint("this is a capture: -f takes the program of a filter", err);
+        return;
+    }
     match fault {
         FilterFault::Expression(fault) => hint_expression(alloc, expr.unwrap_or(""), fault, err),
         FilterFault::Listing(fault) => hint_listing(listing.unwrap_or(&[]), fault, err),
@@ -68,7 +74,7 @@ pub fn program_of_file<R: Files + AllocGlobal, E: HintSink>(
     path: &str,
     err: &mut E,
 ) -> Result<Program, Status> {
-    let listing = read_file(rt, path, err)?;
+    let listing = read_text(rt, path, err)?;
     let listing = Some(listing.as_slice());
     let alloc = rt.alloc();
     filter_or_report(alloc, listing, None, filter(alloc, listing, None, 0), err)

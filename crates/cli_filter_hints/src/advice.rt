@@ -300,8 +300,21 @@ fn of_joint<'a>(alloc: Global, spot: Spot<'a>) -> Found<'a> {
     }
 }
 
+/// What helps at the end of a value that nothing compares, as `ip[6] & 0x20`, if the text is an expression with this comparison there.
+fn of_comparison<'a>(alloc: Global, spot: Spot<'a>, comparison: &str) -> Found<'a> {
+    match spot.before_word() {
+        Some(gap) if gap.is_whole_with(alloc, comparison)? => Ok(Some(Advice::Said(
+            "a value has to be compared: write `!= 0` after it, or what it is to be",
+        ))),
+        _ => Ok(None),
+    }
+}
+
 /// What helps at a token after which, or before which, something is written otherwise here.
 fn of_other_form<'a>(alloc: Global, spot: Spot<'a>) -> Found<'a> {
+    if let Some(advice) = of_comparison(alloc, spot, "!= 0 ")? {
+        return Ok(Some(advice));
+    }
     if let Some(advice) = of_ip_broadcast(spot) {
         return Ok(Some(advice));
     }
@@ -333,9 +346,21 @@ fn of_syntax<'a>(alloc: Global, spot: Spot<'a>) -> Result<Advice<'a>, AllocError
     if !spot.rest().is_empty() {
         return of_token(alloc, spot);
     }
-    Ok(Advice::Said(operand_at(spot).unwrap_or(
-        "the expression ends too early: `and`, `or` and `not` need a term, and each `(` a `)`",
-    )))
+    if let Some(advice) = of_comparison(alloc, spot, " != 0")? {
+        return Ok(advice);
+    }
+    Ok(Advice::Said(said_at_end(spot)))
+}
+
+/// What is said of an expression that ends too early.
+fn said_at_end(spot: Spot<'_>) -> &'static str {
+    if spot.second_last() == PORTRANGE {
+        "a portrange is two numbers with `-` between: `portrange 20-30`"
+    } else {
+        operand_at(spot).unwrap_or(
+            "the expression ends too early: `and`, `or` and `not` need a term, and each `(` a `)`",
+        )
+    }
 }
 
 /// What helps at an identifier that has no qualifier.

@@ -43,7 +43,7 @@ struct Field {
     written: &'static str,
 }
 
-static FIELDS: [Field; 16] = [
+static FIELDS: [Field; 20] = [
     Field {
         name: b"ip.addr",
         written: "ip host ",
@@ -108,7 +108,59 @@ static FIELDS: [Field; 16] = [
         name: b"frame.len",
         written: "len",
     },
+    Field {
+        name: b"ip.len",
+        written: "ip[2:2]",
+    },
+    Field {
+        name: b"icmp.type",
+        written: "icmp[icmptype]",
+    },
+    Field {
+        name: b"icmp.code",
+        written: "icmp[icmpcode]",
+    },
+    Field {
+        name: b"arp.opcode",
+        written: "arp[6:2]",
+    },
 ];
+
+/// A flag of TCP, and what asks whether it is set.
+struct Flag {
+    name: &'static [u8],
+    written: &'static str,
+}
+
+static FLAGS: [Flag; 6] = [
+    Flag {
+        name: b"tcp.flags.syn",
+        written: "tcp[tcpflags] & tcp-syn != 0",
+    },
+    Flag {
+        name: b"tcp.flags.ack",
+        written: "tcp[tcpflags] & tcp-ack != 0",
+    },
+    Flag {
+        name: b"tcp.flags.fin",
+        written: "tcp[tcpflags] & tcp-fin != 0",
+    },
+    Flag {
+        name: b"tcp.flags.reset",
+        written: "tcp[tcpflags] & tcp-rst != 0",
+    },
+    Flag {
+        name: b"tcp.flags.push",
+        written: "tcp[tcpflags] & tcp-push != 0",
+    },
+    Flag {
+        name: b"tcp.flags.urg",
+        written: "tcp[tcpflags] & tcp-urg != 0",
+    },
+];
+
+/// How the names of captures end.
+static CAPTURES: [&[u8]; 3] = [b".pcap", b".pcapng", b".cap"];
 
 /// A protocol over ports, and its usual port.
 struct Service {
@@ -237,7 +289,41 @@ fn written_for<'a>(alloc: Global, spot: Spot<'a>, run: Run<'a>, after: &[u8]) ->
     }
 }
 
-/// What helps at a name with dots: a field, or the name of a host.
+/// What is written for a flag that is asked to be set, up to the 1 after it.
+fn written_for_flag<'a>(alloc: Global, spot: Spot<'a>, run: Run<'a>, after: &[u8]) -> Found<'a> {
+    let Some(flag) = FLAGS.iter().find(|flag| flag.name == run.bytes) else {
+        return Ok(None);
+    };
+    let Some(equals) = equals_len(after) else {
+        return Ok(None);
+    };
+    if after.get(equals) != Some(&b'1') {
+        return Ok(None);
+    }
+    let len = run.bytes.len().saturating_add(equals).saturating_add(1);
+    match spot.without(run.start, len) {
+        Some(gap) if gap.takes(alloc, flag.written)? => {
+            let replaced = spot.between(run.start, run.start.saturating_add(len));
+            Ok(Some(Advice::Field(flag.written, replaced)))
+        }
+        _ => Ok(None),
+    }
+}
+
+/// What is written for a field or a flag, and for what follows it.
+fn written_at<'a>(alloc: Global, spot: Spot<'a>, run: Run<'a>, after: &[u8]) -> Found<'a> {
+    match written_for_flag(alloc, spot, run, after)? {
+        Some(advice) => Ok(Some(advice)),
+        None => written_for(alloc, spot, run, after),
+    }
+}
+
+/// Whether a name is that of a capture.
+fn is_capture(name: &[u8]) -> bool {
+    CAPTURES.iter().any(|end| name.ends_with(*end))
+}
+
+/// What helps at a name with dots: a field, or the name of a capture or a host.
 pub(crate) fn of_dots<'a>(alloc: Global, spot: Spot<'a>) -> Found<'a> {
     let run = spot.run();
     let end = run.start.saturating_add(run.bytes.len());
@@ -246,10 +332,17 @@ pub(crate) fn of_dots<'a>(alloc: Global, spot: Spot<'a>) -> Found<'a> {
     if !has_dots(run.bytes) || (first.takes_only_name() && !first.takes_address()) {
         return Ok(None);
     }
+    if is_capture(run.bytes) {
+        return Ok(Some(Advice::Round(
+            "`",
+            run.bytes,
+            "` is the name of a capture, and no filter: captures are compared by cmp, editcap or tshark",
+        )));
+    }
     if first.takes_address() || !is_field(run.bytes, after_blanks(after)) {
         return Ok(Some(Advice::host(run.bytes)));
     }
-    match written_for(alloc, spot, run, after)? {
+    match written_at(alloc, spot, run, after)? {
         Some(advice) => Ok(Some(advice)),
         None => Ok(Some(Advice::Said(DISPLAY_FILTER))),
     }

@@ -52,7 +52,7 @@ fn is_option(word: &str) -> bool {
 
 /// Whether a word is an option with a value after it that is no expression.
 fn takes_value(word: &str) -> bool {
-    word == "-s" || word == "-o" || word == "-u" || word == "-f" || word == "-p"
+    matches!(word, "-s" | "-o" | "-u" | "-f" | "-p" | "-w")
 }
 
 /// Where the arguments that look like an expression begin: at the first that begins with a word of the filter language, or at the
@@ -184,5 +184,27 @@ pub fn hint_unquoted<S: AsStr, E: HintSink>(alloc: Global, words: &[S], err: &mu
     let lacks_quotes = expression.len() > 1;
     if lacks_quotes || (!expression.is_empty() && lacks_option(words)) {
         let _ = hint_expression_in(alloc, words, expression, err);
+    }
+}
+
+/// The word after `-f`.
+fn listing_of<S: AsStr>(words: &[S]) -> Option<&str> {
+    let place = words.iter().position(|word| word.as_str() == "-f")?;
+    Some(words.get(place.saturating_add(1))?.as_str())
+}
+
+/// A hint on arguments with which a command failed to open a file: `-f` with an expression, which `-e` takes. Without memory for it there
+/// is none.
+pub fn hint_listing_word<S: AsStr, E: HintSink>(alloc: Global, words: &[S], err: &mut E)
+    ensures quiet { E.takes_hints err.old ≡ false → err.new ≡ err.old }
+{
+    let Some(text) = listing_of(words) else {
+        return;
+    };
+    if begins_with_word(text) && can_be_quoted(text) && is_whole(alloc, text) == Ok(true) {
+        give_hint(
+            format_args!("this is an expression, which goes after -e: -e '{text}'"),
+            err,
+        );
     }
 }

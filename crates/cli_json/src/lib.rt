@@ -5,4 +5,4 @@ pub mod form;
 pub mod string;
 
 pub use form::LineForm;
-pub use string::put_string;
+pub use string::{JsonEscaped, JsonString, put_string};

@@ -4,6 +4,8 @@ ghost use Rattle.std.specs.Prelude.{◌≡◌, ◌<◌, ◌++◌, OnOk, string_b
 ghost use Rattle.cli_json.specs.Strings.{escaped, escape_text, json_string, needs_escape};
 
 use std::alloc::AllocError;
+use std::fmt;
+use std::fmt::{Display, Formatter};
 
 /// Whether a JSON string has an escape for this byte: a quote, a backslash, or a control character.
 fn needs_escape(byte: u8) -> bool
@@ -50,4 +52,39 @@ pub fn put_string(line: &mut String, text: &str) -> Result<(), AllocError>
     line.push_str("\"")?;
     put_escaped(line, text)?;
     line.push_str("\"")
+}
+
+/// Writes a character of a JSON string.
+fn write_escaped<W: fmt::Write>(f: &mut Formatter<W>, one: char) -> fmt::Result {
+    match one {
+        '"' | '\\' => {
+            f.write_char('\\')?;
+            f.write_char(one)
+        }
+        '\0'..='\x1f' => write!(f, "\\u00{:02x}", u32::from(one)),
+        _ => f.write_char(one),
+    }
+}
+
+/// A text as it stands in a JSON string, as [`put_string`] writes it, which takes no memory.
+#[derive(Clone, Copy)]
+pub struct JsonEscaped<'a>(pub &'a str);
+
+impl Display for JsonEscaped<'_> {
+    fn fmt<W: fmt::Write>(&self, f: &mut Formatter<W>) -> fmt::Result {
+        for one in self.0.chars() {
+            write_escaped(f, one)?;
+        }
+        Ok(())
+    }
+}
+
+/// A text as a JSON string, as [`put_string`] appends it, which takes no memory.
+#[derive(Clone, Copy)]
+pub struct JsonString<'a>(pub &'a str);
+
+impl Display for JsonString<'_> {
+    fn fmt<W: fmt::Write>(&self, f: &mut Formatter<W>) -> fmt::Result {
+        write!(f, "\"{}\"", JsonEscaped(self.0))
+    }
 }

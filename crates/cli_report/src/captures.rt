@@ -50,6 +50,21 @@ fn other_format(first: &[u8]) -> Option<&'static str> {
     None
 }
 
+/// What a savefile begins with, in either byte order, of microseconds and of nanoseconds.
+static SAVEFILES: [[u8; 4]; 4] = [
+    [0xd4, 0xc3, 0xb2, 0xa1],
+    [0xa1, 0xb2, 0xc3, 0xd4],
+    [0x4d, 0x3c, 0xb2, 0xa1],
+    [0xa1, 0xb2, 0x3c, 0x4d],
+];
+
+/// Whether a text begins as a capture does.
+pub fn is_capture(text: &[u8]) -> bool {
+    SAVEFILES
+        .iter()
+        .any(|beginning| text.starts_with(beginning.as_slice()))
+}
+
 /// Bytes as hexadecimal numbers, the first four of them.
 #[derive(Drop)]
 struct Hex<'a>(&'a [u8]);

@@ -6,7 +6,7 @@ use crate::stream::{HintSink, give_hint};
 use std::convert::AsStr;
 
 /// How to do what commands of other tools do, by the name that one may try.
-static WAYS: [(&str, &str); 20] = [
+static WAYS: [(&str, &str); 19] = [
     (
         "count",
         "to count packets: bpftap cut -c -s 0 -e EXPR IN /dev/null",
@@ -39,7 +39,6 @@ static WAYS: [(&str, &str); 20] = [
         "to compare two filters: bpftap compare EXPR1 EXPR2 IN",
     ),
     ("version", "to print the version: bpftap --version"),
-    ("info", "to describe a capture: capinfos IN"),
     ("head", FIRST_PACKETS),
     (
         "assemble",
@@ -64,7 +63,7 @@ const COMPLETIONS: &str =
     "completions for bash, zsh and fish are files: ./install puts them where shells look for them";
 
 /// How to do what options of other tools do.
-static OPTION_WAYS: [(&str, &str); 8] = [
+static OPTION_WAYS: [(&str, &str); 10] = [
     (
         "-F",
         "to read an expression from a file: -e \"$(cat FILE)\", or for check \"$(cat FILE)\"",
@@ -79,6 +78,11 @@ static OPTION_WAYS: [(&str, &str); 8] = [
         "addresses are never looked up: leave this option out",
     ),
     ("-i", "to capture: tcpdump -i INTERFACE -w OUT"),
+    ("-y", "captures are of Ethernet here: leave this option out"),
+    (
+        "-c",
+        "to count packets: bpftap cut -c -s 0 -e EXPR IN /dev/null; explain prints the counts last",
+    ),
 ];
 
 /// How to keep the packets between two times.
@@ -87,7 +91,7 @@ const BETWEEN_TIMES: &str =
 
 /// How captures are given.
 const WITHOUT_OPTION: &str =
-    "captures are words without an option: IN, and for cut OUT as the last word";
+    "captures are words without an option: IN, and for cut OUT after it, or after -w";
 
 /// The way beside a name in a list.
 fn way_of(ways: &[(&'static str, &'static str)], name: &str) -> Option<&'static str> {
@@ -99,18 +103,12 @@ fn way_of(ways: &[(&'static str, &'static str)], name: &str) -> Option<&'static 
     None
 }
 
-/// The command among the arguments, with the program's name first: the argument after that name and `--hints`.
+/// The command among the arguments: the one after the program's name.
 fn command_of<S: AsStr>(words: &[S]) -> Option<&str> {
-    let first = words.get(1)?.as_str();
-    if first == "--hints" {
-        Some(words.get(2)?.as_str())
-    } else {
-        Some(first)
-    }
+    Some(words.get(1)?.as_str())
 }
 
-/// Hints on the name of a command that there is not, among the arguments with the program's name first: the argument after that
-/// name and `--hints`.
+/// Hints on the name of a command that there is not, among the arguments with the program's name first.
 pub fn hint_command<S: AsStr, E: HintSink>(words: &[S], err: &mut E)
     ensures quiet { E.takes_hints err.old ≡ false → err.new ≡ err.old }
 {
@@ -121,11 +119,19 @@ pub fn hint_command<S: AsStr, E: HintSink>(words: &[S], err: &mut E)
     }
 }
 
-/// How to do what the first of the arguments does that is an option of another tool. `compare` has a `-w` of its own.
+/// Whether these are arguments of a command that has this option itself.
+fn takes_option<S: AsStr>(words: &[S], option: &str) -> bool {
+    matches!(
+        (command_of(words), option),
+        (Some("compare" | "cut"), "-w") | (Some("cut"), "-c")
+    )
+}
+
+/// How to do what the first of the arguments does that is an option of another tool.
 fn option_way<S: AsStr>(words: &[S]) -> Option<&'static str> {
     for word in words {
         let word = word.as_str();
-        if word == "-w" && command_of(words) == Some("compare") {
+        if takes_option(words, word) {
             continue;
         }
         if let Some(way) = way_of(&OPTION_WAYS, word) {

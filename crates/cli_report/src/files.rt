@@ -3,6 +3,7 @@
 ghost use Rattle.std.specs.Prelude.{◌≡◌, false};
 ghost use Rattle.listener.specs.Messages.{size};
 
+use crate::captures::is_capture;
 use crate::shown::Shown;
 use crate::stream::{HintSink, give_hint};
 use cli_text::fields::first_line;
@@ -63,10 +64,18 @@ pub fn show_line<E: HintSink>(text: &[u8], number: usize, err: &mut E)
     }
 }
 
-/// Hints on a malformed line: the line itself, and the form.
+/// What is said of a capture where another file is wanted.
+pub const CAPTURE: &str =
+    "this is a capture, and no file of lines: captures are the last words, IN";
+
+/// Hints on a malformed line: the line itself, and the form. Of a capture only that it is one.
 pub fn hint_bad_line<E: HintSink>(text: &[u8], number: usize, form: &str, err: &mut E)
     ensures quiet { E.takes_hints err.old ≡ false → err.new ≡ err.old }
 {
+    if is_capture(text) {
+        give_hint(CAPTURE, err);
+        return;
+    }
     show_line(text, number, err);
     if line_at(text, number).ends_with(b"\r") {
         give_hint(

@@ -10,7 +10,7 @@ use crate::run::{refuse, replay_plan};
 use crate::tally::report_flushed;
 use cli_args::run::RunWords;
 use cli_files::captures::output_buffer;
-use cli_files::reading::read_file;
+use cli_files::reading::read_text;
 use cli_filter::plan::Plan;
 use cli_filter::plan_hints::hint_plan;
 use cli_json::LineForm;
@@ -136,7 +136,7 @@ fn run_files<
     E: HintSink,
 >(rt: &R, words: &RunWords<'_>, out: &mut O, err: &mut E) -> Result<Status, Status> {
     let alloc = rt.alloc();
-    let listeners = read_file(rt, words.listeners, err)?;
+    let listeners = read_text(rt, words.listeners, err)?;
     let watch = watch_of(rt, alloc, words, err)?;
     let late = rt.named_files(alloc, words, listeners.as_slice(), &watch, err)?;
     let mut out = output_buffer(alloc, &mut *out, err)?;

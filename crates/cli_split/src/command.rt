@@ -10,7 +10,7 @@ use crate::split::{SplitEnd, split};
 use bpfvm::Program;
 use cli_args::split::SplitWords;
 use cli_files::captures::output_buffer;
-use cli_files::reading::read_file;
+use cli_files::reading::read_text;
 use cli_filter::plan::{Plan, PlanFault};
 use cli_filter::plan_hints::hint_plan;
 use cli_json::LineForm;
@@ -135,7 +135,7 @@ fn split_files<R: Files + AllocGlobal + Screen, O: Write, E: HintSink>(
     out: &mut O,
     err: &mut E,
 ) -> Result<Status, Status> {
-    let text = read_file(rt, words.lines, err)?;
+    let text = read_text(rt, words.lines, err)?;
     let plan = plan_of(rt.alloc(), text.as_slice(), err)?;
     let status = split_apart(rt, words, plan, out, err);
     hint_returns("LINES", text.as_slice(), err);

@@ -15,7 +15,7 @@ use crate::plan::{StepsPlan, read_plan};
 use crate::steps::{Detail, Printing, Replayed, play_plan_in};
 use cli_args::steps::StepsWords;
 use cli_files::piped::Piped;
-use cli_files::reading::read_file;
+use cli_files::reading::read_text;
 use cli_json::LineForm;
 use cli_report::failures::hint_output;
 use cli_report::files::hint_returns;
@@ -200,8 +200,8 @@ fn prepare<R: Files + AllocGlobal, E: HintSink>(
     words: &StepsWords<'_>,
     err: &mut E,
 ) -> Result<Job, Status> {
-    let listeners = read_file(rt, words.listeners, err)?;
-    let script = read_file(rt, words.script, err)?;
+    let listeners = read_text(rt, words.listeners, err)?;
+    let script = read_text(rt, words.script, err)?;
     let plan = read_lines(rt.alloc(), listeners.as_slice(), script.as_slice(), err)?;
     check_paths(rt, words, err)?;
     let texts = read_captures(rt, words.inputs.as_slice(), err)?;

@@ -1,4 +1,4 @@
-pub mod Snapshot
+pub use Rattle.savefile.specs.Snapshot
 pub mod Status
 pub mod Telling
 pub mod Sending

@@ -1,21 +1,22 @@
 -- The bits of a packet, and the numbers that they are.
 use Rattle.std.proofs.Common.{◌≡◌, ℕ, zero, suc, ◌+◌, ◌-◌, ◌*◌, ◌/◌, ◌%◌, ◌^◌, ◌<◌, ◌≤◌, inl, inr, Bool, true, false, ◌&&◌, List, [], ◌∷◌, length, take, drop, get_or, refl, sym, ap, ◌∙◌, arith, subst}
-use Rattle.std.specs.Prelude.{◌==◌, if◌then◌else◌, nat_lt, bit_and, slice_index, fold, min}
+use Rattle.std.specs.Prelude.{◌==◌, if◌then◌else◌, nat_lt, bit_and, slice_index, fold, min, Some}
 use Rattle.std.specs.List.{AllByRecursion}
 use Rattle.std.specs.Int.{bit_at}
 use Rattle.std.proofs.lemmas.Bool.Decides.{nat_tests}
 use Rattle.std.proofs.lemmas.Bool.{cases_lt}
 use Rattle.std.proofs.lemmas.List.{get_or-take, get_or-drop, length-take-le}
-use Rattle.std.proofs.lemmas.Nat.{mul-le, and_le_l, pow-add}
+use Rattle.std.proofs.lemmas.Nat.{mul-le, and_le_l, and_mask, pow-add}
 use Rattle.std.proofs.lemmas.Nat.Bits.{bit_at_and, bit_at_cat_low, bit_at_cat_high}
 use Rattle.std.proofs.Math.Nat.{mod-eq_of_lt}
 use Rattle.std.proofs.Math.Numerals.{add-one}
 use Rattle.std.proofs.Common.{length-drop}
 use Rattle.bpfvm.specs.Machine.{big_endian}
 use Rattle.filter_meaning.specs.Meaning.{Packet}
-use Rattle.filter_same.specs.Graphs.{is_set, digit, number_of}
-use Rattle.filter_same.proofs.Numbers.{number-more}
-use Rattle.filter_same.specs.Packets.{bit_of, IsPacket}
+use Rattle.filter_bdd.specs.Fields.{is_set, digit, number_of}
+use Rattle.filter_bdd.proofs.Numbers.{number-more}
+use Rattle.filter_meaning.proofs.Numbers.{number-some}
+use Rattle.filter_same.specs.Packets.{bit_of, IsPacket, HasHeader}
 
 abbrev AreBytes : List ℕ → Type 0
 AreBytes bs = AllByRecursion (λ byte. byte < 256) bs
@@ -145,3 +146,13 @@ wire-bit p j less =
 
 pub wire-number : (p : Packet) (mask : ℕ) → number_of (bit_of p) 31 mask 32 ≡ bit_and p.wire mask % 2 ^ 32
 wire-number p mask = number-bits (bit_of p) 31 mask p.wire 32 (λ j less. wire-bit p j less)
+
+-- the low four bits of the first byte of the IPv4 header are its length
+pub header-number : (p : Packet) (words : ℕ) → IsPacket p → 15 ≤ length p.captured → HasHeader (Some words) p → number_of (bit_of p) 151 18446744073709551615 4 ≡ words
+header-number p words ok there head =
+    let x = big_endian (take 1 (drop 14 p.captured)) in
+    let small : x < 2 ^ (8 * 1) = field-below p 14 1 ok there in
+    number-bits (bit_of p) 151 18446744073709551615 x 4 (λ j less. field-bit p 14 1 j ok there (omega arith))
+    ∙ ap (λ n. n % 2 ^ 4) (and_mask x 64 ∙ mod-eq_of_lt (let e : x < 2 ^ 64 = omega arith in e))
+    ∙ sym (and_mask x 4)
+    ∙ head x (number-some p.captured 14 1 there)

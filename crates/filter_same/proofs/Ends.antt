@@ -1,5 +1,5 @@
 -- From graphs to what two filters accept.
-use Rattle.std.proofs.Common.{◌≡◌, ℕ, ◌+◌, ◌%◌, ◌*◌, ◌^◌, ◌<◌, ◌≤◌, Bool, true, false, List, length, inl, inr, refl, sym, ap, ◌∙◌, arith}
+use Rattle.std.proofs.Common.{◌≡◌, ℕ, ◌+◌, ◌%◌, ◌*◌, ◌^◌, ◌<◌, ◌≤◌, Bool, true, false, List, length, inl, inr, refl, sym, ap, ◌∙◌, arith, subst}
 use Rattle.std.specs.Prelude.{◌⊎◌, ◌==◌, if◌then◌else◌, nat_lt, nat_le, min, max, bit_and, Option, Some, None}
 use Rattle.std.proofs.lemmas.Bool.{eqb-true, cases_lt}
 use Rattle.std.proofs.lemmas.Bool.Decides.{nat_tests}
@@ -7,17 +7,22 @@ use Rattle.std.proofs.lemmas.Nat.{and_le_r}
 use Rattle.std.proofs.Math.Nat.{mod-eq_of_lt}
 use Rattle.filter_meaning.specs.declared.verdict.Verdict.TheVariants.{Yes, No, Abort}
 use Rattle.filter_meaning.specs.Meaning.{Packet, Test, byte, is_yes}
-use Rattle.filter_same.specs.declared.answer.Answer.{Answer}
-use Rattle.filter_same.specs.declared.answer.Answer.TheVariants.{Final, Never}
-use Rattle.filter_same.specs.declared.answer.Operation.TheVariants.{Agree, Apart, Cut}
-use Rattle.filter_same.specs.declared.table.Node.{Node}
+use Rattle.filter_bdd.specs.declared.answer.Answer.{Answer}
+use Rattle.filter_bdd.specs.declared.answer.Answer.TheVariants.{Final, Never}
+use Rattle.filter_bdd.specs.declared.answer.Operation.TheVariants.{Agree, Apart, Cut}
+use Rattle.filter_bdd.specs.declared.table.Node.{Node}
 use Rattle.filter_same.specs.declared.find.Claim.{Claim}
 use Rattle.filter_same.specs.declared.find.Claim.TheVariants.{Same, SameAsCaptured, NeverApart}
-use Rattle.filter_same.specs.Graphs.{answer, joined, accepted_from, agree_from, apart_answer, cut_answer, Gives, Grew, by_order, number_of}
-use Rattle.filter_same.specs.Packets.{bit_of, verdict_of, verdict_at, IsPacket, HasHeader, Means}
-use Rattle.filter_same.specs.Findings.{KeepsNo, ClaimOf, Claims, ClaimsOf}
-use Rattle.filter_same.proofs.Tables.{grown-answer}
-use Rattle.filter_same.proofs.Bits.{wire-number}
+use Rattle.filter_bdd.specs.Answers.{joined, accepted_from, agree_from, apart_answer, cut_answer}
+use Rattle.filter_bdd.specs.Diagrams.{answer, Gives, Grew}
+use Rattle.filter_bdd.specs.Fields.{by_order, number_of}
+use Rattle.filter_bdd.proofs.Tables.{grown-answer}
+use Rattle.filter_same.specs.declared.builder.Builder.{Builder}
+use Rattle.filter_same.specs.Same.{IsCaptured}
+use Rattle.filter_same.specs.Packets.{bit_of, verdict_of, verdict_at, IsPacket, HasHeader, Means, Extends}
+use Rattle.filter_same.specs.Findings.{KeepsNo, HoldsUnlessNo, AcceptsAlike, AreNotApart, ClaimOf, Claims, ClaimsOf}
+use Rattle.filter_same.proofs.Builders.{head-back, verdict-grown}
+use Rattle.filter_same.proofs.Bits.{wire-number, header-number}
 use Rattle.filter_same.proofs.Means.{all-ones}
 
 -- ---- Both accept
@@ -109,7 +114,7 @@ cut-no c wire size a captured said = elim (cases_lt wire size) [
 
 pub cut-keeps : (g k h : List Node) (place long cut number size : ℕ) → Grew g k → place < length g → number ≡ size → size < 2 ^ 32
     → Gives k (λ v. by_order (number_of v 31 18446744073709551615 32) (number % 2 ^ 32) (Final size false) (Final size true) (Final size true)) long
-    → Gives h (λ v. joined Cut (answer k v long) (answer k v place)) cut → KeepsNo g place h cut
+    → Gives h (λ v. joined Cut (answer k v long) (answer k v place)) cut → KeepsNo IsCaptured g place h cut
 cut-keeps g k h place long cut number size grew inside same small wire gives = record {
   inside = gives.inside;
   says = λ p ok captured said.
@@ -125,11 +130,64 @@ cut-keeps g k h place long cut number size grew inside same small wire gives = r
       ∙ cut-no c p.wire size (answer k (bit_of p) place) captured (ap (verdict_of c) (grown-answer (bit_of p) g k grew place inside) ∙ said);
 }
 
-pub keeps_same : (g : List Node) (place : ℕ) → place < length g → KeepsNo g place g place
-keeps_same g place inside = record { inside = inside; says = λ p ok captured said. said }
+pub keeps_same : (P : Packet → Type 0) (g : List Node) (place : ℕ) → place < length g → KeepsNo P g place g place
+keeps_same P g place inside = record { inside = inside; says = λ p ok holds said. said }
 
-pub keeps-more : (g h k : List Node) (x y z : ℕ) → KeepsNo g x h y → KeepsNo h y k z → KeepsNo g x k z
-keeps-more g h k x y z first second = record { inside = second.inside; says = λ p ok captured said. second.says p ok captured (first.says p ok captured said) }
+pub keeps-more : (P : Packet → Type 0) (g h k : List Node) (x y z : ℕ) → KeepsNo P g x h y → KeepsNo P h y k z → KeepsNo P g x k z
+keeps-more P g h k x y z first second = record { inside = second.inside; says = λ p ok holds said. second.says p ok holds (first.says p ok holds said) }
+
+-- what needs no first byte of an IPv4 header, or has one of the length, stays
+header-no : (c words bits : ℕ) (a : Answer) → (15 ≤ c → bits ≡ words) → verdict_of c a ≡ No
+    → verdict_of c (joined Cut (by_order bits words (Final 15 false) (Final 15 true) (Final 15 false)) a) ≡ No
+header-no c words bits a same said =
+    let x = no-final c a said in
+    let f = x.1.1 in
+    elim (cases_lt x.0 15) [
+      | inl less ↦
+          let short : nat_le 15 x.0 ≡ false = grind (arith, nat_tests) in
+          ap (λ z. verdict_of c (joined Cut (by_order bits words (Final 15 false) (Final 15 true) (Final 15 false)) z)) x.1.0
+          ∙ by (by_order bits words false true false) x.0 short f (order-final bits words)
+      | inr more ↦
+          let is = same (omega arith) in
+          ap (λ n. verdict_of c (joined Cut (by_order n words (Final 15 false) (Final 15 true) (Final 15 false)) a)) is
+          ∙ ap (λ z. verdict_of c (joined Cut z a)) (order-self words)
+          ∙ said
+    ]
+  where
+    order-self : (n : ℕ) → by_order n n (Final 15 false) (Final 15 true) (Final 15 false) ≡ Final 15 true
+    order-self n =
+        let l : nat_lt n n ≡ false = grind (arith, nat_tests) in
+        let e : (n == n) ≡ true = grind (arith, nat_tests) in
+        ap (λ t. if t then Final 15 false else (if n == n then Final 15 true else Final 15 false)) l ∙ ap (λ t. if t then Final 15 true else Final 15 false) e
+
+    order-final : (m n : ℕ) → by_order m n (Final 15 false) (Final 15 true) (Final 15 false) ≡ Final 15 (by_order m n false true false)
+    order-final m n = elim (nat_lt m n) as (λ t. (if t then Final 15 false else (if m == n then Final 15 true else Final 15 false)) ≡ Final 15 (if t then false else (if m == n then true else false))) [
+      | true ↦ refl
+      | false ↦ elim (m == n) as (λ t. (if t then Final 15 true else Final 15 false) ≡ Final 15 (if t then true else false)) [ true ↦ refl | false ↦ refl ]
+    ]
+
+    by : (t : Bool) (need : ℕ) → nat_le 15 need ≡ false → need ≤ c → by_order bits words (Final 15 false) (Final 15 true) (Final 15 false) ≡ Final 15 t
+        → verdict_of c (joined Cut (by_order bits words (Final 15 false) (Final 15 true) (Final 15 false)) (Final need false)) ≡ No
+    by true need short there is = ap (λ z. verdict_of c (joined Cut z (Final need false))) is ∙ is-no need c there
+    by false need short there is =
+        ap (λ z. verdict_of c (joined Cut z (Final need false))) is
+        ∙ ap (λ t. verdict_of c (if t then Final 0 true else Final need false)) short ∙ is-no need c there
+
+pub header-keeps : (g k h : List Node) (place header cut number words : ℕ) → Grew g k → place < length g → number ≡ words → words < 16
+    → Gives k (λ v. by_order (number_of v 151 18446744073709551615 4) (number % 2 ^ 4) (Final 15 false) (Final 15 true) (Final 15 false)) header
+    → Gives h (λ v. joined Cut (answer k v header) (answer k v place)) cut → KeepsNo (HasHeader (Some words)) g place h cut
+header-keeps g k h place header cut number words grew inside same small low gives = record {
+  inside = gives.inside;
+  says = λ p ok head said.
+      let c = length p.captured in
+      let is : number % 2 ^ 4 ≡ words = mod-eq_of_lt (let e : number < 2 ^ 4 = omega arith in e) ∙ same in
+      ap (verdict_of c) (gives.says (bit_of p))
+      ∙ ap (λ a. verdict_of c (joined Cut a (answer k (bit_of p) place))) (low.says (bit_of p)
+      ∙ ap (λ n. by_order (number_of (bit_of p) 151 18446744073709551615 4) n (Final 15 false) (Final 15 true) (Final 15 false)) is)
+      ∙ header-no c words (number_of (bit_of p) 151 18446744073709551615 4) (answer k (bit_of p) place)
+      (λ there. header-number p words ok there head)
+      (ap (verdict_of c) (grown-answer (bit_of p) g k grew place inside) ∙ said);
+}
 
 -- ---- What is claimed
 
@@ -138,41 +196,46 @@ never-no c a always said =
     let there : nat_le 0 c ≡ true = grind (arith, nat_tests) in
     absurd (let e : Yes ≡ No = sym (ap (λ t. if t then Yes else Abort) there) ∙ sym (ap (verdict_of c) always) ∙ said in let f : ⊥ = cc in f)
 
-agree-accepts : (g h : List Node) (header : Option ℕ) (l r i : ℕ) (t u : Test) (p : Packet)
-    → Means g (record { header = header; wanted = true }) t l → Means g (record { header = header; wanted = true }) u r
-    → Gives h (λ v. joined Agree (answer g v l) (answer g v r)) i → IsPacket p → HasHeader header p → (verdict_at h i p ≡ No → ⊥) → is_yes (t p) ≡ is_yes (u p)
-agree-accepts g h header l r i t u p ml mr gives ok head never =
+pub agree-unless : (g h : Builder) (l r i : ℕ) → Extends g h → Gives h.diagrams (λ v. joined Agree (answer g.diagrams v l) (answer g.diagrams v r)) i
+    → (t u : Test) → Means g t l → Means g u r → HoldsUnlessNo h i (AcceptsAlike t u)
+agree-unless g h l r i grew gives t u ml mr p ok head never =
     let c = length p.captured in
-    ap is_yes (sym (ml.says p ok head))
-    ∙ agreed c (answer g (bit_of p) l) (answer g (bit_of p) r) (λ said. never (ap (verdict_of c) (gives.says (bit_of p)) ∙ said))
-    ∙ ap is_yes (mr.says p ok head)
+    let back = head-back g h p grew head in
+    ap is_yes (sym (ml.says p ok back))
+    ∙ agreed c (answer g.diagrams (bit_of p) l) (answer g.diagrams (bit_of p) r) (λ said. never (ap (verdict_of c) (gives.says (bit_of p)) ∙ said))
+    ∙ ap is_yes (mr.says p ok back)
 
-pub claims-same : (g h : List Node) (header : Option ℕ) (l r i : ℕ) (t u : Test)
-    → Means g (record { header = header; wanted = true }) t l → Means g (record { header = header; wanted = true }) u r
-    → Gives h (λ v. joined Agree (answer g v l) (answer g v r)) i → ((v : ℕ → Bool) → answer h v i ≡ Final 0 true) → ClaimsOf header t u Same
-claims-same g h header l r i t u ml mr gives all p ok head =
-    agree-accepts g h header l r i t u p ml mr gives ok head (never-no (length p.captured) (answer h (bit_of p) i) (all (bit_of p)))
-
-pub claims-captured : (g h k : List Node) (header : Option ℕ) (l r i j : ℕ) (t u : Test)
-    → Means g (record { header = header; wanted = true }) t l → Means g (record { header = header; wanted = true }) u r
-    → Gives h (λ v. joined Agree (answer g v l) (answer g v r)) i → KeepsNo h i k j → ((v : ℕ → Bool) → answer k v j ≡ Final 0 true) → ClaimsOf header t u SameAsCaptured
-claims-captured g h k header l r i j t u ml mr gives keeps all p ok head captured =
-    agree-accepts g h header l r i t u p ml mr gives ok head
-    (λ said. never-no (length p.captured) (answer k (bit_of p) j) (all (bit_of p)) (keeps.says p ok captured said))
-
-pub claims-apart : (g m h k : List Node) (header : Option ℕ) (l r i j : ℕ) (t u : Test) → Grew g m
-    → Means g (record { header = header; wanted = true }) t l → Means g (record { header = header; wanted = true }) u r
-    → Gives h (λ v. joined Apart (answer m v l) (answer m v r)) i → KeepsNo h i k j → ((v : ℕ → Bool) → answer k v j ≡ Final 0 true) → ClaimsOf header t u NeverApart
-claims-apart g m h k header l r i j t u grew ml mr gives keeps all p ok head captured apart =
+pub apart-unless : (g h : Builder) (l r i : ℕ) → Extends g h → Gives h.diagrams (λ v. joined Apart (answer g.diagrams v l) (answer g.diagrams v r)) i
+    → (t u : Test) → Means g t l → Means g u r → HoldsUnlessNo h i (AreNotApart t u)
+apart-unless g h l r i grew gives t u ml mr p ok head never apart =
     let c = length p.captured in
-    let one = ap (verdict_of c) (grown-answer (bit_of p) g m grew l ml.inside) ∙ ml.says p ok head in
-    let two = ap (verdict_of c) (grown-answer (bit_of p) g m grew r mr.inside) ∙ mr.says p ok head in
-    let both : verdict_of c (joined Apart (answer m (bit_of p) l) (answer m (bit_of p) r)) ≡ No =
+    let back = head-back g h p grew head in
+    let one = ml.says p ok back in
+    let two = mr.says p ok back in
+    let both : verdict_of c (joined Apart (answer g.diagrams (bit_of p) l) (answer g.diagrams (bit_of p) r)) ≡ No =
     elim apart [
-      | inl x ↦ apart-no c (answer m (bit_of p) l) (answer m (bit_of p) r) (inl (one ∙ x.0, two ∙ x.1))
-      | inr x ↦ apart-no c (answer m (bit_of p) l) (answer m (bit_of p) r) (inr (one ∙ x.0, two ∙ x.1))
+      | inl x ↦ apart-no c (answer g.diagrams (bit_of p) l) (answer g.diagrams (bit_of p) r) (inl (one ∙ x.0, two ∙ x.1))
+      | inr x ↦ apart-no c (answer g.diagrams (bit_of p) l) (answer g.diagrams (bit_of p) r) (inr (one ∙ x.0, two ∙ x.1))
     ] in
-    never-no c (answer k (bit_of p) j) (all (bit_of p)) (keeps.says p ok captured (ap (verdict_of c) (gives.says (bit_of p)) ∙ both))
+    never (ap (verdict_of c) (gives.says (bit_of p)) ∙ both)
+
+-- in a builder that has more nodes
+pub unless-grown : (g h : Builder) (i : ℕ) (P : Packet → Type 0) → Extends g h → i < length g.diagrams → HoldsUnlessNo g i P → HoldsUnlessNo h i P
+unless-grown g h i P grew inside x p ok head never = x p ok (head-back g h p grew head) (λ said. never (verdict-grown g h i p grew inside ∙ said))
+
+-- at a node that keeps each No of packets of which Q holds
+pub unless-kept : (g h : Builder) (i j : ℕ) (P Q : Packet → Type 0) → Extends g h → KeepsNo Q g.diagrams i h.diagrams j → HoldsUnlessNo g i P
+    → HoldsUnlessNo h j (λ p. Q p → P p)
+unless-kept g h i j P Q grew keeps x p ok head never q = x p ok (head-back g h p grew head) (λ said. never (keeps.says p ok q said))
+
+pub unless-header : (g h : Builder) (i j : ℕ) (P : Packet → Type 0) → Extends g h → KeepsNo (HasHeader g.header) g.diagrams i h.diagrams j → HoldsUnlessNo g i P → HoldsUnlessNo h j P
+unless-header g h i j P grew keeps x p ok head never = unless-kept g h i j P (HasHeader g.header) grew keeps x p ok head never (head-back g h p grew head)
+
+-- at a node that says Yes of everything
+pub unless-always : (g h : Builder) (i : ℕ) (P : Packet → Type 0) → Extends g h → ((v : ℕ → Bool) → answer h.diagrams v i ≡ Final 0 true) → HoldsUnlessNo h i P
+    → (p : Packet) → IsPacket p → HasHeader g.header p → P p
+unless-always g h i P grew always x p ok head =
+    x p ok (subst (λ n. HasHeader n p) (sym grew.header) head) (never-no (length p.captured) (answer h.diagrams (bit_of p) i) (always (bit_of p)))
 
 -- ---- Each header length
 

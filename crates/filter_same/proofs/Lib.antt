@@ -1,6 +1,4 @@
-pub mod Tables
-pub mod Joins
-pub mod Numbers
+pub mod Builders
 pub mod Bits
 pub mod Means
 pub mod Ends

@@ -15,14 +15,13 @@ use Rattle.filter_meaning.specs.declared.verdict.Verdict.{Verdict}
 use Rattle.filter_meaning.specs.declared.verdict.Verdict.TheVariants.{Yes, No, Abort}
 use Rattle.filter_meaning.specs.Meaning.{Packet, accessed, and_then, and_test, arithmetic_of, behind_header, byte, bytes_of, check, check_both, compared, decided, in_layer, in_layers, relation_test, value}
 use Rattle.filter_meaning.proofs.Numbers.{number-some, number-none}
-use Rattle.filter_same.specs.declared.table.Node.{Node}
-use Rattle.filter_same.specs.declared.case.Case.{Case}
+use Rattle.filter_same.specs.declared.builder.Builder.{Builder}
 use Rattle.filter_same.specs.declared.terms.Load.{Load}
 use Rattle.filter_same.specs.declared.terms.Term.TheVariants as terms
-use Rattle.filter_same.specs.Graphs.{by_order}
+use Rattle.filter_bdd.specs.Fields.{by_order}
 use Rattle.filter_same.specs.Packets.{HasHeader, Means}
 use Rattle.filter_same.specs.Terms.{under, load_value, IsTerm}
-use Rattle.filter_same.proofs.Means.{means-as}
+use Rattle.filter_same.proofs.Builders.{means-as}
 
 -- ---- Terms
 
@@ -157,16 +156,16 @@ check-under f m None = refl
 check-under f m (Some x) = refl
 
 -- a test of the bytes that a load reads
-pub means-load : (nodes : List Node) (case : Case) (load : Load) (start size i : ℕ) (f : ℕ → Bool) → size ≡ bytes_of load.size
-    → ((p : Packet) → HasHeader case.header p → accessed load.layer (bytes_of load.size) p load.index ≡ number_at p.captured (start + load.index) (bytes_of load.size))
-    → Means nodes case (λ p. check (λ n. f (under load.mask n)) (number_at p.captured (start + load.index) size)) i
-    → Means nodes case (λ p. check f (load_value load p)) i
-means-load nodes case load start size i f is place h =
-    means-as nodes case (λ p. check (λ n. f (under load.mask n)) (number_at p.captured (start + load.index) (bytes_of load.size))) (λ p. check f (load_value load p)) i
+pub means-load : (b : Builder) (load : Load) (start size i : ℕ) (f : ℕ → Bool) → size ≡ bytes_of load.size
+    → ((p : Packet) → HasHeader b.header p → accessed load.layer (bytes_of load.size) p load.index ≡ number_at p.captured (start + load.index) (bytes_of load.size))
+    → Means b (λ p. check (λ n. f (under load.mask n)) (number_at p.captured (start + load.index) size)) i
+    → Means b (λ p. check f (load_value load p)) i
+means-load b load start size i f is place h =
+    means-as b (λ p. check (λ n. f (under load.mask n)) (number_at p.captured (start + load.index) (bytes_of load.size))) (λ p. check f (load_value load p)) i
     (λ p ok head.
     ap (check (λ n. f (under load.mask n))) (sym (place p head))
     ∙ check-under f load.mask (accessed load.layer (bytes_of load.size) p load.index))
-    (subst (λ s. Means nodes case (λ p. check (λ n. f (under load.mask n)) (number_at p.captured (start + load.index) s)) i) is h)
+    (subst (λ s. Means b (λ p. check (λ n. f (under load.mask n)) (number_at p.captured (start + load.index) s)) i) is h)
 
 check-first : (f : ℕ → ℕ → Bool) (x : Option ℕ) (n : ℕ) → check_both f x (Some n) ≡ check (λ a. f a n) x
 check-first f None n = refl
@@ -177,10 +176,10 @@ check-second f n None = refl
 check-second f n (Some x) = refl
 
 -- a relation of bytes and a constant, either of which may stand first
-pub means-first : (nodes : List Node) (case : Case) (c : Comparison) (v w : Amount) (load : Load) (n i : ℕ) → IsTerm v (terms.Bytes load) → IsTerm w (terms.Number n)
-    → Means nodes case (and_test (in_layer load.layer) (λ p. check (λ x. compared c x n) (load_value load p))) i → Means nodes case (relation_test c v w) i
-means-first nodes case c v w load n i hv hw h =
-    means-as nodes case (and_test (in_layer load.layer) (λ p. check (λ x. compared c x n) (load_value load p))) (relation_test c v w) i
+pub means-first : (b : Builder) (c : Comparison) (v w : Amount) (load : Load) (n i : ℕ) → IsTerm v (terms.Bytes load) → IsTerm w (terms.Number n)
+    → Means b (and_test (in_layer load.layer) (λ p. check (λ x. compared c x n) (load_value load p))) i → Means b (relation_test c v w) i
+means-first b c v w load n i hv hw h =
+    means-as b (and_test (in_layer load.layer) (λ p. check (λ x. compared c x n) (load_value load p))) (relation_test c v w) i
     (λ p ok head. sym (
     ap (λ x. and_then (and_then x (in_layers w p)) (check_both (compared c) (value v p) (value w p))) (hv.layers p)
     ∙ ap (λ x. and_then (and_then (in_layer load.layer p) x) (check_both (compared c) (value v p) (value w p))) (hw.layers p)
@@ -190,10 +189,10 @@ means-first nodes case c v w load n i hv hw h =
     ∙ ap (and_then (in_layer load.layer p)) (check-first (compared c) (load_value load p) n)))
     h
 
-pub means-second : (nodes : List Node) (case : Case) (c : Comparison) (v w : Amount) (load : Load) (n i : ℕ) → IsTerm v (terms.Number n) → IsTerm w (terms.Bytes load)
-    → Means nodes case (and_test (in_layer load.layer) (λ p. check (λ x. compared c n x) (load_value load p))) i → Means nodes case (relation_test c v w) i
-means-second nodes case c v w load n i hv hw h =
-    means-as nodes case (and_test (in_layer load.layer) (λ p. check (λ x. compared c n x) (load_value load p))) (relation_test c v w) i
+pub means-second : (b : Builder) (c : Comparison) (v w : Amount) (load : Load) (n i : ℕ) → IsTerm v (terms.Number n) → IsTerm w (terms.Bytes load)
+    → Means b (and_test (in_layer load.layer) (λ p. check (λ x. compared c n x) (load_value load p))) i → Means b (relation_test c v w) i
+means-second b c v w load n i hv hw h =
+    means-as b (and_test (in_layer load.layer) (λ p. check (λ x. compared c n x) (load_value load p))) (relation_test c v w) i
     (λ p ok head. sym (
     ap (λ x. and_then (and_then x (in_layers w p)) (check_both (compared c) (value v p) (value w p))) (hv.layers p)
     ∙ ap (λ x. and_then x (check_both (compared c) (value v p) (value w p))) (hw.layers p)
@@ -203,10 +202,10 @@ means-second nodes case c v w load n i hv hw h =
     h
 
 -- a relation of the length on the wire and a constant
-pub means-length : (nodes : List Node) (case : Case) (c : Comparison) (v w : Amount) (n i : ℕ) → IsTerm v terms.Length → IsTerm w (terms.Number n)
-    → Means nodes case (λ p. decided (compared c p.wire n)) i → Means nodes case (relation_test c v w) i
-means-length nodes case c v w n i hv hw h =
-    means-as nodes case (λ p. decided (compared c p.wire n)) (relation_test c v w) i
+pub means-length : (b : Builder) (c : Comparison) (v w : Amount) (n i : ℕ) → IsTerm v terms.Length → IsTerm w (terms.Number n)
+    → Means b (λ p. decided (compared c p.wire n)) i → Means b (relation_test c v w) i
+means-length b c v w n i hv hw h =
+    means-as b (λ p. decided (compared c p.wire n)) (relation_test c v w) i
     (λ p ok head. sym (
     ap (λ x. and_then (and_then x (in_layers w p)) (check_both (compared c) (value v p) (value w p))) (hv.layers p)
     ∙ ap (λ x. and_then x (check_both (compared c) (value v p) (value w p))) (hw.layers p)
@@ -214,10 +213,10 @@ means-length nodes case c v w n i hv hw h =
     ∙ ap (check_both (compared c) (Some p.wire)) (hw.value p)))
     h
 
-pub means-length-second : (nodes : List Node) (case : Case) (c : Comparison) (v w : Amount) (n i : ℕ) → IsTerm v (terms.Number n) → IsTerm w terms.Length
-    → Means nodes case (λ p. decided (compared c n p.wire)) i → Means nodes case (relation_test c v w) i
-means-length-second nodes case c v w n i hv hw h =
-    means-as nodes case (λ p. decided (compared c n p.wire)) (relation_test c v w) i
+pub means-length-second : (b : Builder) (c : Comparison) (v w : Amount) (n i : ℕ) → IsTerm v (terms.Number n) → IsTerm w terms.Length
+    → Means b (λ p. decided (compared c n p.wire)) i → Means b (relation_test c v w) i
+means-length-second b c v w n i hv hw h =
+    means-as b (λ p. decided (compared c n p.wire)) (relation_test c v w) i
     (λ p ok head. sym (
     ap (λ x. and_then (and_then x (in_layers w p)) (check_both (compared c) (value v p) (value w p))) (hv.layers p)
     ∙ ap (λ x. and_then x (check_both (compared c) (value v p) (value w p))) (hw.layers p)

@@ -1,20 +1,21 @@
 -- Runs of programs as tests.
-use Rattle.std.proofs.Common.{◌≡◌, ◌≢◌, ℕ, zero, suc, ◌+◌, inl, inr, Bool, true, false, List, [], ◌∷◌, ◌++◌, drop, Option, Some, None, refl, sym, ap, ◌∙◌, arith, subst, nat_lt, option_map, ◌*◌, bit_and, if◌then◌else◌}
-use Rattle.std.proofs.lemmas.Bool.{ne_eqb}
+use Rattle.std.proofs.Common.{◌≡◌, ℕ, zero, suc, ◌+◌, inl, inr, Bool, true, false, List, [], ◌∷◌, ◌++◌, drop, Option, Some, None, refl, sym, ap, ◌∙◌, arith, subst, nat_lt, option_map, ◌*◌, bit_and, if◌then◌else◌}
 use Rattle.std.proofs.lemmas.Option.{get_or_from_slice_get, slice_get_within}
 use Rattle.std.proofs.Math.Seq.{drop-drop}
 use Rattle.std.specs.List.{slice_get}
 use Rattle.bpfvm.specs.declared.insn.Insn.{Insn}
 use Rattle.bpfvm.specs.declared.tracing.Executed.{Executed}
-use Rattle.bpfvm.specs.Codes.{Register, Accumulator, Index, Operation, LoadAbsolute, LoadIndirect, LoadImmediate, LoadMemory, LoadLength, LoadHeaderLength, Store, Calculate, Negate, Jump, Branch, ReturnConstant, ReturnAccumulator, Transfer, operation_of}
-use Rattle.bpfvm.specs.Machine.{Registers, Effect, Goes, Ends, effect, effect_if, loaded, calculated, operand, number_at, answer, verdict, initial, State, Does}
+use Rattle.bpfvm.specs.Codes.{Register, Accumulator, Index, Operand, Constant, InIndex, Arithmetic, Add, Subtract, Multiply, Divide, Or, And, ShiftLeft, ShiftRight, Modulo, ExclusiveOr, Operation, LoadAbsolute, LoadIndirect, LoadImmediate, LoadMemory, LoadLength, LoadHeaderLength, Store, Calculate, Negate, Jump, Branch, ReturnConstant, ReturnAccumulator, Transfer, operation_of}
+use Rattle.bpfvm.specs.Machine.{Registers, Effect, Goes, Ends, effect, effect_if, loaded, calculated, operand, number_at, answer, verdict, initial, beginning, State, Does}
 use Rattle.bpfvm.specs.Traces.{Runs}
-use Rattle.bpfvm.specs.Validity.{is_return, is_return_code}
-use Rattle.bpfvm.proofs.Soundness.{is_return-else}
+use Rattle.bpfvm.specs.Validity.{is_return_code}
+use Rattle.bpfvm.specs.declared.ending.How.{How}
+use Rattle.bpfvm.specs.declared.ending.How.TheVariants.{Returned}
+use Rattle.bpfvm.specs.Endings.{how_by, IsEnd}
 use Rattle.filter_meaning.specs.declared.verdict.Verdict.{Verdict}
 use Rattle.filter_meaning.specs.declared.verdict.Verdict.TheVariants.{Abort}
 use Rattle.filter_meaning.specs.Meaning.{Packet, decided, is_yes}
-use Rattle.filter_same.specs.Programs.{ended, run_test, ProgramsSayYes}
+use Rattle.filter_same.specs.Programs.{ended, run_test, program_test, ProgramsSayYes}
 
 -- ---- A run over what is left
 
@@ -120,18 +121,48 @@ programs-say-yes insns p = yes-kept insns 0 initial p
 
 -- ---- What ends a run
 
--- a return does, with what it keeps
-pub ended-return : (i : Insn) (code n : ℕ) (v : Verdict) → i.code ≡ code → is_return_code (operation_of code) ≡ true → v ≡ decided (nat_lt 0 n) → v ≡ ended i n
-ended-return i code n v same returns is =
-    is ∙ sym (ap (λ t. if t then decided (nat_lt 0 n) else Abort) (ap (λ k. is_return_code (operation_of k)) same ∙ returns))
+-- what a run says that ends for this reason
+abbrev pub verdict_by : How → Verdict
+verdict_by (Returned n) = decided (nat_lt 0 n)
+verdict_by other = Abort
 
-not-return : (i : Insn) → i.code ≢ 6 → i.code ≢ 22 → is_return_code (operation_of i.code) ≡ false
-unfolding is_return
-not-return i a b = sym (is_return-else i a) ∙ ne_eqb i.code 22 b
+calculated-by : (f : Arithmetic) (v : Operand) (n : ℕ) → verdict_by (how_by (Calculate f v) n) ≡ Abort
+calculated-by Add Constant n = refl
+calculated-by Add InIndex n = refl
+calculated-by Subtract Constant n = refl
+calculated-by Subtract InIndex n = refl
+calculated-by Multiply Constant n = refl
+calculated-by Multiply InIndex n = refl
+calculated-by Divide Constant n = refl
+calculated-by Divide InIndex n = refl
+calculated-by Or Constant n = refl
+calculated-by Or InIndex n = refl
+calculated-by And Constant n = refl
+calculated-by And InIndex n = refl
+calculated-by ShiftLeft Constant n = refl
+calculated-by ShiftLeft InIndex n = refl
+calculated-by ShiftRight Constant n = refl
+calculated-by ShiftRight InIndex n = refl
+calculated-by Modulo Constant n = refl
+calculated-by Modulo InIndex n = refl
+calculated-by ExclusiveOr Constant n = refl
+calculated-by ExclusiveOr InIndex n = refl
 
--- another instruction has no value
-pub ended-other : (i : Insn) (n : ℕ) → i.code ≢ 6 → i.code ≢ 22 → Abort ≡ ended i n
-ended-other i n a b = sym (ap (λ t. if t then decided (nat_lt 0 n) else Abort) (not-return i a b))
+said-by : (o : Operation) (n : ℕ) → verdict_by (how_by o n) ≡ (if is_return_code (Some o) then decided (nat_lt 0 n) else Abort)
+said-by (LoadAbsolute size) n = refl
+said-by (LoadIndirect size) n = refl
+said-by (LoadImmediate to) n = refl
+said-by (LoadMemory to) n = refl
+said-by (LoadLength to) n = refl
+said-by LoadHeaderLength n = refl
+said-by (Store from) n = refl
+said-by (Calculate f v) n = calculated-by f v n
+said-by Negate n = refl
+said-by Jump n = refl
+said-by (Branch test v) n = refl
+said-by ReturnConstant n = refl
+said-by ReturnAccumulator n = refl
+said-by (Transfer to) n = refl
 
 -- ---- Traces
 
@@ -160,3 +191,12 @@ runs-last program p s (e ∷ before) last n i (inr (next, step, is, later)) here
     (does-effect program p s (Goes step.passed next.registers) step.does)
     ∙ ap (λ place. run_test (drop place program) 0 next.registers p) (sym step.place)
     ∙ runs-last program p next before last n i later here
+
+-- so what it says is told by its end
+pub end-says : (program : List Insn) (p : Packet) (place : ℕ) (how : How) → IsEnd program p.captured p.wire place how → verdict_by how ≡ program_test program p
+end-says program p place how is =
+    ap verdict_by is.why
+    ∙ said-by is.operation is.answer
+    ∙ sym (ap (λ o. if is_return_code o then decided (nat_lt 0 is.answer) else Abort) is.known)
+    ∙ sym (runs-last program p beginning is.ends.before is.ends.last is.answer is.ends.insn is.ends.runs
+    (subst (λ (k : ℕ). slice_get program k ≡ Some is.ends.insn) (sym is.ends.at_place) is.ends.here))

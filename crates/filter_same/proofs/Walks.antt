@@ -10,12 +10,10 @@ use Rattle.bpfvm.specs.declared.insn.Insn.{Insn}
 use Rattle.bpfvm.specs.Codes.{Accumulator, Index, operation_of}
 use Rattle.bpfvm.specs.Machine.{Registers, Goes, effect, loaded, with_value, number_at, big_endian, initial}
 use Rattle.filter_meaning.specs.declared.verdict.Verdict.{Verdict}
-use Rattle.filter_meaning.specs.declared.verdict.Verdict.TheVariants.{Yes, No, Abort}
-use Rattle.filter_meaning.specs.Meaning.{Packet, Test, and_then, or_else, opposite, decided, check, and_test, or_test}
+use Rattle.filter_meaning.specs.declared.verdict.Verdict.TheVariants.{Yes, Abort}
+use Rattle.filter_meaning.specs.Meaning.{Packet, Test, and_then, decided, check, and_test}
 use Rattle.filter_meaning.proofs.Numbers.{number-some, number-none}
-use Rattle.filter_same.specs.declared.answer.Answer.TheVariants.{Final}
-use Rattle.filter_same.specs.declared.case.Case.{Case}
-use Rattle.filter_same.specs.declared.table.Node.{Node}
+use Rattle.filter_bdd.specs.declared.answer.Answer.TheVariants.{Final}
 use Rattle.filter_same.specs.declared.fields.Bytes.{Bytes as FieldBytes}
 use Rattle.filter_same.specs.declared.known.Known.{Known}
 use Rattle.filter_same.specs.declared.known.Known.TheVariants.{Nothing, Number, Length, Bytes}
@@ -24,48 +22,50 @@ use Rattle.filter_same.specs.declared.steps.Condition.{Condition}
 use Rattle.filter_same.specs.declared.steps.Step.{Step}
 use Rattle.filter_same.specs.declared.steps.Step.TheVariants.{On, Load, Branch, End}
 use Rattle.filter_same.specs.declared.spots.Spot.{Spot}
-use Rattle.filter_same.specs.Graphs.{Gives, Grew, by_order}
-use Rattle.filter_same.specs.Packets.{bit_of, verdict_of, verdict_at, IsPacket, HasHeader, Means, turned}
+use Rattle.filter_bdd.specs.Diagrams.{Gives}
+use Rattle.filter_bdd.specs.Fields.{by_order}
+use Rattle.filter_same.specs.declared.builder.Builder.{Builder}
+use Rattle.filter_same.specs.Packets.{bit_of, verdict_of, verdict_at, IsPacket, HasHeader, Means, Extends}
 use Rattle.filter_same.specs.Programs.{run_test, program_test}
 use Rattle.filter_same.specs.Walks.{IsKnown, AreKnown, IsEffect, IsStepOf, compares, Follows, IsNodeOf, AreNodes}
-use Rattle.filter_same.proofs.Tables.{grown-answer, grown_inside, grown_more}
-use Rattle.filter_same.proofs.Means.{means-grown, all-ones}
+use Rattle.filter_same.proofs.Builders.{means-grown, verdict-grown, head-back, inside_extended}
+use Rattle.filter_same.proofs.Means.{all-ones}
 use Rattle.filter_same.proofs.Bits.{field-below}
 use Rattle.filter_same.proofs.Runs.{run-goes, run-ends}
 
 -- ---- Spots
 
-follows-grown : (a b : List Node) (header : Option ℕ) (insns : List Insn) (known : KnownRegisters) (i : ℕ) → Grew a b → Follows a header insns known i → Follows b header insns known i
-follows-grown a b header insns known i g h = record {
-  inside = grown_inside a b i g h.inside;
-  says = λ p ok head r is. ap (verdict_of (length p.captured)) (grown-answer (bit_of p) a b g i h.inside) ∙ h.says p ok head r is;
+follows-grown : (a b : Builder) (insns : List Insn) (known : KnownRegisters) (i : ℕ) → Extends a b → Follows a insns known i → Follows b insns known i
+follows-grown a b insns known i g h = record {
+  inside = inside_extended a b i g h.inside;
+  says = λ p ok head r is. verdict-grown a b i p g h.inside ∙ h.says p ok (head-back a b p g head) r is;
 }
 
-pub nodes-grown : (a b : List Node) (header : Option ℕ) (insns : List Insn) (es : List (Spot × ℕ)) → Grew a b → AreNodes a header insns es → AreNodes b header insns es
-nodes-grown a b header insns [] g h = tt
-nodes-grown a b header insns (e ∷ es) g h = (follows-grown a b header (drop e.0.place insns) e.0.known e.1 g h.0, nodes-grown a b header insns es g h.1)
+pub nodes_grown : (a b : Builder) (insns : List Insn) (es : List (Spot × ℕ)) → Extends a b → AreNodes a insns es → AreNodes b insns es
+nodes_grown a b insns [] g h = tt
+nodes_grown a b insns (e ∷ es) g h = (follows-grown a b (drop e.0.place insns) e.0.known e.1 g h.0, nodes_grown a b insns es g h.1)
 
-pub node-at : (nodes : List Node) (header : Option ℕ) (insns : List Insn) (es : List (Spot × ℕ)) (place : ℕ) (e : Spot × ℕ) → AreNodes nodes header insns es → slice_get es place ≡ Some e → IsNodeOf nodes header insns e.0 e.1
-node-at nodes header insns [] place e h found = absurd (omega (arith, slice_get_within [] place e found))
-node-at nodes header insns (f ∷ es) zero e h found =
+pub node-at : (b : Builder) (insns : List Insn) (es : List (Spot × ℕ)) (place : ℕ) (e : Spot × ℕ) → AreNodes b insns es → slice_get es place ≡ Some e → IsNodeOf b insns e.0 e.1
+node-at b insns [] place e h found = absurd (omega (arith, slice_get_within [] place e found))
+node-at b insns (f ∷ es) zero e h found =
     let same : f ≡ e = get_or_from_slice_get (f ∷ es) 0 e f found in
-    subst (λ (x : Spot × ℕ). IsNodeOf nodes header insns x.0 x.1) same h.0
-node-at nodes header insns (f ∷ es) (suc place) e h found = node-at nodes header insns es place e h.1 found
+    subst (λ (x : Spot × ℕ). IsNodeOf b insns x.0 x.1) same h.0
+node-at b insns (f ∷ es) (suc place) e h found = node-at b insns es place e h.1 found
 
 -- what was found is the node of the spot that it was walked for
-pub node-found : (nodes : List Node) (header : Option ℕ) (insns : List Insn) (es : List (Spot × ℕ)) (place : ℕ) (e : Spot × ℕ) (walked spot : Spot) (node : ℕ) → AreNodes nodes header insns es → slice_get es place ≡ Some e
-    → e.0 ≡ walked → e.1 ≡ node → walked ≡ spot → IsNodeOf nodes header insns spot node
-node-found nodes header insns es place e walked spot node h found first second same =
-    subst (λ s. IsNodeOf nodes header insns s node) (first ∙ same) (subst (IsNodeOf nodes header insns e.0) second (node-at nodes header insns es place e h found))
+pub node-found : (b : Builder) (insns : List Insn) (es : List (Spot × ℕ)) (place : ℕ) (e : Spot × ℕ) (walked spot : Spot) (node : ℕ) → AreNodes b insns es → slice_get es place ≡ Some e
+    → e.0 ≡ walked → e.1 ≡ node → walked ≡ spot → IsNodeOf b insns spot node
+node-found b insns es place e walked spot node h found first second same =
+    subst (λ s. IsNodeOf b insns s node) (first ∙ same) (subst (IsNodeOf b insns e.0) second (node-at b insns es place e h found))
 
 -- a node is kept after the others
-nodes-push : (nodes : List Node) (header : Option ℕ) (insns : List Insn) (es : List (Spot × ℕ)) (k : Spot) (i : ℕ) → AreNodes nodes header insns es → IsNodeOf nodes header insns k i → AreNodes nodes header insns (es ++ (k, i) ∷ [])
-nodes-push nodes header insns [] k i h n = (n, tt)
-nodes-push nodes header insns (e ∷ es) k i h n = (h.0, nodes-push nodes header insns es k i h.1 n)
+nodes-push : (b : Builder) (insns : List Insn) (es : List (Spot × ℕ)) (k : Spot) (i : ℕ) → AreNodes b insns es → IsNodeOf b insns k i → AreNodes b insns (es ++ (k, i) ∷ [])
+nodes-push b insns [] k i h n = (n, tt)
+nodes-push b insns (e ∷ es) k i h n = (h.0, nodes-push b insns es k i h.1 n)
 
-pub nodes-kept : (nodes : List Node) (header : Option ℕ) (insns : List Insn) (old new : List (Spot × ℕ)) (k : Spot) (i : ℕ)
-    → new ≡ old ++ (k, i) ∷ [] → AreNodes nodes header insns old → IsNodeOf nodes header insns k i → AreNodes nodes header insns new
-nodes-kept nodes header insns old new k i is h n = subst (AreNodes nodes header insns) (sym is) (nodes-push nodes header insns old k i h n)
+pub nodes-kept : (b : Builder) (insns : List Insn) (old new : List (Spot × ℕ)) (k : Spot) (i : ℕ)
+    → new ≡ old ++ (k, i) ∷ [] → AreNodes b insns old → IsNodeOf b insns k i → AreNodes b insns new
+nodes-kept b insns old new k i is h n = subst (AreNodes b insns) (sym is) (nodes-push b insns old k i h n)
 
 -- ---- Steps
 
@@ -154,85 +154,67 @@ step-of-code header known i code s is h = subst (λ n. IsStepOf header known i (
 -- ---- Nodes
 
 -- a node says what it says
-itself : (a : List Node) (header : Option ℕ) (i : ℕ) → i < length a → Means a (record { header = header; wanted = true }) (verdict_at a i) i
-itself a header i inside = record { inside = inside; says = λ p ok head. refl }
+itself : (a : Builder) (i : ℕ) → i < length a.diagrams → Means a (verdict_at a.diagrams i) i
+itself a i inside = record { inside = inside; says = λ p ok head. refl }
 
-pub captured-says : (g h k : List Node) (header : Option ℕ) (need enough rest i : ℕ) → Grew g h → rest < length g → Gives h (λ v. Final need true) enough
-    → ((t u : Test) → Means h (record { header = header; wanted = true }) t enough → Means h (record { header = header; wanted = true }) u rest → Means k (record { header = header; wanted = true }) (and_test t u) i)
-    → (p : Packet) → IsPacket p → HasHeader header p → verdict_at k i p ≡ (if nat_le need (length p.captured) then verdict_at g rest p else Abort)
-captured-says g h k header need enough rest i grew inside leaf both p ok head =
-    let case : Case = record { header = header; wanted = true } in
-    let whole = both (verdict_at h enough) (verdict_at g rest) (itself h header enough leaf.inside) (means-grown g h case (verdict_at g rest) rest grew (itself g header rest inside)) in
-    whole.says p ok head
-    ∙ ap (λ a. and_then (verdict_of (length p.captured) a) (verdict_at g rest p)) (leaf.says (bit_of p))
-    ∙ elim (nat_le need (length p.captured)) as (λ t. and_then (if t then Yes else Abort) (verdict_at g rest p) ≡ (if t then verdict_at g rest p else Abort)) [ true ↦ refl | false ↦ refl ]
+pub captured-says : (g h k : Builder) (need enough rest i : ℕ) → Extends g h → Extends h k → rest < length g.diagrams → Gives h.diagrams (λ v. Final need true) enough
+    → ((t u : Test) → Means h t enough → Means h u rest → Means k (and_test t u) i)
+    → (p : Packet) → IsPacket p → HasHeader g.header p → verdict_at k.diagrams i p ≡ (if nat_le need (length p.captured) then verdict_at g.diagrams rest p else Abort)
+captured-says g h k need enough rest i grew more inside leaf both p ok head =
+    let whole = both (verdict_at h.diagrams enough) (verdict_at g.diagrams rest) (itself h enough leaf.inside) (means-grown g h (verdict_at g.diagrams rest) rest grew (itself g rest inside)) in
+    whole.says p ok (subst (λ n. HasHeader n p) (sym (more.header ∙ grew.header)) head)
+    ∙ ap (λ a. and_then (verdict_of (length p.captured) a) (verdict_at g.diagrams rest p)) (leaf.says (bit_of p))
+    ∙ elim (nat_le need (length p.captured)) as (λ t. and_then (if t then Yes else Abort) (verdict_at g.diagrams rest p) ≡ (if t then verdict_at g.diagrams rest p else Abort)) [ true ↦ refl | false ↦ refl ]
 
--- a test that is Yes and another one, or its opposite and a third
-chosen : (b : Bool) (x y : Verdict) → or_else (and_then (decided b) x) (and_then (opposite (decided b)) y) ≡ (if b then x else y)
-chosen true Yes y = refl
-chosen true No y = refl
-chosen true Abort y = refl
-chosen false x y = refl
+pub jump-says : (g a k : Builder) (condition : Condition) (held failed holds i : ℕ) → Extends g a → held < length g.diagrams → failed < length g.diagrams
+    → ((p : Packet) → IsPacket p → HasHeader g.header p → (x : ℕ) → IsKnown condition.known p x → verdict_at a.diagrams holds p ≡ decided (compares condition x))
+    → ((p : Packet) → (b : Bool) → verdict_at a.diagrams holds p ≡ decided b
+    → verdict_at k.diagrams i p ≡ (if b then verdict_at a.diagrams held p else verdict_at a.diagrams failed p))
+    → (p : Packet) → IsPacket p → HasHeader g.header p → (x : ℕ) → IsKnown condition.known p x
+    → verdict_at k.diagrams i p ≡ (if compares condition x then verdict_at g.diagrams held p else verdict_at g.diagrams failed p)
+jump-says g a k condition held failed holds i grew held_in failed_in said chosen p ok head x is =
+    chosen p (compares condition x) (said p ok head x is)
+    ∙ ap (λ v. if compares condition x then v else verdict_at a.diagrams failed p) (verdict-grown g a held p grew held_in)
+    ∙ ap (λ v. if compares condition x then verdict_at g.diagrams held p else v) (verdict-grown g a failed p grew failed_in)
 
-pub choice-says : (g a b c d k : List Node) (header : Option ℕ) (condition : Condition) (yes no holds fails first second i : ℕ)
-    → Grew g a → Grew a b → Grew b c → Grew c d → yes < length g → no < length g → holds < length a → fails < length b
-    → ((p : Packet) → IsPacket p → HasHeader header p → (x : ℕ) → IsKnown condition.known p x → verdict_at a holds p ≡ turned true (decided (compares condition x)))
-    → ((p : Packet) → IsPacket p → HasHeader header p → (x : ℕ) → IsKnown condition.known p x → verdict_at b fails p ≡ turned false (decided (compares condition x)))
-    → ((t u : Test) → Means b (record { header = header; wanted = true }) t holds → Means b (record { header = header; wanted = true }) u yes → Means c (record { header = header; wanted = true }) (and_test t u) first)
-    → ((t u : Test) → Means c (record { header = header; wanted = true }) t fails → Means c (record { header = header; wanted = true }) u no → Means d (record { header = header; wanted = true }) (and_test t u) second)
-    → ((t u : Test) → Means d (record { header = header; wanted = true }) t first → Means d (record { header = header; wanted = true }) u second → Means k (record { header = header; wanted = true }) (or_test t u) i)
-    → (p : Packet) → IsPacket p → HasHeader header p → (x : ℕ) → IsKnown condition.known p x
-    → verdict_at k i p ≡ (if compares condition x then verdict_at g yes p else verdict_at g no p)
-choice-says g a b c d k header condition held failed holds fails first second i ga ab bc cd yes_in no_in holds_in fails_in says_yes says_no one two all p ok head x is =
-    let case : Case = record { header = header; wanted = true } in
-    let gb = grown_more g a b ga ab in
-    let gc = grown_more g b c gb bc in
-    let h1 = means-grown a b case (verdict_at a holds) holds ab (itself a header holds holds_in) in
-    let y1 = means-grown g b case (verdict_at g held) held gb (itself g header held yes_in) in
-    let m1 = one (verdict_at a holds) (verdict_at g held) h1 y1 in
-    let f2 = means-grown b c case (verdict_at b fails) fails bc (itself b header fails fails_in) in
-    let n2 = means-grown g c case (verdict_at g failed) failed gc (itself g header failed no_in) in
-    let m2 = two (verdict_at b fails) (verdict_at g failed) f2 n2 in
-    let t1 = and_test (verdict_at a holds) (verdict_at g held) in
-    let t2 = and_test (verdict_at b fails) (verdict_at g failed) in
-    let whole = all t1 t2 (means-grown c d case t1 first cd m1) m2 in
-    whole.says p ok head
-    ∙ ap (λ v. or_else (and_then v (verdict_at g held p)) (and_then (verdict_at b fails p) (verdict_at g failed p))) (says_yes p ok head x is)
-    ∙ ap (λ v. or_else (and_then (decided (compares condition x)) (verdict_at g held p)) (and_then v (verdict_at g failed p))) (says_no p ok head x is)
-    ∙ chosen (compares condition x) (verdict_at g held p) (verdict_at g failed p)
-
-pub comparison-bytes : (g : List Node) (case : Case) (condition : Condition) (bytes : FieldBytes) (number i : ℕ) → condition.known ≡ Bytes bytes → number ≡ condition.number
+pub comparison-bytes : (g k : Builder) (condition : Condition) (bytes : FieldBytes) (number i : ℕ) → Extends g k → condition.known ≡ Bytes bytes → number ≡ condition.number
     → ((f : ℕ → Bool) → ((x : ℕ) → x < 2 ^ (8 * bytes.size) → by_order (bit_and x bytes.mask) number condition.holds.less condition.holds.equal condition.holds.greater ≡ f x)
-    → Means g case (λ p. check f (number_at p.captured bytes.offset bytes.size)) i)
-    → (p : Packet) → IsPacket p → HasHeader case.header p → (x : ℕ) → IsKnown condition.known p x → verdict_at g i p ≡ turned case.wanted (decided (compares condition x))
-comparison-bytes g case condition bytes number i is same test p ok head x known =
+    → Means k (λ p. check f (number_at p.captured bytes.offset bytes.size)) i)
+    → (p : Packet) → IsPacket p → HasHeader g.header p → (x : ℕ) → IsKnown condition.known p x → verdict_at k.diagrams i p ≡ decided (compares condition x)
+comparison-bytes g k condition bytes number i grew is same test p ok head x known =
     let h = subst (λ k. IsKnown k p x) is known in
     let f : ℕ → Bool = λ y. compares condition (bit_and y bytes.mask) in
-    (test f (λ y less. ap (λ n. by_order (bit_and y bytes.mask) n condition.holds.less condition.holds.equal condition.holds.greater) same)).says p ok head
-    ∙ ap (λ n. turned case.wanted (check f n)) h.1
-    ∙ ap (λ n. turned case.wanted (decided (compares condition n))) (sym h.2)
+    (test f (λ y less. ap (λ n. by_order (bit_and y bytes.mask) n condition.holds.less condition.holds.equal condition.holds.greater) same)).says p ok
+    (subst (λ n. HasHeader n p) (sym grew.header) head)
+    ∙ ap (check f) h.1
+    ∙ ap (λ n. decided (compares condition n)) (sym h.2)
 
-pub comparison-wire : (g : List Node) (case : Case) (condition : Condition) (i : ℕ) → condition.known ≡ Length
-    → ((f : ℕ → Bool) → ((x : ℕ) → by_order x condition.number condition.holds.less condition.holds.equal condition.holds.greater ≡ f x) → Means g case (λ p. decided (f p.wire)) i)
-    → (p : Packet) → IsPacket p → HasHeader case.header p → (x : ℕ) → IsKnown condition.known p x → verdict_at g i p ≡ turned case.wanted (decided (compares condition x))
-comparison-wire g case condition i is test p ok head x known =
-    (test (compares condition) (λ y. refl)).says p ok head
-    ∙ ap (λ n. turned case.wanted (decided (compares condition n))) (sym (subst (λ k. IsKnown k p x) is known))
+pub comparison-wire : (g k : Builder) (condition : Condition) (i : ℕ) → Extends g k → condition.known ≡ Length
+    → ((f : ℕ → Bool) → ((x : ℕ) → by_order x condition.number condition.holds.less condition.holds.equal condition.holds.greater ≡ f x) → Means k (λ p. decided (f p.wire)) i)
+    → (p : Packet) → IsPacket p → HasHeader g.header p → (x : ℕ) → IsKnown condition.known p x → verdict_at k.diagrams i p ≡ decided (compares condition x)
+comparison-wire g k condition i grew is test p ok head x known =
+    (test (compares condition) (λ y. refl)).says p ok (subst (λ n. HasHeader n p) (sym grew.header) head)
+    ∙ ap (λ n. decided (compares condition n)) (sym (subst (λ k. IsKnown k p x) is known))
 
 -- ---- Spots, by what their instructions do
 
 -- a node of a spot of which less is known
-pub node-read : (nodes : List Node) (header : Option ℕ) (insns : List Insn) (spot here : Spot) (i : ℕ) → here.place ≡ spot.place
-    → ((p : Packet) (r : Registers) → AreKnown spot.known p r → AreKnown here.known p r) → IsNodeOf nodes header insns here i → IsNodeOf nodes header insns spot i
-node-read nodes header insns spot here i same less h = record {
+pub node-read : (b : Builder) (insns : List Insn) (spot here : Spot) (i : ℕ) → here.place ≡ spot.place
+    → ((p : Packet) (r : Registers) → AreKnown spot.known p r → AreKnown here.known p r) → IsNodeOf b insns here i → IsNodeOf b insns spot i
+node-read b insns spot here i same less h = record {
   inside = h.inside;
   says = λ p ok head r is. h.says p ok head r (less p r is) ∙ ap (λ place. run_test (drop place insns) 0 r p) same;
 }
 
-pub walk-on : (g : List Node) (header : Option ℕ) (insns : List Insn) (here next : Spot) (insn : Insn) (passed rest : ℕ) → slice_get insns here.place ≡ Some insn
-    → next.place ≡ here.place + 1 + passed → IsStepOf header here.known insn (operation_of insn.code) (On passed next.known) → IsNodeOf g header insns next rest → IsNodeOf g header insns here rest
+-- the same, of a node that was kept
+pub kept-read : (b : Builder) (insns : List Insn) (spot here : Spot) (node i : ℕ) → here.place ≡ spot.place
+    → ((p : Packet) (r : Registers) → AreKnown spot.known p r → AreKnown here.known p r) → i ≡ node → IsNodeOf b insns here node → IsNodeOf b insns spot i
+kept-read b insns spot here node i same less is h = node-read b insns spot here i same less (subst (IsNodeOf b insns here) (sym is) h)
+
+pub walk-on : (g : Builder) (insns : List Insn) (here next : Spot) (insn : Insn) (passed rest : ℕ) → slice_get insns here.place ≡ Some insn
+    → next.place ≡ here.place + 1 + passed → IsStepOf g.header here.known insn (operation_of insn.code) (On passed next.known) → IsNodeOf g insns next rest → IsNodeOf g insns here rest
 unfolding effect
-walk-on g header insns here next insn passed rest at place step h = record {
+walk-on g insns here next insn passed rest at place step h = record {
   inside = h.inside;
   says = λ p ok head r is.
       let does = step p ok head r is in
@@ -241,13 +223,13 @@ walk-on g header insns here next insn passed rest at place step h = record {
       ∙ sym (run-goes insns here.place insn r p passed does.0 at does.1);
 }
 
-pub walk-end : (g : List Node) (header : Option ℕ) (insns : List Insn) (here : Spot) (insn : Insn) (says : Bool) (i : ℕ) → slice_get insns here.place ≡ Some insn
-    → IsStepOf header here.known insn (operation_of insn.code) (End says) → Gives g (λ v. Final 0 says) i → IsNodeOf g header insns here i
+pub walk-end : (g k : Builder) (insns : List Insn) (here : Spot) (insn : Insn) (says : Bool) (i : ℕ) → Extends g k → slice_get insns here.place ≡ Some insn
+    → IsStepOf g.header here.known insn (operation_of insn.code) (End says) → Gives k.diagrams (λ v. Final 0 says) i → IsNodeOf k insns here i
 unfolding effect
-walk-end g header insns here insn said i at step leaf = record {
+walk-end g k insns here insn said i grew at step leaf = record {
   inside = leaf.inside;
   says = λ p ok head r is.
-      let does = step p ok head r is in
+      let does = step p ok (head-back g k p grew head) r is in
       let there : nat_le 0 (length p.captured) ≡ true = grind (arith, nat_tests) in
       ap (verdict_of (length p.captured)) (leaf.says (bit_of p))
       ∙ ap (λ t. if t then decided said else Abort) there
@@ -255,14 +237,15 @@ walk-end g header insns here insn said i at step leaf = record {
       ∙ sym (run-ends insns here.place insn r p does.0 at does.1);
 }
 
-pub walk-load : (g k : List Node) (header : Option ℕ) (insns : List Insn) (here next : Spot) (insn : Insn) (need rest i : ℕ) → slice_get insns here.place ≡ Some insn
-    → next.place ≡ here.place + 1 + 0 → IsStepOf header here.known insn (operation_of insn.code) (Load need next.known) → IsNodeOf g header insns next rest → i < length k
-    → ((p : Packet) → IsPacket p → HasHeader header p → verdict_at k i p ≡ (if nat_le need (length p.captured) then verdict_at g rest p else Abort))
-    → IsNodeOf k header insns here i
+pub walk-load : (g k : Builder) (insns : List Insn) (here next : Spot) (insn : Insn) (need rest i : ℕ) → Extends g k → slice_get insns here.place ≡ Some insn
+    → next.place ≡ here.place + 1 + 0 → IsStepOf g.header here.known insn (operation_of insn.code) (Load need next.known) → IsNodeOf g insns next rest → i < length k.diagrams
+    → ((p : Packet) → IsPacket p → HasHeader g.header p → verdict_at k.diagrams i p ≡ (if nat_le need (length p.captured) then verdict_at g.diagrams rest p else Abort))
+    → IsNodeOf k insns here i
 unfolding effect
-walk-load g k header insns here next insn need rest i at place step h inside node = record {
+walk-load g k insns here next insn need rest i grew at place step h inside node = record {
   inside = inside;
-  says = λ p ok head r is.
+  says = λ p ok head' r is.
+      let head = head-back g k p grew head' in
       let does = step p ok head r is in
       let c = length p.captured in
       elim (cases_lt c need) [
@@ -270,40 +253,41 @@ walk-load g k header insns here next insn need rest i at place step h inside nod
             let t : nat_le need c ≡ false = grind (arith, nat_tests) in
             let e = does.1 short in
             node p ok head
-            ∙ ap (λ b. if b then verdict_at g rest p else Abort) t
+            ∙ ap (λ b. if b then verdict_at g.diagrams rest p else Abort) t
             ∙ sym (ap (λ b. if b then decided (nat_lt 0 0) else Abort) e.1)
             ∙ sym (run-ends insns here.place insn r p 0 at e.0)
         | inr there ↦
             let t : nat_le need c ≡ true = grind (arith, nat_tests) in
             let e = does.0 there in
             node p ok head
-            ∙ ap (λ b. if b then verdict_at g rest p else Abort) t
+            ∙ ap (λ b. if b then verdict_at g.diagrams rest p else Abort) t
             ∙ h.says p ok head e.0 e.2
             ∙ ap (λ n. run_test (drop n insns) 0 e.0 p) place
             ∙ sym (run-goes insns here.place insn r p 0 e.0 at e.1)
       ];
 }
 
-pub walk-branch : (f g k : List Node) (header : Option ℕ) (insns : List Insn) (here one other : Spot) (insn : Insn) (condition : Condition) (yes no i : ℕ) → slice_get insns here.place ≡ Some insn
+pub walk-branch : (g k : Builder) (insns : List Insn) (here one other : Spot) (insn : Insn) (condition : Condition) (held failed i : ℕ) → Extends g k → slice_get insns here.place ≡ Some insn
     → one.place ≡ here.place + 1 + insn.jt → one.known ≡ here.known → other.place ≡ here.place + 1 + insn.jf → other.known ≡ here.known
-    → IsStepOf header here.known insn (operation_of insn.code) (Branch condition) → Grew f g → IsNodeOf f header insns one yes → IsNodeOf g header insns other no → i < length k
-    → ((p : Packet) → IsPacket p → HasHeader header p → (x : ℕ) → IsKnown condition.known p x → verdict_at k i p ≡ (if compares condition x then verdict_at g yes p else verdict_at g no p))
-    → IsNodeOf k header insns here i
+    → IsStepOf g.header here.known insn (operation_of insn.code) (Branch condition) → IsNodeOf g insns one held → IsNodeOf g insns other failed → i < length k.diagrams
+    → ((p : Packet) → IsPacket p → HasHeader g.header p → (x : ℕ) → IsKnown condition.known p x
+    → verdict_at k.diagrams i p ≡ (if compares condition x then verdict_at g.diagrams held p else verdict_at g.diagrams failed p))
+    → IsNodeOf k insns here i
 unfolding effect
-walk-branch f g k header insns here one other insn condition held failed i at place1 known1 place2 known2 step grew y n inside node = record {
+walk-branch g k insns here one other insn condition held failed i grew at place1 known1 place2 known2 step y n inside node = record {
   inside = inside;
-  says = λ p ok head r is.
+  says = λ p ok head' r is.
+      let head = head-back g k p grew head' in
       let does = step p ok head r is in
-      let first = follows-grown f g header (drop one.place insns) one.known held grew y in
-      let by : (b : Bool) → compares condition does.0 ≡ b → (if compares condition does.0 then verdict_at g held p else verdict_at g failed p) ≡ run_test (drop here.place insns) 0 r p =
-      λ b. elim b as (λ b. compares condition does.0 ≡ b → (if compares condition does.0 then verdict_at g held p else verdict_at g failed p) ≡ run_test (drop here.place insns) 0 r p) [
+      let by : (b : Bool) → compares condition does.0 ≡ b → (if compares condition does.0 then verdict_at g.diagrams held p else verdict_at g.diagrams failed p) ≡ run_test (drop here.place insns) 0 r p =
+      λ b. elim b as (λ b. compares condition does.0 ≡ b → (if compares condition does.0 then verdict_at g.diagrams held p else verdict_at g.diagrams failed p) ≡ run_test (drop here.place insns) 0 r p) [
         | true ↦ λ e.
-            ap (λ t. if t then verdict_at g held p else verdict_at g failed p) e
-            ∙ first.says p ok head r (subst (λ k. AreKnown k p r) (sym known1) is)
+            ap (λ t. if t then verdict_at g.diagrams held p else verdict_at g.diagrams failed p) e
+            ∙ y.says p ok head r (subst (λ k. AreKnown k p r) (sym known1) is)
             ∙ ap (λ m. run_test (drop m insns) 0 r p) place1
             ∙ sym (run-goes insns here.place insn r p insn.jt r at (does.2 ∙ ap (λ t. Goes (if t then insn.jt else insn.jf) r) e))
         | false ↦ λ e.
-            ap (λ t. if t then verdict_at g held p else verdict_at g failed p) e
+            ap (λ t. if t then verdict_at g.diagrams held p else verdict_at g.diagrams failed p) e
             ∙ n.says p ok head r (subst (λ k. AreKnown k p r) (sym known2) is)
             ∙ ap (λ m. run_test (drop m insns) 0 r p) place2
             ∙ sym (run-goes insns here.place insn r p insn.jf r at (does.2 ∙ ap (λ t. Goes (if t then insn.jt else insn.jf) r) e))
@@ -312,9 +296,9 @@ walk-branch f g k header insns here one other insn condition held failed i at pl
 }
 
 -- what the node of the first spot says a program says
-pub program-means : (g : List Node) (header : Option ℕ) (insns : List Insn) (spot : Spot) (i : ℕ) → spot.place ≡ 0 → spot.known.accumulator ≡ Number 0 → spot.known.index ≡ Number 0
-    → IsNodeOf g header insns spot i → Means g (record { header = header; wanted = true }) (program_test insns) i
-program-means g header insns spot i place acc idx h = record {
+pub program-means : (b : Builder) (insns : List Insn) (spot : Spot) (i : ℕ) → spot.place ≡ 0 → spot.known.accumulator ≡ Number 0 → spot.known.index ≡ Number 0
+    → IsNodeOf b insns spot i → Means b (program_test insns) i
+program-means b insns spot i place acc idx h = record {
   inside = h.inside;
   says = λ p ok head.
       h.says p ok head initial (record { accumulator = subst (λ k. IsKnown k p 0) (sym acc) refl; index = subst (λ k. IsKnown k p 0) (sym idx) refl })

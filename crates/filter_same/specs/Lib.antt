@@ -1,5 +1,3 @@
-pub mod Graphs
-pub mod Joins
 pub mod Packets
 pub mod Same
 pub mod Programs

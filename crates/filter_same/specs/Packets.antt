@@ -1,15 +1,14 @@
--- What the nodes of a graph say of packets.
-use Rattle.std.specs.Prelude.{◌≡◌, ⊤, ℕ, ◌-◌, ◌/◌, ◌%◌, ◌^◌, ◌<◌, Bool, true, false, not, List, length, Option, Some, None, nat_lt, nat_le, bit_and, slice_index, if◌then◌else◌}
+-- What the nodes of decision diagrams say of packets.
+use Rattle.std.specs.Prelude.{◌≡◌, ⊤, ℕ, ◌-◌, ◌/◌, ◌%◌, ◌^◌, ◌<◌, Bool, List, length, Option, Some, None, nat_lt, nat_le, bit_and, slice_index, if◌then◌else◌}
 use Rattle.filter_meaning.specs.declared.verdict.Verdict.{Verdict}
 use Rattle.filter_meaning.specs.declared.verdict.Verdict.TheVariants.{Abort}
-use Rattle.filter_meaning.specs.Meaning.{Packet, HasBytes, Test, decided, opposite, byte}
-use Rattle.filter_same.specs.declared.answer.Answer.{Answer}
-use Rattle.filter_same.specs.declared.answer.Answer.TheVariants.{Final, Never}
-use Rattle.filter_same.specs.declared.answer.Operation.{Operation}
-use Rattle.filter_same.specs.declared.answer.Operation.TheVariants.{And, Or}
-use Rattle.filter_same.specs.declared.table.Node.{Node}
-use Rattle.filter_same.specs.Graphs.{answer, is_set}
-use Rattle.filter_same.specs.declared.case.Case.{Case}
+use Rattle.filter_meaning.specs.Meaning.{Packet, HasBytes, Test, decided, byte}
+use Rattle.filter_bdd.specs.declared.answer.Answer.{Answer}
+use Rattle.filter_bdd.specs.declared.answer.Answer.TheVariants.{Final, Never}
+use Rattle.filter_bdd.specs.declared.table.Node.{Node}
+use Rattle.filter_bdd.specs.Diagrams.{answer, Grew}
+use Rattle.filter_bdd.specs.Fields.{is_set}
+use Rattle.filter_same.specs.declared.builder.Builder.{Builder}
 
 -- The bits of a packet by their names: 0 to 31 are those of its length on the wire, the highest first; bit 32 is the highest of the first
 -- captured byte. A byte past the captured ones has no bit set.
@@ -36,25 +35,12 @@ abbrev pub HasHeader : Option ℕ → Packet → Type 0
 HasHeader None p = ⊤
 HasHeader (Some n) p = (b : ℕ) → byte 14 p ≡ Some b → bit_and b 15 ≡ n
 
--- the answer itself, or its opposite
-abbrev pub agrees : Bool → Bool → Bool
-agrees true says = says
-agrees false says = not says
+-- node i says of each packet that has the header of a builder what a test answers
+pub record Means (b : Builder) (t : Test) (i : ℕ) : Type 0 where
+  pub inside : i < length b.diagrams
+  pub says : (p : Packet) → IsPacket p → HasHeader b.header p → verdict_at b.diagrams i p ≡ t p
 
-abbrev pub turned : Bool → Verdict → Verdict
-turned true verdict = verdict
-turned false verdict = opposite verdict
-
--- `and` of what is wanted is `or` of the opposites
-abbrev pub conjunction : Bool → Operation
-conjunction true = And
-conjunction false = Or
-
-abbrev pub disjunction : Bool → Operation
-disjunction true = Or
-disjunction false = And
-
--- node i says of each packet of a case what a test answers, or the opposite of it
-pub record Means (nodes : List Node) (case : Case) (t : Test) (i : ℕ) : Type 0 where
-  pub inside : i < length nodes
-  pub says : (p : Packet) → IsPacket p → HasHeader case.header p → verdict_at nodes i p ≡ turned case.wanted (t p)
+-- a builder has the nodes that it had, and more perhaps
+pub record Extends (old new : Builder) : Type 0 where
+  pub header : new.header ≡ old.header
+  pub grew : Grew old.diagrams new.diagrams

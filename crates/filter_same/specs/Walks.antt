@@ -6,7 +6,7 @@ use Rattle.bpfvm.specs.Machine.{Registers, Effect, Goes, Ends, effect_if, number
 use Rattle.bpfvm.specs.Validity.{is_return_code}
 use Rattle.filter_meaning.specs.declared.verdict.Verdict.TheVariants.{Abort}
 use Rattle.filter_meaning.specs.Meaning.{Packet, decided}
-use Rattle.filter_same.specs.declared.table.Node.{Node}
+use Rattle.filter_same.specs.declared.builder.Builder.{Builder}
 use Rattle.filter_same.specs.declared.known.Known.{Known}
 use Rattle.filter_same.specs.declared.known.Known.TheVariants.{Nothing, Number, Length, Bytes}
 use Rattle.filter_same.specs.declared.known.KnownRegisters.{KnownRegisters}
@@ -14,7 +14,9 @@ use Rattle.filter_same.specs.declared.steps.Condition.{Condition}
 use Rattle.filter_same.specs.declared.steps.Step.{Step}
 use Rattle.filter_same.specs.declared.steps.Step.TheVariants.{On, Load, Branch, End}
 use Rattle.filter_same.specs.declared.spots.Spot.{Spot}
-use Rattle.filter_same.specs.Graphs.{by_order}
+use Rattle.filter_same.specs.declared.programs.Visited.{Visited}
+use Rattle.filter_same.specs.declared.programs.Visited.TheVariants as visited
+use Rattle.filter_bdd.specs.Fields.{by_order}
 use Rattle.filter_same.specs.Packets.{IsPacket, HasHeader, verdict_at}
 use Rattle.filter_same.specs.Programs.{run_test}
 
@@ -51,16 +53,21 @@ IsStepOf header known i o s =
     (p : Packet) → IsPacket p → HasHeader header p → (r : Registers) → AreKnown known p r
     → IsEffect i (is_return_code o) r p (effect_if o p.captured p.wire i r) s
 
--- node i says of each packet of a header length what a run over these instructions does, if this is known of the registers
-pub record Follows (nodes : List Node) (header : Option ℕ) (insns : List Insn) (known : KnownRegisters) (i : ℕ) : Type 0 where
-  pub inside : i < length nodes
-  pub says : (p : Packet) → IsPacket p → HasHeader header p → (r : Registers) → AreKnown known p r → verdict_at nodes i p ≡ run_test insns 0 r p
+-- node i says of each packet that has the header of a builder what a run over these instructions does, if this is known of the registers
+pub record Follows (b : Builder) (insns : List Insn) (known : KnownRegisters) (i : ℕ) : Type 0 where
+  pub inside : i < length b.diagrams
+  pub says : (p : Packet) → IsPacket p → HasHeader b.header p → (r : Registers) → AreKnown known p r → verdict_at b.diagrams i p ≡ run_test insns 0 r p
 
 -- the node of a spot
-abbrev pub IsNodeOf : List Node → Option ℕ → List Insn → Spot → ℕ → Type 0
-IsNodeOf nodes header insns spot i = Follows nodes header (drop spot.place insns) spot.known i
+abbrev pub IsNodeOf : Builder → List Insn → Spot → ℕ → Type 0
+IsNodeOf b insns spot i = Follows b (drop spot.place insns) spot.known i
 
 -- each entry has a spot, and its node
-abbrev pub AreNodes : List Node → Option ℕ → List Insn → List (Spot × ℕ) → Type 0
-AreNodes nodes header insns [] = ⊤
-AreNodes nodes header insns (e ∷ es) = IsNodeOf nodes header insns e.0 e.1 × AreNodes nodes header insns es
+abbrev pub AreNodes : Builder → List Insn → List (Spot × ℕ) → Type 0
+AreNodes b insns [] = ⊤
+AreNodes b insns (e ∷ es) = IsNodeOf b insns e.0 e.1 × AreNodes b insns es
+
+-- what became of a spot: its node, or a spot that is to be visited first
+abbrev pub IsVisited : Builder → List Insn → Spot → Visited → Type 0
+IsVisited b insns spot (visited.Node i) = IsNodeOf b insns spot i
+IsVisited b insns spot (visited.First after) = ⊤

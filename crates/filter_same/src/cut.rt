@@ -1,21 +1,20 @@
-//! Answers that no packet shows, since more bytes would have to be captured than were on the wire.
+//! Answers that no packet shows: those that need more captured bytes than were on the wire, or an IPv4 header of another length.
 
-ghost use Rattle.std.specs.Prelude.{◌≡◌, ◌<◌, ◌≤◌, ◌^◌, length, IfOk};
-ghost use Rattle.filter_same.specs.Graphs.{Grew};
+ghost use Rattle.std.specs.Prelude.{◌≡◌, ◌<◌, ◌≤◌, ◌^◌, length, Some, IfOk, IfSome};
+ghost use Rattle.filter_same.specs.Packets.{Extends, HasHeader};
+ghost use Rattle.filter_same.specs.Same.{IsCaptured};
 ghost use Rattle.filter_same.specs.Findings.{KeepsNo};
 
-use crate::answer::{Answer, Operation};
-use crate::compare::{ByOrder, Field};
-use crate::graph::Graph;
-use crate::table::{Node, Stop};
+use crate::builder::Builder;
+use filter_bdd::{Answer, ByOrder, Field, Node, Operation, Stop};
 
-impl Graph {
+impl Builder {
     /// A node without each No that needs `size` captured bytes or more, where the packet is shorter.
-    #[tactic(auto, using(crate::proofs::Tables::grown_more))]
-    fn cut_at(&mut self, place: usize, size: u32) -> Result<usize, Stop>
-        requires { place < length self.old }
-        ensures keeps { IfOk result (KeepsNo self.old place self.new) }
-        ensures grew { Grew self.old self.new }
+    #[tactic(auto, using(crate::proofs::Builders::extends_by, crate::proofs::Builders::grew_more))]
+    fn cut_at(&mut self, place: u32, size: u32) -> Result<u32, Stop>
+        requires { place < length self.old.diagrams }
+        ensures keeps { IfOk result (KeepsNo IsCaptured self.old.diagrams place self.new.diagrams) }
+        ensures extends { Extends self.old self.new }
     {
         let wire = Field {
             last: 31,
@@ -27,36 +26,75 @@ impl Graph {
             equal: Answer::Final(size, true),
             greater: Answer::Final(size, true),
         };
-        let long = self.compare(wire, u64::from(size), fits)?;
-        self.join(Operation::Cut, long, place)
+        let long = self.diagrams.compare(wire, u64::from(size), fits)?;
+        self.diagrams.apply(Operation::Cut, long, place)
     }
 
     /// A node without each No that needs what the one at `leaf` does or more, where the packet is shorter. The node itself, if no No is
     /// there.
-    #[tactic(auto, using(crate::proofs::Ends::keeps_same, crate::proofs::Tables::grown_same))]
-    fn cut_as(&mut self, place: usize, leaf: usize) -> Result<usize, Stop>
-        requires place { place < length self.old }
-        requires leaf { leaf < length self.old }
-        ensures keeps { IfOk result (KeepsNo self.old place self.new) }
-        ensures grew { Grew self.old self.new }
+    #[tactic(auto, using(crate::proofs::Ends::keeps_same, crate::proofs::Builders::extends_same))]
+    fn cut_as(&mut self, place: u32, leaf: u32) -> Result<u32, Stop>
+        requires place { place < length self.old.diagrams }
+        requires leaf { leaf < length self.old.diagrams }
+        ensures keeps { IfOk result (KeepsNo IsCaptured self.old.diagrams place self.new.diagrams) }
+        ensures extends { Extends self.old self.new }
     {
-        match self.node(leaf) {
+        match self.diagrams.node(leaf) {
             Node::Leaf(Answer::Final(need, false)) => self.cut_at(place, need),
             _ => Ok(place),
         }
     }
 
     /// A node without each No that takes more captured bytes than were on the wire.
-    #[tactic(auto, using(crate::proofs::Tables::grown_more, crate::proofs::Tables::grown_same, crate::proofs::Tables::grown_inside))]
-    pub fn cut(&mut self, place: usize) -> Result<usize, Stop>
-        requires { place < length self.old }
-        ensures keeps { IfOk result (KeepsNo self.old place self.new) }
-        ensures grew { Grew self.old self.new }
+    #[tactic(auto, using(crate::proofs::Builders::extends_more, crate::proofs::Builders::extends_same, crate::proofs::Builders::inside_extended))]
+    pub fn cut(&mut self, place: u32) -> Result<u32, Stop>
+        requires { place < length self.old.diagrams }
+        ensures keeps { IfOk result (KeepsNo IsCaptured self.old.diagrams place self.new.diagrams) }
+        ensures extends { Extends self.old self.new }
     {
+        let Ok(count) = u32::try_from(self.diagrams.len()) else {
+            return Err(Stop::Budget);
+        };
         let mut cut = place;
-        for leaf in 0..self.len() {
+        for leaf in 0..count {
             cut = self.cut_as(cut, leaf)?;
         }
         Ok(cut)
+    }
+
+    /// A node without each No that needs the first byte of an IPv4 header of another length than `words`.
+    #[tactic(auto, using(crate::proofs::Builders::extends_by, crate::proofs::Builders::grew_more))]
+    fn cut_words(&mut self, place: u32, words: u32) -> Result<u32, Stop>
+        requires place { place < length self.old.diagrams }
+        requires words { words < 16 }
+        ensures keeps { IfOk result (KeepsNo (HasHeader (Some words)) self.old.diagrams place self.new.diagrams) }
+        ensures extends { Extends self.old self.new }
+    {
+        let low = Field {
+            last: 151,
+            width: 4,
+            mask: u64::MAX,
+        };
+        let same = ByOrder {
+            less: Answer::Final(15, false),
+            equal: Answer::Final(15, true),
+            greater: Answer::Final(15, false),
+        };
+        let header = self.diagrams.compare(low, u64::from(words), same)?;
+        self.diagrams.apply(Operation::Cut, header, place)
+    }
+
+    /// A node without each No that needs an IPv4 header of another length, if the length is known.
+    #[tactic(auto, using(crate::proofs::Ends::keeps_same, crate::proofs::Builders::extends_same))]
+    pub fn cut_header(&mut self, place: u32) -> Result<u32, Stop>
+        requires place { place < length self.old.diagrams }
+        requires header { IfSome self.old.header (λ n. n < 16) }
+        ensures keeps { IfOk result (KeepsNo (HasHeader self.old.header) self.old.diagrams place self.new.diagrams) }
+        ensures extends { Extends self.old self.new }
+    {
+        match self.header {
+            Some(words) => self.cut_words(place, words),
+            None => Ok(place),
+        }
     }
 }

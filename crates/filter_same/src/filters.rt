@@ -1,19 +1,17 @@
 //! Filters that are compared: expressions and programs.
 
-ghost use Rattle.std.specs.Prelude.{◌≡◌, ◌<◌, IfOk, IfSome, true};
+ghost use Rattle.std.specs.Prelude.{◌≡◌, ◌<◌, IfOk, IfSome, IsTrue};
 ghost use Rattle.filter_meaning.specs.Meaning.{decided};
-ghost use Rattle.filter_same.specs.Filters.{filter_test};
-ghost use Rattle.filter_same.specs.Graphs.{Grew};
-ghost use Rattle.filter_same.specs.Packets.{Means};
+ghost use Rattle.filter_same.specs.Filters.{filter_test, filter_accepts};
+ghost use Rattle.filter_same.specs.Packets.{Means, Extends};
 ghost use Rattle.filter_same.specs.Programs.{ended, program_test};
-ghost use Rattle.filter_same.specs.Same.{packet};
+ghost use Rattle.filter_same.specs.Same.{packet, AcceptSame};
 
-use crate::case::{Case, Refusal};
-use crate::graph::Graph;
-use crate::programs::program;
-use crate::trees::tree;
+use crate::alike::is_same_expr;
+use crate::builder::{Builder, Refusal};
+use crate::depth::{LEVELS, is_shallow};
 use crate::witness::Witness;
-use bpfvm::{Insn, NoMemory, Program, code, trace};
+use bpfvm::{How, Program, run_to_end};
 use filter_meaning::{Verdict, evaluate};
 use filter_tree::Expr;
 use std::alloc::Global;
@@ -25,17 +23,6 @@ pub enum Filter<'a> {
     Program(&'a Program),
 }
 
-/// The verdict of a run that an instruction ends.
-fn ended(insn: &Insn, answer: u32) -> Verdict
-    ensures { result ≡ ended insn.now answer }
-{
-    match insn.code {
-        code::RET_K => decided(answer > 0),
-        code::RET_A => decided(answer > 0),
-        _ => Verdict::Abort,
-    }
-}
-
 /// Yes or No.
 fn decided(says: bool) -> Verdict
     ensures { result ≡ decided says }
@@ -44,50 +31,59 @@ fn decided(says: bool) -> Verdict
 }
 
 /// What a program says of a packet. Bytes past the captured ones are an Abort, though the machine answers 0.
-fn program_verdict(alloc: Global, program: &Program, witness: &Witness) -> Result<Verdict, NoMemory>
-    ensures { IfOk result (λ v. v ≡ program_test program.now (packet witness.now)) }
+fn program_verdict(program: &Program, witness: &Witness) -> Verdict
+    ensures { result ≡ program_test program.now (packet witness.now) }
 {
-    let run = trace(alloc, program, &witness.bytes, witness.wire)?;
-    // Each run executes an instruction of the program, so there is a last one.
-    let Some((last, _)) = run.executed.as_slice().split_last() else {
-        return Err(NoMemory);
-    };
-    let Some(insn) = program.insns().get(last.place) else {
-        return Err(NoMemory);
-    };
-    Ok(ended(insn, run.answer))
+    match run_to_end(program, &witness.bytes, witness.wire).how {
+        How::Returned(answer) => decided(answer > 0),
+        How::NotCaptured | How::ZeroDivisor => Verdict::Abort,
+    }
 }
 
 impl Filter<'_> {
-    /// A node that says what the filter says of packets of a header length.
+    /// Whether an expression has at most [`LEVELS`] levels, so that what goes down in it needs a bounded stack. A program has none.
+    pub(crate) fn is_shallow(self) -> bool {
+        match self {
+            Filter::Expression(expr) => is_shallow(expr, LEVELS),
+            Filter::Program(_) => true,
+        }
+    }
+
+    /// Whether both are the same expression, or have the same instructions.
+    pub(crate) fn is_same(self, other: Filter<'_>) -> bool
+        ensures { IsTrue result → AcceptSame (filter_accepts self.entry) (filter_accepts other.entry) }
+    {
+        match (self, other) {
+            (Filter::Expression(expr), Filter::Expression(same)) => is_same_expr(expr, same),
+            (Filter::Program(program), Filter::Program(same)) => program.insns() == same.insns(),
+            _ => false,
+        }
+    }
+
+    /// A node that says what the filter says. At most `budget` places of a program are walked.
     pub(crate) fn node(
         self,
-        graph: &mut Graph,
+        builder: &mut Builder,
         alloc: Global,
-        header: Option<u32>,
         budget: usize,
-    ) -> Result<usize, Refusal>
-        requires { IfSome header (λ n. n < 16) }
-        ensures means { IfOk result (Means graph.new (record { header = header; wanted = true }) (filter_test self.entry)) }
-        ensures grew { Grew graph.old graph.new }
+    ) -> Result<u32, Refusal>
+        requires { IfSome builder.old.header (λ n. n < 16) }
+        ensures means { IfOk result (Means builder.new (filter_test self.entry)) }
+        ensures extends { Extends builder.old builder.new }
     {
-        let case = Case {
-            header,
-            wanted: true,
-        };
         match self {
-            Filter::Expression(expr) => tree(graph, case, expr),
-            Filter::Program(insns) => program(graph, alloc, header, insns, budget),
+            Filter::Expression(expr) => builder.tree(expr),
+            Filter::Program(program) => builder.program(alloc, program, budget),
         }
     }
 
     /// What the filter says of a packet.
-    pub(crate) fn verdict(self, alloc: Global, witness: &Witness) -> Result<Verdict, NoMemory>
-        ensures { IfOk result (λ v. v ≡ filter_test self.entry (packet witness.now)) }
+    pub(crate) fn verdict(self, witness: &Witness) -> Verdict
+        ensures { result ≡ filter_test self.entry (packet witness.now) }
     {
         match self {
-            Filter::Expression(expr) => Ok(evaluate(expr, &witness.bytes, witness.wire)),
-            Filter::Program(program) => program_verdict(alloc, program, witness),
+            Filter::Expression(expr) => evaluate(expr, &witness.bytes, witness.wire),
+            Filter::Program(program) => program_verdict(program, witness),
         }
     }
 }

@@ -1,19 +1,17 @@
-//! What the graphs of two filters show.
+//! What the decision diagrams of two filters show.
 
 ghost use Rattle.std.specs.Prelude.{◌≡◌, ℕ, ◌<◌, Bool, length, Some, true, IsTrue, IfOk, IfSome};
 ghost use Rattle.filter_meaning.specs.Meaning.{Packet, Test};
-ghost use Rattle.filter_same.specs.declared.answer.Answer.TheVariants.{Final};
-ghost use Rattle.filter_same.specs.Graphs.{answer};
-ghost use Rattle.filter_same.specs.Packets.{Means};
+ghost use Rattle.filter_bdd.specs.declared.answer.Answer.TheVariants.{Final};
+ghost use Rattle.filter_bdd.specs.Diagrams.{answer};
+ghost use Rattle.filter_same.specs.Packets.{Means, Extends};
 ghost use Rattle.filter_same.specs.Filters.{filter_test};
-ghost use Rattle.filter_same.specs.Findings.{ClaimOf, ClaimsOf, Claims};
+ghost use Rattle.filter_same.specs.Findings.{ClaimOf, ClaimsOf, Claims, HoldsUnlessNo, AcceptsAlike, AreNotApart};
 
-use crate::answer::{Answer, Operation};
-use crate::case::Refusal;
+use crate::builder::{Builder, Refusal};
 use crate::filters::Filter;
-use crate::graph::Graph;
-use crate::table::Stop;
 use crate::witness::{Extent, Witness};
+use filter_bdd::{Answer, Budget, Operation, Stop};
 use std::alloc::Global;
 
 /// What is so of two filters. Each claim is so where the one before it is.
@@ -53,74 +51,131 @@ impl Claim {
     }
 }
 
-impl Graph {
+/// Whether there is a packet, and no more of it was captured than was on the wire.
+fn is_captured(seen: &Option<Witness>) -> bool {
+    match seen {
+        Some(witness) => witness.is_captured(),
+        None => false,
+    }
+}
+
+impl Builder {
     /// Whether a node says Yes of everything.
-    fn is_always(&self, place: usize) -> bool
-        requires { place < length self.now }
-        ensures { IsTrue result → (v : ℕ → Bool) → answer self.now v place ≡ Final 0 true }
+    fn is_always(&self, place: u32) -> bool
+        requires { place < length self.now.diagrams }
+        ensures { IsTrue result → (v : ℕ → Bool) → answer self.now.diagrams v place ≡ Final 0 true }
     {
-        self.is(place, Answer::Final(0, true))
+        self.diagrams.is(place, Answer::Final(0, true))
+    }
+
+    /// A node that says No where one of two nodes accepts a packet and the other does not.
+    #[tactic(auto, using(crate::proofs::Builders::extends_by))]
+    fn agreement(&mut self, left: u32, right: u32) -> Result<u32, Stop>
+        requires left { left < length self.old.diagrams }
+        requires right { right < length self.old.diagrams }
+        ensures says { IfOk result (λ i. (t u : Test) → Means self.old t left → Means self.old u right → HoldsUnlessNo self.new i (AcceptsAlike t u)) }
+        ensures inside { IfOk result (λ i. i < length self.new.diagrams) }
+        ensures extends { Extends self.old self.new }
+    {
+        self.diagrams.apply(Operation::Agree, left, right)
+    }
+
+    /// A node that says No where one of two nodes says Yes of a packet and the other No.
+    #[tactic(auto, using(crate::proofs::Builders::extends_by))]
+    fn clash(&mut self, left: u32, right: u32) -> Result<u32, Stop>
+        requires left { left < length self.old.diagrams }
+        requires right { right < length self.old.diagrams }
+        ensures says { IfOk result (λ i. (t u : Test) → Means self.old t left → Means self.old u right → HoldsUnlessNo self.new i (AreNotApart t u)) }
+        ensures inside { IfOk result (λ i. i < length self.new.diagrams) }
+        ensures extends { Extends self.old self.new }
+    {
+        self.diagrams.apply(Operation::Apart, left, right)
+    }
+
+    /// What is claimed of packets of which no more was captured than was on the wire, by a node of what both accept and one of where they
+    /// clash.
+    #[tactic(auto, using(crate::proofs::Builders::extends_more, crate::proofs::Builders::extends_same, crate::proofs::Builders::inside_extended))]
+    fn find_captured(&mut self, alloc: Global, agree: u32, clash: u32) -> Result<Finding, Stop>
+        requires header { IfSome self.old.header (λ n. n < 16) }
+        requires agree { agree < length self.old.diagrams }
+        requires clash { clash < length self.old.diagrams }
+        ensures { IfOk result (λ found. (t u : Test) → HoldsUnlessNo self.old agree (AcceptsAlike t u) → HoldsUnlessNo self.old clash (AreNotApart t u)
+            → ClaimsOf self.old.header t u found.claim) }
+    {
+        let short = self.cut(agree)?;
+        if self.is_always(short) {
+            return Ok(Finding {
+                claim: Claim::SameAsCaptured,
+                witness: None,
+            });
+        }
+        let apart = self.cut(clash)?;
+        if self.is_always(apart) {
+            return Ok(Finding {
+                claim: Claim::NeverApart,
+                witness: self.witness(alloc, short, Extent::Least)?,
+            });
+        }
+        Ok(Finding {
+            claim: Claim::Nothing,
+            witness: self.witness(alloc, apart, Extent::Whole)?,
+        })
+    }
+
+    /// Compares two filters on the packets of the header length, by the nodes that they are. A packet that shows a difference is looked for
+    /// before what cannot be captured is cut away.
+    #[tactic(auto, using(crate::proofs::Builders::extends_more, crate::proofs::Builders::extends_same, crate::proofs::Builders::inside_extended))]
+    fn find(&mut self, alloc: Global, left: u32, right: u32) -> Result<Finding, Stop>
+        requires header { IfSome self.old.header (λ n. n < 16) }
+        requires left { left < length self.old.diagrams }
+        requires right { right < length self.old.diagrams }
+        ensures { IfOk result (λ found. (t u : Test) → Means self.old t left → Means self.old u right → ClaimsOf self.old.header t u found.claim) }
+    {
+        let all = self.agreement(left, right)?;
+        if self.is_always(all) {
+            return Ok(Finding {
+                claim: Claim::Same,
+                witness: None,
+            });
+        }
+        let agree = self.cut_header(all)?;
+        if self.is_always(agree) {
+            return Ok(Finding {
+                claim: Claim::Same,
+                witness: None,
+            });
+        }
+        let apart = self.clash(left, right)?;
+        let clash = self.cut_header(apart)?;
+        let seen = self.witness(alloc, clash, Extent::Whole)?;
+        if is_captured(&seen) {
+            return Ok(Finding {
+                claim: Claim::Nothing,
+                witness: seen,
+            });
+        }
+        self.find_captured(alloc, agree, clash)
     }
 }
 
-/// Compares two filters on the packets of one header length, by the nodes that they are.
-#[tactic(auto, using(crate::proofs::Tables::grown_more, crate::proofs::Tables::grown_inside))]
-fn find_in(
-    graph: &mut Graph,
-    alloc: Global,
-    header: Option<u32>,
-    left: usize,
-    right: usize,
-) -> Result<Finding, Stop>
-    requires header { IfSome header (λ n. n < 16) }
-    requires left { left < length graph.old }
-    requires right { right < length graph.old }
-    ensures { IfOk result (λ found. (t u : Test) → Means graph.old (record { header = header; wanted = true }) t left
-        → Means graph.old (record { header = header; wanted = true }) u right → ClaimsOf header t u found.claim) }
-{
-    let agree = graph.join(Operation::Agree, left, right)?;
-    if graph.is_always(agree) {
-        return Ok(Finding {
-            claim: Claim::Same,
-            witness: None,
-        });
-    }
-    let short = graph.cut(agree)?;
-    if graph.is_always(short) {
-        return Ok(Finding {
-            claim: Claim::SameAsCaptured,
-            witness: None,
-        });
-    }
-    let apart = graph.join(Operation::Apart, left, right)?;
-    let clash = graph.cut(apart)?;
-    if graph.is_always(clash) {
-        return Ok(Finding {
-            claim: Claim::NeverApart,
-            witness: graph.witness(alloc, short, header, Extent::Least)?,
-        });
-    }
-    Ok(Finding {
-        claim: Claim::Nothing,
-        witness: graph.witness(alloc, clash, header, Extent::Whole)?,
-    })
-}
-
-/// Compares two filters on the packets of one header length, or on all where none is given and none is asked for.
+/// Compares two filters on the packets of one header length, or on all where none is given and none is asked for. It leaves of the budget
+/// what was not spent.
 fn find(
     alloc: Global,
     header: Option<u32>,
     first: Filter<'_>,
     second: Filter<'_>,
-    budget: usize,
+    budget: &mut Budget,
 ) -> Result<Finding, Refusal>
     requires { IfSome header (λ n. n < 16) }
     ensures { IfOk result (λ found. ClaimsOf header (filter_test first.entry) (filter_test second.entry) found.claim) }
 {
-    let mut graph = Graph::new(alloc, budget);
-    let left = first.node(&mut graph, alloc, header, budget)?;
-    let right = second.node(&mut graph, alloc, header, budget)?;
-    let found = find_in(&mut graph, alloc, header, left, right)?;
+    let spots = budget.nodes;
+    let mut builder = Builder::new(alloc, header, *budget);
+    let left = first.node(&mut builder, alloc, spots)?;
+    let right = second.node(&mut builder, alloc, spots)?;
+    let found = builder.find(alloc, left, right)?;
+    *budget = builder.diagrams.budget();
     Ok(found)
 }
 
@@ -129,15 +184,16 @@ fn find_each(
     alloc: Global,
     first: Filter<'_>,
     second: Filter<'_>,
-    budget: usize,
+    budget: Budget,
 ) -> Result<Finding, Refusal>
     ensures { IfOk result (λ found. Claims (filter_test first.entry) (filter_test second.entry) found.claim) }
 {
+    let mut left = budget;
     let mut least = Claim::Same;
     let mut shown = None;
     for place in 0..16 {
         let header = Some((place + 5) % 16);
-        let found = find(alloc, header, first, second, budget)?;
+        let found = find(alloc, header, first, second, &mut left)?;
         let Finding { claim, witness } = found;
         if claim == Claim::Nothing {
             return Ok(Finding {
@@ -162,11 +218,12 @@ pub(crate) fn find_all(
     alloc: Global,
     first: Filter<'_>,
     second: Filter<'_>,
-    budget: usize,
+    budget: Budget,
 ) -> Result<Finding, Refusal>
     ensures { IfOk result (λ found. Claims (filter_test first.entry) (filter_test second.entry) found.claim) }
 {
-    match find(alloc, None, first, second, budget) {
+    let mut left = budget;
+    match find(alloc, None, first, second, &mut left) {
         Err(Refusal::Header) => find_each(alloc, first, second, budget),
         Err(other) => Err(other),
         Ok(found) => Ok(found),

@@ -4,14 +4,13 @@
 //! [`decide_filters`] says the same of any two filters: each is an expression or a program.
 #![tactic(auto)]
 
-mod answer;
-mod case;
-mod compare;
+mod alike;
+mod builder;
 mod cut;
+mod depth;
 mod fields;
 mod filters;
 mod find;
-mod graph;
 mod known;
 pub mod laws;
 mod plain;
@@ -21,7 +20,6 @@ mod relations;
 mod sameness;
 mod spots;
 mod steps;
-mod table;
 mod terms;
 mod trees;
 mod witness;

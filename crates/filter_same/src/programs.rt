@@ -1,28 +1,33 @@
-//! Programs as nodes of a graph.
+//! Programs as nodes of decision diagrams.
 
-ghost use Rattle.std.specs.Prelude.{◌≡◌, ◌*◌, ◌^◌, ◌<◌, ◌≤◌, ℕ, length, nat_le, IfOk, IfSome, IsTrue, if◌then◌else◌, true};
+ghost use Rattle.std.specs.Prelude.{◌≡◌, ◌*◌, ◌^◌, ◌<◌, ◌≤◌, ℕ, length, nat_le, IfOk, IfSome, IsTrue, if◌then◌else◌};
 ghost use Rattle.filter_meaning.specs.declared.verdict.Verdict.TheVariants.{Abort};
 ghost use Rattle.filter_meaning.specs.Meaning.{Packet, decided};
-ghost use Rattle.filter_same.specs.Graphs.{Grew};
-ghost use Rattle.filter_same.specs.Packets.{IsPacket, HasHeader, Means, verdict_at, turned};
+ghost use Rattle.filter_same.specs.Packets.{IsPacket, HasHeader, Means, Extends, verdict_at};
 ghost use Rattle.filter_same.specs.Programs.{program_test};
-ghost use Rattle.filter_same.specs.Walks.{IsKnown, compares, IsNodeOf, AreNodes};
+ghost use Rattle.filter_same.specs.Walks.{IsKnown, compares, AreNodes, IsVisited};
 
-use crate::answer::Answer;
-use crate::case::{Case, Refusal, both, either};
-use crate::fields::{bytes_test, wire_test};
-use crate::graph::Graph;
+use crate::builder::{Builder, Refusal};
 use crate::known::{Known, KnownRegisters};
 use crate::spots::{Spot, Spots};
 use crate::steps::{Condition, OFFSETS, Step, step_of};
 use bpfvm::{Insn, Program};
+use filter_bdd::{Answer, Stop};
 use std::alloc::Global;
 
-/// Instructions, and the header length of the packets that they are walked for.
+/// Where a run begins.
+const START: Spot = Spot {
+    place: 0,
+    known: KnownRegisters::INITIAL,
+};
+
+/// What became of a spot.
 #[derive(Clone, Copy)]
-struct Walk<'a> {
-    insns: &'a [Insn],
-    header: Option<u32>,
+enum Visited {
+    /// Its node.
+    Node(u32),
+    /// A spot after it, which is to be visited first.
+    First(Spot),
 }
 
 /// Whether a number has no more bytes than so many.
@@ -33,140 +38,153 @@ fn fits(size: u32, number: u32) -> bool
     u64::from(number) < 1u64 << (8 * size)
 }
 
-/// Whether a number of which something is known compares as a condition asks.
-fn comparison(graph: &mut Graph, case: Case, condition: Condition) -> Result<usize, Refusal>
-    ensures says { IfOk result (λ i. (p : Packet) → IsPacket p → HasHeader case.header p → (x : ℕ) → IsKnown condition.known p x
-        → verdict_at graph.new i p ≡ turned case.wanted (decided (compares condition x))) }
-    ensures inside { IfOk result (λ i. i < length graph.new) }
-    ensures grew { Grew graph.old graph.new }
-{
-    let number = condition.number;
-    match condition.known {
-        Known::Bytes(bytes) => {
-            if bytes.offset >= OFFSETS || bytes.size > 4 || !fits(bytes.size, number) {
-                return Err(Refusal::Relation);
+impl Builder {
+    /// Whether a number of which something is known compares as a condition asks.
+    fn comparison(&mut self, condition: Condition) -> Result<u32, Refusal>
+        ensures says { IfOk result (λ i. (p : Packet) → IsPacket p → HasHeader self.old.header p → (x : ℕ) → IsKnown condition.known p x
+            → verdict_at self.new.diagrams i p ≡ decided (compares condition x)) }
+        ensures inside { IfOk result (λ i. i < length self.new.diagrams) }
+        ensures extends { Extends self.old self.new }
+    {
+        let number = condition.number;
+        match condition.known {
+            Known::Bytes(bytes) => {
+                if bytes.offset >= OFFSETS || bytes.size > 4 || !fits(bytes.size, number) {
+                    return Err(Refusal::Relation);
+                }
+                Ok(self.bytes_test(bytes, u64::from(number), condition.holds)?)
             }
-            Ok(bytes_test(graph, case, bytes, u64::from(number), condition.holds)?)
-        }
-        Known::Length => Ok(wire_test(graph, case, number, condition.holds)?),
-        Known::Number(_) | Known::Nothing => Err(Refusal::Relation),
-    }
-}
-
-/// A node that goes on at `yes` where a condition holds, and at `no` where it does not.
-fn choice(
-    graph: &mut Graph,
-    header: Option<u32>,
-    condition: Condition,
-    yes: usize,
-    no: usize,
-) -> Result<usize, Refusal>
-    requires yes { yes < length graph.old }
-    requires no { no < length graph.old }
-    ensures says { IfOk result (λ i. (p : Packet) → IsPacket p → HasHeader header p → (x : ℕ) → IsKnown condition.known p x
-        → verdict_at graph.new i p ≡ (if compares condition x then verdict_at graph.old yes p else verdict_at graph.old no p)) }
-    ensures inside { IfOk result (λ i. i < length graph.new) }
-    ensures grew { Grew graph.old graph.new }
-{
-    let case = Case {
-        header,
-        wanted: true,
-    };
-    let holds = comparison(graph, case, condition)?;
-    let fails = comparison(graph, case.opposite(), condition)?;
-    let first = both(graph, case, holds, yes)?;
-    let second = both(graph, case, fails, no)?;
-    Ok(either(graph, case, first, second)?)
-}
-
-/// A node that aborts where fewer bytes were captured, and else goes on at another one.
-fn captured(
-    graph: &mut Graph,
-    header: Option<u32>,
-    need: u32,
-    rest: usize,
-) -> Result<usize, Refusal>
-    requires { rest < length graph.old }
-    ensures says { IfOk result (λ i. (p : Packet) → IsPacket p → HasHeader header p
-        → verdict_at graph.new i p ≡ (if nat_le need (length p.captured) then verdict_at graph.old rest p else Abort)) }
-    ensures inside { IfOk result (λ i. i < length graph.new) }
-    ensures grew { Grew graph.old graph.new }
-{
-    let case = Case {
-        header,
-        wanted: true,
-    };
-    let enough = graph.leaf(Answer::Final(need, true))?;
-    Ok(both(graph, case, enough, rest)?)
-}
-
-/// The node of a spot. It goes as deep as a run of the program goes, and walks no spot twice.
-fn visit(graph: &mut Graph, spots: &mut Spots, walk: Walk<'_>, spot: Spot) -> Result<usize, Refusal>
-    requires header { IfSome walk.header (λ n. n < 16) }
-    requires spots { AreNodes graph.old walk.header walk.insns.now spots.old }
-    ensures node { IfOk result (λ i. IsNodeOf graph.new walk.entry.header walk.entry.insns.now spot i) }
-    ensures spots { IfOk result (λ i. AreNodes graph.new walk.entry.header walk.entry.insns.now spots.new) }
-    ensures grew { Grew graph.old graph.new }
-{
-    if spot.place >= walk.insns.len() {
-        return Err(Refusal::Relation);
-    }
-    let insn = &walk.insns[spot.place];
-    let here = Spot {
-        place: spot.place,
-        known: spot.known.read_by(insn),
-    };
-    if let Some(node) = spots.node(here) {
-        return Ok(node);
-    }
-    let next = spot.place + 1;
-    let step = step_of(walk.header, here.known, insn)?;
-    match step {
-        Step::On(passed, known) => {
-            let place = next + passed as usize;
-            let rest = visit(graph, spots, walk, Spot { place, known })?;
-            Ok(spots.keep(here, rest)?)
-        }
-        Step::Load(need, known) => {
-            let rest = visit(graph, spots, walk, Spot { place: next, known })?;
-            let whole = captured(graph, walk.header, need, rest)?;
-            Ok(spots.keep(here, whole)?)
-        }
-        Step::Branch(condition) => {
-            let holds = here.after(next + usize::from(insn.jt));
-            let fails = here.after(next + usize::from(insn.jf));
-            let yes = visit(graph, spots, walk, holds)?;
-            let no = visit(graph, spots, walk, fails)?;
-            let whole = choice(graph, walk.header, condition, yes, no)?;
-            Ok(spots.keep(here, whole)?)
-        }
-        Step::End(says) => {
-            let end = graph.leaf(Answer::Final(0, says))?;
-            Ok(spots.keep(here, end)?)
+            Known::Length => Ok(self.wire_test(number, condition.holds)?),
+            Known::Number(_) | Known::Nothing => Err(Refusal::Relation),
         }
     }
-}
 
-/// A node that says what a program says of packets of a header length. At most `budget` spots are walked.
-pub(crate) fn program(
-    graph: &mut Graph,
-    alloc: Global,
-    header: Option<u32>,
-    program: &Program,
-    budget: usize,
-) -> Result<usize, Refusal>
-    requires { IfSome header (λ n. n < 16) }
-    ensures means { IfOk result (Means graph.new (record { header = header; wanted = true }) (program_test program.now)) }
-    ensures grew { Grew graph.old graph.new }
-{
-    let mut spots = Spots::new(alloc, budget);
-    let walk = Walk {
-        insns: program.insns(),
-        header,
-    };
-    let start = Spot {
-        place: 0,
-        known: KnownRegisters::INITIAL,
-    };
-    visit(graph, &mut spots, walk, start)
+    /// A node that goes on at `yes` where a condition holds, and at `no` where it does not.
+    #[tactic(auto, using(crate::proofs::Builders::extends_more, crate::proofs::Builders::inside_extended))]
+    fn jump(&mut self, condition: Condition, yes: u32, no: u32) -> Result<u32, Refusal>
+        requires yes { yes < length self.old.diagrams }
+        requires no { no < length self.old.diagrams }
+        ensures says { IfOk result (λ i. (p : Packet) → IsPacket p → HasHeader self.old.header p → (x : ℕ) → IsKnown condition.known p x
+            → verdict_at self.new.diagrams i p ≡ (if compares condition x then verdict_at self.old.diagrams yes p else verdict_at self.old.diagrams no p)) }
+        ensures inside { IfOk result (λ i. i < length self.new.diagrams) }
+        ensures extends { Extends self.old self.new }
+    {
+        let holds = self.comparison(condition)?;
+        Ok(self.choice(holds, yes, no)?)
+    }
+
+    /// A node that aborts where fewer bytes were captured, and else goes on at another one.
+    #[tactic(auto, using(crate::proofs::Builders::extends_more, crate::proofs::Builders::inside_extended))]
+    fn captured(&mut self, need: u32, rest: u32) -> Result<u32, Stop>
+        requires { rest < length self.old.diagrams }
+        ensures says { IfOk result (λ i. (p : Packet) → IsPacket p → HasHeader self.old.header p
+            → verdict_at self.new.diagrams i p ≡ (if nat_le need (length p.captured) then verdict_at self.old.diagrams rest p else Abort)) }
+        ensures inside { IfOk result (λ i. i < length self.new.diagrams) }
+        ensures extends { Extends self.old self.new }
+    {
+        let enough = self.leaf(Answer::Final(need, true))?;
+        self.both(enough, rest)
+    }
+
+    /// The node of a spot, or else a spot after it whose node is not known.
+    #[tactic(auto, using(crate::proofs::Builders::extends_more, crate::proofs::Builders::extends_same, crate::proofs::Builders::inside_extended))]
+    fn visit(&mut self, spots: &mut Spots, insns: &[Insn], spot: Spot) -> Result<Visited, Refusal>
+        requires header { IfSome self.old.header (λ n. n < 16) }
+        requires spots { AreNodes self.old insns.now spots.old }
+        ensures node { IfOk result (IsVisited self.new insns.now spot) }
+        ensures spots { IfOk result (λ v. AreNodes self.new insns.now spots.new) }
+        ensures extends { Extends self.old self.new }
+    {
+        if let Some(node) = spots.known(insns, spot) {
+            return Ok(Visited::Node(node));
+        }
+        if spot.place >= insns.len() {
+            return Err(Refusal::Relation);
+        }
+        let insn = &insns[spot.place];
+        let here = spot.read_by(insn);
+        let next = spot.place + 1;
+        let step = step_of(self.header, here.known, insn)?;
+        match step {
+            Step::On(passed, known) => {
+                let place = next + passed as usize;
+                let after = Spot { place, known };
+                let Some(rest) = spots.known(insns, after) else {
+                    return Ok(Visited::First(after));
+                };
+                Ok(Visited::Node(spots.keep(here, rest)?))
+            }
+            Step::Load(need, known) => {
+                let after = Spot { place: next, known };
+                let Some(rest) = spots.known(insns, after) else {
+                    return Ok(Visited::First(after));
+                };
+                let whole = self.captured(need, rest)?;
+                Ok(Visited::Node(spots.keep(here, whole)?))
+            }
+            Step::Branch(condition) => {
+                let holds = here.after(next + usize::from(insn.jt));
+                let fails = here.after(next + usize::from(insn.jf));
+                let Some(yes) = spots.known(insns, holds) else {
+                    return Ok(Visited::First(holds));
+                };
+                let Some(no) = spots.known(insns, fails) else {
+                    return Ok(Visited::First(fails));
+                };
+                let whole = self.jump(condition, yes, no)?;
+                Ok(Visited::Node(spots.keep(here, whole)?))
+            }
+            Step::End(says) => {
+                let end = self.leaf(Answer::Final(0, says))?;
+                Ok(Visited::Node(spots.keep(here, end)?))
+            }
+        }
+    }
+
+    /// The node of the first spot.
+    fn whole(&self, spots: &Spots, insns: &[Insn]) -> Result<u32, Refusal>
+        requires { AreNodes self.now insns.now spots.now }
+        ensures { IfOk result (Means self.now (program_test insns.now)) }
+    {
+        match spots.known(insns, START) {
+            Some(node) => Ok(node),
+            None => Err(Refusal::Budget),
+        }
+    }
+
+    /// A node that says what a program says. At most `budget` spots are walked: from the first instruction on, each after those that its run
+    /// goes on at.
+    #[tactic(auto, using(crate::proofs::Builders::extends_more, crate::proofs::Builders::extends_same, crate::proofs::Builders::inside_extended))]
+    pub fn program(
+        &mut self,
+        alloc: Global,
+        program: &Program,
+        budget: usize,
+    ) -> Result<u32, Refusal>
+        requires { IfSome self.old.header (λ n. n < 16) }
+        ensures means { IfOk result (Means self.new (program_test program.now)) }
+        ensures extends { Extends self.old self.new }
+    {
+        let insns = program.insns();
+        let mut spots = Spots::new(alloc, budget);
+        let mut waiting = Vec::new(alloc);
+        let mut spot = START;
+        for _ in 0..u64::MAX {
+            match self.visit(&mut spots, insns, spot)? {
+                Visited::First(first) => {
+                    if waiting.push(spot).is_err() {
+                        return Err(Refusal::Memory);
+                    }
+                    spot = first;
+                }
+                Visited::Node(_) => {
+                    let Some(last) = waiting.pop() else {
+                        return self.whole(&spots, insns);
+                    };
+                    spot = last;
+                }
+            }
+        }
+        Err(Refusal::Budget)
+    }
 }

@@ -7,11 +7,12 @@ ghost use Rattle.filter_same.specs.Same.{AreNeverApart, Holds, HoldsOf, packet};
 ghost use Rattle.filter_same.specs.Filters.{HoldsOfFilters, filter_test};
 ghost use Rattle.filter_same.specs.Findings.{Claims};
 
-use crate::case::Refusal;
+use crate::builder::Refusal;
 use crate::filters::Filter;
 use crate::find::{Claim, Finding, find_all};
 use crate::witness::Witness;
 use bpfvm::NoMemory;
+use filter_bdd::Budget;
 use filter_meaning::Verdict;
 use filter_tree::Expr;
 use std::alloc::Global;
@@ -19,11 +20,11 @@ use std::alloc::Global;
 /// Why two filters are not decided.
 #[derive(Clone, Copy, Debug, PartialEq, Eq)]
 pub enum Cause {
-    /// Their graphs differ, and no packet was found that shows how the filters do.
+    /// Their diagrams differ, and no packet was found that shows how the filters do.
     Graphs,
     /// The budget is spent.
     Budget,
-    /// An expression has a relation of another kind, or a program calculates, or reads, what the graph can't test.
+    /// An expression has a relation of another kind, or a program calculates, or reads, what no diagram is made of.
     Relation,
 }
 
@@ -65,16 +66,13 @@ fn is_short(first: Verdict, second: Verdict) -> bool
     }
 }
 
-/// Whether no more of a packet was captured than was on the wire.
-fn is_captured(witness: &Witness) -> bool
-    ensures { IsTrue result → length witness.now.bytes.items ≤ witness.now.wire }
-{
-    witness.bytes.len() <= witness.wire as usize
-}
+/// How many steps are taken in all for each node that a diagram may have.
+const STEPS: u64 = 6;
 
 /// What two expressions do on every packet there can be. Each answer but [`Sameness::NotDecided`] is so.
 ///
-/// `budget` is how many nodes a graph may have, and how many pairs of them it may join. `NoMemory` if memory is refused.
+/// `budget` is how many nodes the diagrams of one header length may have, and a sixth of the steps that are taken in all. `NoMemory` if
+/// memory is refused.
 pub fn decide(
     alloc: Global,
     first: &Expr,
@@ -92,10 +90,11 @@ pub fn decide(
 }
 
 /// What two filters do on every packet there can be. Each answer but [`Sameness::NotDecided`] is so. A program accepts a packet if it keeps
-/// any bytes of it, and aborts if it reads past the captured bytes or divides by 0.
+/// any bytes of it, and aborts if it reads past the captured bytes or divides by 0. Filters with the same tree, or the same instructions, are
+/// the same, whatever they calculate.
 ///
-/// `budget` is how many nodes a graph may have, how many pairs of them it may join, and at how many places of a program it may look.
-/// `NoMemory` if memory is refused.
+/// `budget` is how many nodes the diagrams of one header length may have, at how many places of a program it may look, and a sixth of the
+/// steps that are taken in all. An expression of more than 1,000 levels is over it. `NoMemory` if memory is refused.
 pub fn decide_filters(
     alloc: Global,
     first: Filter<'_>,
@@ -104,8 +103,18 @@ pub fn decide_filters(
 ) -> Result<Sameness, NoMemory>
     ensures { IfOk result (HoldsOfFilters first.entry second.entry) }
 {
-    match find_all(alloc, first, second, budget) {
-        Ok(found) => sameness_of(alloc, first, second, found),
+    if !first.is_shallow() || !second.is_shallow() {
+        return Ok(Sameness::NotDecided(Cause::Budget));
+    }
+    if first.is_same(second) {
+        return Ok(Sameness::Same);
+    }
+    let whole = Budget {
+        nodes: budget,
+        steps: STEPS.saturating_mul(budget as u64),
+    };
+    match find_all(alloc, first, second, whole) {
+        Ok(found) => Ok(sameness_of(first, second, found)),
         Err(Refusal::Memory) => Err(NoMemory),
         Err(Refusal::Relation) => Ok(Sameness::NotDecided(Cause::Relation)),
         Err(_) => Ok(Sameness::NotDecided(Cause::Budget)),
@@ -113,30 +122,25 @@ pub fn decide_filters(
 }
 
 /// What is known by a finding, once both filters have judged its packet.
-fn sameness_of(
-    alloc: Global,
-    first: Filter<'_>,
-    second: Filter<'_>,
-    found: Finding,
-) -> Result<Sameness, NoMemory>
+fn sameness_of(first: Filter<'_>, second: Filter<'_>, found: Finding) -> Sameness
     requires { Claims (filter_test first) (filter_test second) found.claim }
-    ensures { IfOk result (HoldsOfFilters first.entry second.entry) }
+    ensures { HoldsOfFilters first.entry second.entry result }
 {
     let Finding { claim, witness } = found;
     match (claim, witness) {
-        (Claim::Same, _) => Ok(Sameness::Same),
-        (Claim::SameAsCaptured, _) => Ok(Sameness::SameAsCaptured),
+        (Claim::Same, _) => Sameness::Same,
+        (Claim::SameAsCaptured, _) => Sameness::SameAsCaptured,
         (Claim::NeverApart, Some(witness)) => {
-            let one = first.verdict(alloc, &witness)?;
-            let other = second.verdict(alloc, &witness)?;
-            Ok(short(one, other, witness))
+            let one = first.verdict(&witness);
+            let other = second.verdict(&witness);
+            short(one, other, witness)
         }
         (Claim::Nothing, Some(witness)) => {
-            let one = first.verdict(alloc, &witness)?;
-            let other = second.verdict(alloc, &witness)?;
-            Ok(apart(one, other, witness))
+            let one = first.verdict(&witness);
+            let other = second.verdict(&witness);
+            apart(one, other, witness)
         }
-        (_, None) => Ok(Sameness::NotDecided(Cause::Graphs)),
+        (_, None) => Sameness::NotDecided(Cause::Graphs),
     }
 }
 
@@ -144,7 +148,7 @@ fn sameness_of(
 fn short(first: Verdict, second: Verdict, witness: Witness) -> Sameness
     ensures { (f g : Packet → Bool) → (t u : Test) → AreNeverApart t u → first ≡ t (packet witness) → second ≡ u (packet witness) → HoldsOf f g t u result }
 {
-    if is_captured(&witness) && is_short(first, second) {
+    if witness.is_captured() && is_short(first, second) {
         Sameness::Short(witness)
     } else {
         Sameness::NotDecided(Cause::Graphs)
@@ -155,7 +159,7 @@ fn short(first: Verdict, second: Verdict, witness: Witness) -> Sameness
 fn apart(first: Verdict, second: Verdict, witness: Witness) -> Sameness
     ensures { (f g : Packet → Bool) → (t u : Test) → first ≡ t (packet witness) → second ≡ u (packet witness) → HoldsOf f g t u result }
 {
-    if is_captured(&witness) && are_apart(first, second) {
+    if witness.is_captured() && are_apart(first, second) {
         Sameness::Differ(witness)
     } else {
         Sameness::NotDecided(Cause::Graphs)

@@ -1,12 +1,15 @@
 //! Places of a program that were walked.
 
-ghost use Rattle.std.specs.Prelude.{◌≡◌, ℕ, List, Option, IfOk, IfSome, IsTrue, []};
+ghost use Rattle.std.specs.Prelude.{◌≡◌, List, IfOk, IfSome, IsTrue, []};
 ghost use Rattle.bpfvm.specs.declared.insn.Insn.{Insn};
-ghost use Rattle.filter_same.specs.declared.table.Node.{Node};
-ghost use Rattle.filter_same.specs.Walks.{IsNodeOf, AreNodes};
+ghost use Rattle.filter_same.specs.declared.builder.Builder.{Builder};
+ghost use Rattle.bpfvm.specs.Machine.{Registers};
+ghost use Rattle.filter_meaning.specs.Meaning.{Packet};
+ghost use Rattle.filter_same.specs.Walks.{AreKnown, IsNodeOf, AreNodes};
 
 use crate::known::KnownRegisters;
-use crate::table::Stop;
+use bpfvm::Insn;
+use filter_bdd::Stop;
 use indexmap::IndexMap;
 use std::alloc::Global;
 use std::marker::Model;
@@ -27,6 +30,17 @@ impl Spot {
         self.place == other.place && self.known.is(other.known)
     }
 
+    /// The same place, where nothing is known but what its instruction reads. So places where runs meet are walked once.
+    pub fn read_by(self, insn: &Insn) -> Spot
+        ensures place { result.place ≡ self.place }
+        ensures known { (p : Packet) → (r : Registers) → AreKnown self.known p r → AreKnown result.known p r }
+    {
+        Spot {
+            place: self.place,
+            known: self.known.read_by(insn),
+        }
+    }
+
     /// Another place, where the same is known.
     pub fn after(self, place: usize) -> Spot
         ensures place { result.place ≡ place }
@@ -42,7 +56,7 @@ impl Spot {
 /// The nodes of the spots that were walked.
 #[derive(Drop)]
 pub(crate) struct Spots {
-    nodes: Vec<(Spot, usize)>,
+    nodes: Vec<(Spot, u32)>,
     /// Where in `nodes` a spot is.
     places: IndexMap<Spot, usize>,
     budget: usize,
@@ -69,10 +83,10 @@ impl Spots {
         }
     }
 
-    /// The node of a spot, if it was walked.
-    pub fn node(&self, spot: Spot) -> Option<usize>
-        ensures { IfSome result (λ i. (nodes : List Node) → (header : Option ℕ) → (insns : List Insn) → AreNodes nodes header insns self.now
-            → IsNodeOf nodes header insns spot i) }
+    /// The node of a spot that has nothing but what its instruction reads, if it was walked.
+    fn node(&self, spot: Spot) -> Option<u32>
+        ensures { IfSome result (λ i. (b : Builder) → (insns : List Insn) → AreNodes b insns self.now
+            → IsNodeOf b insns spot i) }
     {
         let place = self.places.get(&spot).copied()?;
         if place >= self.nodes.len() {
@@ -82,11 +96,19 @@ impl Spots {
         if walked.is(spot) { Some(node) } else { None }
     }
 
+    /// The node of a spot, if it was walked.
+    pub fn known(&self, insns: &[Insn], spot: Spot) -> Option<u32>
+        ensures { IfSome result (λ i. (b : Builder) → AreNodes b insns.now self.now → IsNodeOf b insns.now spot i) }
+    {
+        let insn = insns.get(spot.place)?;
+        self.node(spot.read_by(insn))
+    }
+
     /// Keeps the node of a spot, and returns it.
-    pub fn keep(&mut self, spot: Spot, node: usize) -> Result<usize, Stop>
+    pub fn keep(&mut self, spot: Spot, node: u32) -> Result<u32, Stop>
         ensures node { IfOk result (λ i. i ≡ node) }
-        ensures kept { IfOk result (λ i. (nodes : List Node) → (header : Option ℕ) → (insns : List Insn) → AreNodes nodes header insns self.old
-            → IsNodeOf nodes header insns spot node → AreNodes nodes header insns self.new) }
+        ensures kept { IfOk result (λ i. (b : Builder) → (insns : List Insn) → AreNodes b insns self.old
+            → IsNodeOf b insns spot node → AreNodes b insns self.new) }
     {
         let place = self.nodes.len();
         if place >= self.budget {

@@ -4,39 +4,18 @@ ghost use Rattle.std.specs.Prelude.{◌≡◌, ◌+◌, ◌*◌, ◌<◌, ◌≤
 ghost use Rattle.bpfvm.specs.Codes.{Accumulator, Index, AnyBit, operation_of};
 ghost use Rattle.bpfvm.specs.Machine.{Registers, Goes, loaded, number_at, holds};
 ghost use Rattle.filter_meaning.specs.Meaning.{Packet};
-ghost use Rattle.filter_same.specs.Graphs.{by_order};
+ghost use Rattle.filter_bdd.specs.Fields.{by_order};
 ghost use Rattle.filter_same.specs.Packets.{IsPacket, HasHeader};
 ghost use Rattle.filter_same.specs.Walks.{IsKnown, AreKnown, IsEffect, IsStepOf};
 
-use crate::case::Refusal;
-use crate::compare::ByOrder;
-use crate::fields::Bytes;
+use crate::builder::Refusal;
+use crate::fields::{AT_LEAST, Bytes, EQUAL, GREATER};
 use crate::known::{Known, KnownRegisters};
 use bpfvm::{Insn, code};
+use filter_bdd::ByOrder;
 
 /// The offsets that are tested are below this one, as those of expressions are.
 pub(crate) const OFFSETS: u32 = 0x1_0000;
-
-/// A comparison that holds of equal numbers.
-const EQUAL: ByOrder<bool> = ByOrder {
-    less: false,
-    equal: true,
-    greater: false,
-};
-
-/// One that holds of a greater number.
-const GREATER: ByOrder<bool> = ByOrder {
-    less: false,
-    equal: false,
-    greater: true,
-};
-
-/// One that holds of a number that is not less.
-const AT_LEAST: ByOrder<bool> = ByOrder {
-    less: false,
-    equal: true,
-    greater: true,
-};
 
 /// Where the IPv4 header begins in the frame.
 const HEADER: u32 = 14;

@@ -1,4 +1,4 @@
-//! Values of arithmetic that a graph can test.
+//! Values of arithmetic that a diagram is made of.
 
 ghost use Rattle.std.specs.Prelude.{IfSome};
 ghost use Rattle.filter_tree.specs.Trees.{Amount, minus, binary, accessor, amount_of};
@@ -21,7 +21,7 @@ pub(crate) struct Load {
     pub mask: Option<u32>,
 }
 
-/// A value that the graph can test.
+/// A value that a diagram is made of.
 #[derive(Clone, Copy, Debug)]
 pub(crate) enum Term {
     Number(u32),
@@ -90,7 +90,7 @@ fn loaded(layer: Layer, index: Term, size: Size) -> Option<Term>
     }
 }
 
-/// What the graph can test that is this value.
+/// What a diagram is made of that is this value.
 #[tactic(auto, using(crate::proofs::Loads::is_number, crate::proofs::Loads::is_length))]
 pub(crate) fn term_of(value: &Value) -> Option<Term>
     ensures { IfSome result (IsTerm (amount_of value.now)) }

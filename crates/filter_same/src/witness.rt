@@ -1,11 +1,10 @@
 //! Packets that show a difference.
 
-ghost use Rattle.std.specs.Prelude.{◌<◌, ◌≤◌, length, IfSome};
+ghost use Rattle.std.specs.Prelude.{◌<◌, ◌≤◌, length, IfSome, IsTrue};
 
-use crate::answer::Answer;
-use crate::graph::Graph;
+use crate::builder::Builder;
 use crate::plain::{LENGTH, Plain};
-use crate::table::{Node, Stop};
+use filter_bdd::{Answer, Node, Stop};
 use std::alloc::Global;
 
 /// The longest Ethernet frame, without its checksum. A longer packet is captured only as far as an answer needs.
@@ -67,20 +66,29 @@ impl Bit {
     }
 }
 
-impl Graph {
+impl Witness {
+    /// Whether no more of the packet was captured than was on the wire.
+    pub(crate) fn is_captured(&self) -> bool
+        ensures { IsTrue result → length self.now.bytes.items ≤ self.now.wire }
+    {
+        self.bytes.len() <= self.wire as usize
+    }
+}
+
+impl Builder {
     /// One step down to an answer other than Yes, if there is one to take: the bit that a node asks for, and the node after it. Where both
     /// ways lead to such an answer, it takes that of the plain frame.
-    fn step_down(&self, place: usize, plain: Plain) -> Option<(Bit, usize)>
-        requires place { place < length self.now }
+    fn step_down(&self, place: u32, plain: Plain) -> Option<(Bit, u32)>
+        requires place { place < length self.now.diagrams }
         requires header { plain.header < 16 }
         ensures less { IfSome result (λ step. step.1 < place) }
     {
-        let Node::Branch(name, zero, one) = self.node(place) else {
+        let Node::Branch(name, zero, one) = self.diagrams.node(place) else {
             return None;
         };
         let usual = plain.is_set(name);
         let (there, other) = if usual { (one, zero) } else { (zero, one) };
-        if self.is(there, Answer::Final(0, true)) {
+        if self.diagrams.is(there, Answer::Final(0, true)) {
             Some((Bit { name, one: !usual }, other))
         } else {
             Some((Bit { name, one: usual }, there))
@@ -88,8 +96,8 @@ impl Graph {
     }
 
     /// The bits on the way down, and the answer there.
-    fn way_down(&self, alloc: Global, from: usize, plain: Plain) -> Result<(Vec<Bit>, Answer), Stop>
-        requires from { from < length self.now }
+    fn way_down(&self, alloc: Global, from: u32, plain: Plain) -> Result<(Vec<Bit>, Answer), Stop>
+        requires from { from < length self.now.diagrams }
         requires header { plain.header < 16 }
     {
         let mut bits = Vec::new(alloc);
@@ -100,25 +108,19 @@ impl Graph {
             }
             place = next;
         }
-        match self.node(place) {
+        match self.diagrams.node(place) {
             Node::Leaf(says) => Ok((bits, says)),
             Node::Branch(_, _, _) => Ok((bits, Answer::Never)),
         }
     }
 
     /// A packet whose bits lead from a node to a No, with as many captured bytes as that needs or more, if there is one.
-    pub fn witness(
-        &self,
-        alloc: Global,
-        from: usize,
-        header: Option<u32>,
-        extent: Extent,
-    ) -> Result<Option<Witness>, Stop>
-        requires from { from < length self.now }
-        requires header { IfSome header (λ n. n < 16) }
+    pub fn witness(&self, alloc: Global, from: u32, extent: Extent) -> Result<Option<Witness>, Stop>
+        requires from { from < length self.now.diagrams }
+        requires header { IfSome self.now.header (λ n. n < 16) }
     {
         let plain = Plain {
-            header: header.unwrap_or(5),
+            header: self.header.unwrap_or(5),
         };
         let (bits, says) = self.way_down(alloc, from, plain)?;
         let Answer::Final(need, false) = says else {

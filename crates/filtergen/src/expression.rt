@@ -1,28 +1,62 @@
 //! An expression's program.
 
-ghost use Rattle.std.specs.Prelude.{◌≡◌, ◌<◌, ◌≤◌, ◌↔◌, length, IfOk, IfErr, IsErr, IsErrOf, IsOkUnless};
+ghost use Rattle.std.specs.Prelude.{◌≡◌, ◌<◌, ◌≤◌, ◌↔◌, Some, length, IfOk, IfErr, IsErr, IsErrOf, IsOkUnless};
 ghost use Rattle.filterlang.specs.Texts.{ReadsAs};
 ghost use Rattle.filter_tree.specs.Trees.{Tree};
 ghost use Rattle.filtergen_facts.specs.Weights.{need};
 ghost use Rattle.filtergen_code.specs.Compiling.{Fits, IsBadSnap};
 ghost use Rattle.filtergen_trim.specs.Reaching.{IsAllReached};
+ghost use Rattle.filtergen.specs.Faults.{expression_fault_name, expression_fault_place, expression_fault_text};
 ghost use Rattle.filtergen.specs.Expressions.{IsProgramOf, IsUncompiled};
 
 use crate::{Refusal, compile};
 use bpfvm::Program;
 use filterlang::{Fault, parse};
 use std::alloc::Global;
+use std::fmt;
+use std::fmt::{Display, Formatter};
 use thiserror::Error;
 
 /// Why an expression has no program. It prints as the inner fault does.
 #[derive(Clone, Copy, Debug, PartialEq, Eq, Error)]
 pub enum ExpressionFault {
     /// The text is refused: no tree reads it, or memory ran out.
-    #[error("{0}")]
     Text(Fault),
     /// Its tree is not compiled.
-    #[error("{0}")]
     Tree(Refusal),
+}
+
+impl ExpressionFault {
+    /// Its name, without a place.
+    pub fn name(self) -> &'static str
+        ensures { result.now ≡ expression_fault_name self }
+    {
+        match self {
+            ExpressionFault::Text(fault) => fault.name(),
+            ExpressionFault::Tree(refusal) => refusal.name(),
+        }
+    }
+
+    /// The byte at which the text is at fault, counted from 0.
+    pub fn place(self) -> Option<usize>
+        ensures { result ≡ expression_fault_place self }
+    {
+        match self {
+            ExpressionFault::Text(fault) => fault.place(),
+            ExpressionFault::Tree(_) => None,
+        }
+    }
+}
+
+impl Display for ExpressionFault {
+    ghost output = { λ fault. Some (expression_fault_text fault) };
+
+    fn fmt<W: fmt::Write>(&self, f: &mut Formatter<W>) -> fmt::Result {
+        match self {
+            ExpressionFault::Text(fault) => write!(f, "{fault}"),
+            ExpressionFault::Tree(refusal) => write!(f, "{refusal}"),
+        }
+    }
 }
 
 /// The program of an expression: it returns the snapshot length if the expression accepts a packet, and else 0. Some

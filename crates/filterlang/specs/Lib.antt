@@ -14,3 +14,4 @@ pub mod Readers
 pub mod ValueReading
 pub mod Reading
 pub mod Texts
+pub mod Faults

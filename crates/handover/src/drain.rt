@@ -9,10 +9,10 @@ ghost use Rattle.handover.specs.Orders.{SightGoesOn, of_drain};
 ghost use Rattle.handover.specs.Reads.{take_of, HasBuffer, IsLastGiven};
 ghost use Rattle.handover.specs.Steps.{GrewByRead};
 
-use crate::link::Link;
-use crate::rule::{
+use crate::atomic_words::{
     CLOSED, Cleared, ENDED, LookedEnded, LookedTurn, PairSeat, SLOT, SetClosed, TURN,
 };
+use crate::link::Link;
 use listener::Buffer;
 use std::marker::Model;
 

@@ -13,8 +13,8 @@ ghost use Rattle.handover.specs.Orders.{SightGoesOn, of_feeder};
 ghost use Rattle.handover.specs.Own.{received_in, matched_in, dropped_in};
 ghost use Rattle.handover.specs.Steps.{call_steps};
 
+use crate::atomic_words::{ENDED, PairSeat, SetEnded};
 use crate::link::Link;
-use crate::rule::{ENDED, PairSeat, SetEnded};
 use crate::stand::{Accepted, Stand};
 use bpfvm::Program;
 use listener::{Buffer, Counts, Fed, Mode, kept_of};

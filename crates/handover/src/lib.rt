@@ -2,12 +2,12 @@
 //! settled have one legal history.
 #![tactic(auto)]
 
+mod atomic_words;
 mod calls;
 mod drain;
 mod feeder;
 pub mod laws;
 mod link;
-mod rule;
 mod stand;
 mod view;
 

@@ -13,9 +13,9 @@ ghost use Rattle.handover.specs.Orders.{HasOneOrder};
 ghost use Rattle.handover.specs.Rule.{first, last, profile_of, terms_of};
 ghost use Rattle.handover.specs.Settling.{IsWhole};
 
+use crate::atomic_words::{Ends, PairSeat, PairTable, SLOT, Witness};
 use crate::drain::{Drain, DrainEnd};
 use crate::feeder::{FeedEnd, Feeder};
-use crate::rule::{Ends, PairSeat, PairTable, SLOT, Witness};
 use crate::stand::Stand;
 use crate::view::Profile;
 use atomic_table::{Refused, Table};

@@ -14,8 +14,10 @@ ghost use Rattle.handover.specs.Own.{store_of};
 ghost use Rattle.handover.specs.Rule.{terms_of, saw_closed, saw_turn, set_turn, IsLegalWithReads, known, FeederSees};
 ghost use Rattle.handover.specs.Seated.{IsGiving, IsStand, IsOffered, HasCalled, HasFlushed};
 
+use crate::atomic_words::{
+    CLOSED, Call, GaveTurn, Opening, PairSeat, SLOT, SawClosed, SawTurn, TURN,
+};
 use crate::link::Link;
-use crate::rule::{CLOSED, Call, GaveTurn, Opening, PairSeat, SLOT, SawClosed, SawTurn, TURN};
 use listener::{Buffer, Fed, Mode};
 use savefile::PacketRef;
 use std::marker::Brand;

@@ -7,3 +7,4 @@ pub mod RecordBytes
 pub mod Decoded
 pub mod Listening
 pub mod Positions
+pub mod Faults

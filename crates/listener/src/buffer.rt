@@ -34,7 +34,7 @@ const _: () = prove!(MIN_CAPACITY == 40);
 const _: () = prove!(MAX_CAPACITY == 1_048_576);
 
 /// The size in bytes of a record with this many bytes of data.
-pub(crate) fn size(kept: u32) -> usize
+pub fn size(kept: u32) -> usize
     ensures { result ≡ size kept }
 {
     FIELDS_LEN + (kept as usize + 7) / 8 * 8
@@ -58,9 +58,9 @@ fn fill_u64(text: &mut [u8], at: usize, n: u64)
     LittleEndian::write_u64(&mut text[at..], n);
 }
 
-/// The fields of a record.
+/// The fields of a record: its first 32 bytes.
 #[inline(always)]
-fn fields(sec: u32, nanos: u32, kept: u32, len: u32, place: u64, capture: u32) -> [u8; 32]
+pub fn fields(sec: u32, nanos: u32, kept: u32, len: u32, place: u64, capture: u32) -> [u8; 32]
     ensures text { result ≡ fields_text sec nanos kept len place capture }
     ensures small { (sec < 2 ^ 32) × (nanos < 2 ^ 32) × (len < 2 ^ 32) × (place < 2 ^ 64) × (capture < 2 ^ 32) }
 {

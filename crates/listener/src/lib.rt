@@ -12,7 +12,7 @@ mod mode;
 mod records;
 
 pub use answer::{Counts, Fed, Read};
-pub use buffer::{Buffer, MAX_CAPACITY, MIN_CAPACITY};
+pub use buffer::{Buffer, MAX_CAPACITY, MIN_CAPACITY, fields, size};
 pub use fault::OpenFault;
 pub use filter::kept_of;
 pub use listener::{Listener, check_range};

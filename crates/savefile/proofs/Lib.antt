@@ -6,6 +6,7 @@ pub mod Filling
 pub mod Gathering
 pub mod Given
 pub mod Headers
+pub mod Joining
 pub mod Lengths
 pub mod Pieces
 pub mod Records

@@ -6,7 +6,7 @@ use Rattle.savefile.specs.declared.header.Order.{Order}
 use Rattle.savefile.specs.declared.header.Unit.{Unit as TimeUnit}
 use Rattle.savefile.specs.declared.packet.Packet.{Packet}
 use Rattle.savefile.specs.Reader.{HasGiven, Reading, WasBegun}
-use Rattle.savefile.specs.Savefile.{encoded, in_units, Holds, IsSavefile, IsText, IsWritable, RefusesHeader}
+use Rattle.savefile.specs.Savefile.{encoded, in_units, AreRecords, Holds, IsSavefile, IsText, IsWritable, RefusesHeader}
 use Rattle.savefile.specs.Writer.{IsBeginning}
 
 -- A text is a savefile in one way: two readings of it with equally many packets have the same header, packets and rest.
@@ -83,3 +83,10 @@ WrittenTakesRoom =
 abbrev pub GivesABeginning : {R : Type 0} → (R → Option (List ℕ)) → Reading R → Type 0
 GivesABeginning left reader =
     (start : Option (List ℕ)) (header : Header) (packets : List Packet) → HasGiven left start header packets reader → WasBegun start header packets
+
+-- A savefile whose records end with it, and after it the records of other packets and a rest, is the savefile of both lists and that rest.
+abbrev pub JoinsParts : Type 0
+JoinsParts =
+    (part others : List ℕ) (order : Order) (unit : TimeUnit) (snap : ℕ) (packets more : List Packet) (rest : List ℕ)
+    → IsSavefile part order unit snap packets [] → AreRecords order unit others more rest
+    → IsSavefile (part ++ others) order unit snap (packets ++ more) rest

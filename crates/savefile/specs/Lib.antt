@@ -8,3 +8,5 @@ pub mod RecordHeader
 pub mod Savefile
 pub mod Sending
 pub mod Writer
+pub mod Faults
+pub mod Snapshot

@@ -1,6 +1,6 @@
 //! What follows from the definitions. Each function does nothing: its contract is the law.
 
-ghost use Rattle.savefile.specs.Laws.{ReadsInOneWay, HoldsOneList, RefusesForOneFault, RefusedHoldsNothing, IsRefusedOrHolds, EndsCleanly, ReadsAgain, BeginsMore, AddsARecord, RecordsTakeRoom, WrittenTakesRoom, GivesABeginning};
+ghost use Rattle.savefile.specs.Laws.{ReadsInOneWay, HoldsOneList, RefusesForOneFault, RefusedHoldsNothing, IsRefusedOrHolds, EndsCleanly, ReadsAgain, BeginsMore, AddsARecord, RecordsTakeRoom, WrittenTakesRoom, GivesABeginning, JoinsParts};
 
 use crate::device::Source;
 use crate::reader::Reader;
@@ -48,6 +48,11 @@ pub fn growing_text()
 pub fn packets_take_room()
     ensures read { RecordsTakeRoom }
     ensures written { WrittenTakesRoom }
+{}
+
+/// A capture that ends clean, and records after it, is the capture of both: where one part ends clean, the next one begins at a record.
+pub fn joined_parts()
+    ensures { JoinsParts }
 {}
 
 /// What a reader has given so far begins what the text holds that its source had left, whatever comes.

@@ -32,5 +32,5 @@ pub use header::{HEADER_LEN, Header, Order, Unit, header_of};
 pub use packet::{Data, Packet, PacketRef};
 pub use reader::Reader;
 pub use reading::read_all;
-pub use record::{MAX_SNAP, RECORD_HEADER_LEN, record_of};
+pub use record::{MAX_SNAP, RECORD_HEADER_LEN, effective_snaplen, record_of};
 pub use writing::{Writer, file_header, record_header};

@@ -3,6 +3,7 @@
 ghost use Rattle.std.specs.Prelude.{◌≡◌, ◌+◌, ◌<◌, ◌≤◌, ◌⊎◌, ◌++◌, List, [], length, drop, Some, IfErr, IfNone, IfOk, IfSome, OnOk};
 ghost use Rattle.savefile.specs.Savefile.{first_fault, number_in, IsRecord, IsWritable};
 ghost use Rattle.savefile.specs.RecordHeader.{IsRecordHeader};
+ghost use Rattle.savefile.specs.Snapshot.{effective_snaplen};
 
 use crate::fault::Fault;
 use crate::header::{Header, Order, Unit};
@@ -28,6 +29,13 @@ pub const MAX_SNAP: u32 = 262_144;
 
 // Clauses and definitions name the constant: it is this number.
 const _: () = prove!(MAX_SNAP == 262_144);
+
+/// The snapshot length that is meant by `snap`: 0 stands for the largest, [`MAX_SNAP`], as it does for tcpdump.
+pub fn effective_snaplen(snap: u32) -> u32
+    ensures { result ≡ effective_snaplen snap }
+{
+    if snap == 0 { MAX_SNAP } else { snap }
+}
 
 impl RecordHeader {
     /// The header of no packet.

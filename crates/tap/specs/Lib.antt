@@ -3,3 +3,4 @@ pub mod Headline
 pub mod Answers
 pub mod Refusals
 pub mod Opening
+pub mod Faults

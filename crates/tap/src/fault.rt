@@ -1,40 +1,69 @@
 //! Why a replay gives no report.
 
-ghost use Rattle.std.specs.Prelude.{◌≡◌};
+ghost use Rattle.std.specs.Prelude.{◌≡◌, Some};
+ghost use Rattle.tap.specs.Faults.{fault_name, fault_text};
 ghost use Rattle.tap.specs.Refusals.{of_playlist};
 ghost use Rattle.tap.specs.declared.fault.Fault.TheVariants.{NoMemory};
 
 use filtergen_facts::Refusal;
 use listener::OpenFault;
 use std::alloc::{AllocError, AllocFailed};
+use std::fmt;
+use std::fmt::{Display, Formatter};
 use tap_steps::PlaylistFault;
 use thiserror::Error;
 
 /// Why a replay gives no report: the first that applies, in this order, and of `Expression`, `Compile` and `Open` the first
-/// listener's. Captures, listeners and steps are counted from 0.
+/// listener's. Captures, listeners and steps are counted from 0. It prints as its name, its number, and the fault inside it.
 #[derive(Clone, Copy, Debug, PartialEq, Eq, Error)]
 pub enum Fault {
     /// There are over 64 listeners, or over 65,536 captures.
-    #[error("TooMany")]
     TooMany,
     /// This step is the first that names a listener that does not exist.
-    #[error("NoListener {0}")]
     NoListener(usize),
     /// This capture is the first whose header is refused.
-    #[error("Capture {0} {1}")]
     Capture(u32, savefile::Fault),
     /// This listener's expression is refused.
-    #[error("Expression {0} {1}")]
     Expression(u32, filterlang::Fault),
     /// This listener's expression is not compiled.
-    #[error("Compile {0} {1}")]
     Compile(u32, Refusal),
     /// This listener is not opened.
-    #[error("Open {0} {1}")]
     Open(u32, OpenFault),
     /// Memory was refused, at any point.
-    #[error("NoMemory")]
     NoMemory,
+}
+
+impl Fault {
+    /// Its name, without its number and the fault inside it.
+    pub fn name(self) -> &'static str
+        ensures { result.now ≡ fault_name self }
+    {
+        match self {
+            Fault::TooMany => "TooMany",
+            Fault::NoListener(_) => "NoListener",
+            Fault::Capture(_, _) => "Capture",
+            Fault::Expression(_, _) => "Expression",
+            Fault::Compile(_, _) => "Compile",
+            Fault::Open(_, _) => "Open",
+            Fault::NoMemory => "NoMemory",
+        }
+    }
+}
+
+impl Display for Fault {
+    ghost output = { λ fault. Some (fault_text fault) };
+
+    fn fmt<W: fmt::Write>(&self, f: &mut Formatter<W>) -> fmt::Result {
+        let name = self.name();
+        match self {
+            Fault::NoListener(step) => write!(f, "{name} {step}"),
+            Fault::Capture(capture, fault) => write!(f, "{name} {capture} {fault}"),
+            Fault::Expression(listener, fault) => write!(f, "{name} {listener} {fault}"),
+            Fault::Compile(listener, refusal) => write!(f, "{name} {listener} {refusal}"),
+            Fault::Open(listener, fault) => write!(f, "{name} {listener} {fault}"),
+            Fault::TooMany | Fault::NoMemory => f.write_str(name),
+        }
+    }
 }
 
 impl From<PlaylistFault> for Fault {

@@ -3,3 +3,4 @@ pub mod OwnSteps
 pub mod Answers
 pub mod Reports
 pub mod Watching
+pub mod Faults

@@ -23,6 +23,8 @@ mod same;
 #[cfg(test)]
 mod split;
 #[cfg(test)]
+mod surveyed;
+#[cfg(test)]
 mod system;
 #[cfg(test)]
 mod telling;

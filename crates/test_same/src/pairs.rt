@@ -80,7 +80,18 @@ fn what_does_not_is_never_called_the_same(rt: HostRuntime) {
     }
 }
 
-/// What is answered of two texts, within a budget.
+/// What is known of two texts, within a budget.
+fn decided_of(
+    rt: &(impl Abort + AllocGlobal),
+    first: &str,
+    second: &str,
+    budget: usize,
+) -> Sameness {
+    let (first, second) = (expression(rt, first), expression(rt, second));
+    decide(rt.alloc(), &first, &second, budget).expect(rt, "there is memory")
+}
+
+/// It is answered of two texts, within a budget.
 fn decided(
     rt: &(impl Abort + AllocGlobal),
     first: &str,
@@ -88,8 +99,7 @@ fn decided(
     budget: usize,
     wanted: Sameness,
 ) {
-    let (first, second) = (expression(rt, first), expression(rt, second));
-    let found = decide(rt.alloc(), &first, &second, budget).expect(rt, "there is memory");
+    let found = decided_of(rt, first, second, budget);
     same(rt, found == wanted, true);
 }
 
@@ -105,8 +115,48 @@ fn what_is_not_decided_has_a_cause(rt: HostRuntime) {
     decided(
         &rt,
         "ip[0] + 1 = 70",
-        "ip[0] + 1 = 70",
+        "ip[0] = 69",
         1000,
         Sameness::NotDecided(Cause::Relation),
     );
+}
+
+#[test]
+fn the_same_tree_is_the_same_whatever_it_calculates(rt: HostRuntime) {
+    decided(
+        &rt,
+        "ip[2:2] - ((ip[0] & 15) << 2) != 0",
+        "(ip[2:2] - ((ip[0] & 15) << 2)) != 0",
+        1,
+        Sameness::Same,
+    );
+}
+
+/// So many tests of four bytes each, one after the other, joined by `and`.
+fn chain(rt: &(impl Abort + AllocGlobal), count: u16, last: u32) -> String {
+    let mut text = String::new(rt.alloc());
+    for place in 0..count {
+        let number = u32::from(place);
+        let wanted = if place + 1 == count { last } else { number };
+        let joined = if place == 0 { "" } else { " and " };
+        let offset = 4 * number;
+        write!(text, "{joined}ether[{offset}:4] = {wanted}").expect(rt, "there is memory");
+    }
+    text
+}
+
+#[test]
+fn what_asks_for_thousands_of_bits_is_decided(rt: HostRuntime) {
+    let (first, second) = (chain(&rt, 100, 5), chain(&rt, 100, 6));
+    let whole = format!(in rt.alloc(); "not not ({first})").expect(&rt, "there is memory");
+    decided(&rt, &first, &whole, 1_000_000, Sameness::Same);
+    let other = decided_of(&rt, &first, &second, 1_000_000);
+    same(&rt, matches!(other, Sameness::Differ(_)), true);
+}
+
+#[test]
+fn more_than_a_thousand_levels_are_over_the_budget(rt: HostRuntime) {
+    let deep = chain(&rt, 1001, 5);
+    let over = Sameness::NotDecided(Cause::Budget);
+    decided(&rt, &deep, &deep, 100_000, over);
 }

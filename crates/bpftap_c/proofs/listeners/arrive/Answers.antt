@@ -16,7 +16,8 @@ use Rattle.bpftap_c.proofs.listeners.arrive.Goals.{then-listener-eq0-via-then-li
 pub returns-then-listener-eq0 : goal.returns-then-listener-eq0
 returns-then-listener-eq0 c =
     let l = c.args.listener.now in
-    let is = c.requires.listener c.if-listener-ne0.false in
+    let own = c.requires.listener in
+    let is = own.if_open c.if-listener-ne0.false in
     let a = arrival_of c.args.capture c.args.packet.now c.args.bytes.now in
     let kept = c.min-kept.result in
     let x = cut_to kept a in
@@ -27,7 +28,7 @@ returns-then-listener-eq0 c =
     let fits = put.fits.0 refl in
     let apart : (mode_of l.mode ≡ Immediate) × (messages l.hold ≡ []) → ⊥ = λ h. elim c.then-listener-eq0.branch [
       | then-listener-eq0-via-then-listener-eq0 w ↦ not_immediate l.mode w.if-listener-eq0.true h.0
-      | then-listener-eq0-via-else-listener-eq0+then-listener-ne0-2 w ↦ omega (arith, some_in l.hold is.hold (omega (arith, w.if-listener-ne0-2)), ap length h.1)
+      | then-listener-eq0-via-else-listener-eq0+then-listener-ne0-2 w ↦ omega (arith, some_in l.hold own.hold (omega (arith, w.if-listener-ne0-2)), ap length h.1)
     ] in
     record {
       steps = steps_stored (terms_of l) (messages l.hold) (messages l.store) l.received l.matched l.dropped (is_closed l.closed) (open_now l.closed c.if-listener-ne0.false)
@@ -37,20 +38,23 @@ returns-then-listener-eq0 c =
       closed = refl;
       moves = (put.memory, refl);
       terms = ap (λ (n : ℕ). terms n (mode_of l.mode)) put.capacity;
-      is = (λ now. record {
+      is = record {
         store = put.buffer;
-        hold = is.hold;
-        same = is.same ∙ sym put.capacity;
-        range = subst (InRange l.snap) (sym put.capacity) is.range;
-        matched = omega (arith, is.matched);
-        dropped = omega (arith, is.dropped);
-      });
+        hold = own.hold;
+        if_open = λ now. record {
+          same = is.same ∙ sym put.capacity;
+          range = subst (InRange l.snap) (sym put.capacity) is.range;
+          matched = omega (arith, is.matched);
+          dropped = omega (arith, is.dropped);
+        };
+      };
     }
 
 pub returns-then-stored : goal.returns-then-stored
 returns-then-stored c =
     let l = c.args.listener.now in
-    let is = c.requires.listener c.if-listener-ne0.false in
+    let own = c.requires.listener in
+    let is = own.if_open c.if-listener-ne0.false in
     let a = arrival_of c.args.capture c.args.packet.now c.args.bytes.now in
     let kept = c.min-kept.result in
     let x = cut_to kept a in
@@ -68,20 +72,23 @@ returns-then-stored c =
       closed = refl;
       moves = (refl, put.memory);
       terms = ap (λ (n : ℕ). terms n (mode_of l.mode)) is.same;
-      is = (λ now. record {
-        store = is.hold;
+      is = record {
+        store = own.hold;
         hold = put.buffer;
-        same = put.capacity ∙ sym is.same;
-        range = subst (InRange l.snap) (sym is.same) is.range;
-        matched = omega (arith, is.matched);
-        dropped = omega (arith, is.dropped);
-      });
+        if_open = λ now. record {
+          same = put.capacity ∙ sym is.same;
+          range = subst (InRange l.snap) (sym is.same) is.range;
+          matched = omega (arith, is.matched);
+          dropped = omega (arith, is.dropped);
+        };
+      };
     })
 
 pub returns-then-listener-ne0-3 : goal.returns-then-listener-ne0-3
 returns-then-listener-ne0-3 c =
     let l = c.args.listener.now in
-    let is = c.requires.listener c.if-listener-ne0.false in
+    let own = c.requires.listener in
+    let is = own.if_open c.if-listener-ne0.false in
     let a = arrival_of c.args.capture c.args.packet.now c.args.bytes.now in
     let kept = c.min-kept.result in
     let x = cut_to kept a in
@@ -92,19 +99,20 @@ returns-then-listener-ne0-3 c =
     let same = c.if-stored.ensures.unchanged refl in
     rw same (record {
       steps = steps_dropped (terms_of l) (messages l.hold) (messages l.store) l.received l.matched l.dropped (is_closed l.closed) (open_now l.closed c.if-listener-ne0.false)
-          x (kept_by_answer c.args.answer l.snap a) seen (omega (arith, captured, ap size long, over)) (some_in l.hold is.hold (omega (arith, c.if-listener-ne0-3.true)));
+          x (kept_by_answer c.args.answer l.snap a) seen (omega (arith, captured, ap size long, over)) (some_in l.hold own.hold (omega (arith, c.if-listener-ne0-3.true)));
       snap = refl;
       mode = refl;
       closed = refl;
       moves = (refl, refl);
       terms = refl;
-      is = (λ now. record { store = is.store; hold = is.hold; same = is.same; range = is.range; matched = omega (arith, is.matched); dropped = omega (arith, is.dropped) });
+      is = record { store = own.store; hold = own.hold; if_open = λ now. record { same = is.same; range = is.range; matched = omega (arith, is.matched); dropped = omega (arith, is.dropped) } };
     })
 
 pub returns : goal.returns
 returns c =
     let l = c.args.listener.now in
-    let is = c.requires.listener c.if-listener-ne0.false in
+    let own = c.requires.listener in
+    let is = own.if_open c.if-listener-ne0.false in
     let a = arrival_of c.args.capture c.args.packet.now c.args.bytes.now in
     let kept = c.min-kept.result in
     let x = cut_to kept a in
@@ -130,12 +138,14 @@ returns c =
       closed = refl;
       moves = (put.memory ∙ ap (λ (b : BpftapBuffer). memory b) fresh, refl);
       terms = ap (λ (n : ℕ). terms n (mode_of l.mode)) capacities;
-      is = (λ now. record {
+      is = record {
         store = put.buffer;
-        hold = is.store;
-        same = sym capacities;
-        range = subst (InRange l.snap) (sym capacities) is.range;
-        matched = omega (arith, is.matched);
-        dropped = omega (arith, is.dropped);
-      });
+        hold = own.store;
+        if_open = λ now. record {
+          same = sym capacities;
+          range = subst (InRange l.snap) (sym capacities) is.range;
+          matched = omega (arith, is.matched);
+          dropped = omega (arith, is.dropped);
+        };
+      };
     })

@@ -15,8 +15,7 @@ returns-then-listener-ne0 c =
       | then-listener-ne0-via-then-listener-ne0 w ↦
           record { steps = record { is_right = inl (closed_now l.closed (omega (arith, w.if-listener-ne0))); change = refl }; snap = refl; mode = refl; closed = refl; moves = (refl, refl); terms = refl; is = c.requires }
       | then-listener-ne0-via-else-listener-ne0+then-listener-ne0-2 w ↦
-          let is = c.requires w.if-listener-ne0.false in
-          record { steps = record { is_right = inr (inl (some_in l.hold is.hold (omega (arith, w.if-listener-ne0-2)))); change = refl }; snap = refl; mode = refl; closed = refl; moves = (refl, refl); terms = refl; is = c.requires }
+          record { steps = record { is_right = inr (inl (some_in l.hold c.requires.hold (omega (arith, w.if-listener-ne0-2)))); change = refl }; snap = refl; mode = refl; closed = refl; moves = (refl, refl); terms = refl; is = c.requires }
       | then-listener-ne0-via-else-listener-ne0+else-listener-ne0-2+then-listener-eq0 w ↦
           record { steps = record { is_right = inr (inr (λ i. none_in l.hold w.if-listener-ne0-2.false i ++ none_in l.store w.if-listener-eq0.true i)); change = refl }; snap = refl; mode = refl; closed = refl; moves = (refl, refl); terms = refl; is = c.requires }
     ]
@@ -24,14 +23,14 @@ returns-then-listener-ne0 c =
 pub returns : goal.returns
 returns c =
     let l = c.args.listener.now in
-    let is = c.requires c.if-listener-ne0.false in
+    let own = c.requires in let is = own.if_open c.if-listener-ne0.false in
     rw (c.swap.ensures.x_after, c.swap.ensures.y_after) (record {
       steps = flush_step (terms_of l) (messages l.hold) (messages l.store) l.received l.matched l.dropped (is_closed l.closed) (open_now l.closed c.if-listener-ne0.false)
-          (none_in l.hold c.if-listener-ne0-2.false) (some_in l.store is.store (omega (arith, c.if-listener-eq0.false)));
+          (none_in l.hold c.if-listener-ne0-2.false) (some_in l.store own.store (omega (arith, c.if-listener-eq0.false)));
       snap = refl;
       mode = refl;
       closed = refl;
       moves = (refl, refl);
       terms = ap (λ (n : _). terms n (mode_of l.mode)) is.same;
-      is = (λ now. record { store = is.hold; hold = is.store; same = sym is.same; range = subst (InRange l.snap) (sym is.same) is.range; matched = is.matched; dropped = is.dropped });
+      is = record { store = own.hold; hold = own.store; if_open = λ now. record { same = sym is.same; range = subst (InRange l.snap) (sym is.same) is.range; matched = is.matched; dropped = is.dropped } };
     })

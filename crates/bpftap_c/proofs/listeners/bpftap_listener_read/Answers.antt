@@ -26,7 +26,8 @@ returns-then-listener-ne0 c =
 pub returns : goal.returns
 returns c =
     let l = c.args.listener.now in
-    let is = c.requires c.if-listener-ne0.false in
+    let own = c.requires in
+    let is = own.if_open c.if-listener-ne0.false in
     let brought : BpftapBuffer = record { bytes = c.args.batch.now.bytes; size = 0 } in
     let step = read_step (terms_of l) (messages l.hold) (messages l.store) (messages brought) l.received l.matched l.dropped (is_closed l.closed)
     (open_now l.closed c.if-listener-ne0.false) (none_in brought refl) in
@@ -41,17 +42,19 @@ returns c =
         closed = refl;
         moves = refl;
         terms = refl;
-        is = (λ now. record {
-          store = is.store;
+        is = record {
+          store = own.store;
           hold = record { within = omega arith; records = no_records };
-          same = c.if-batch-listener.false;
-          range = is.range;
-          matched = is.matched;
-          dropped = is.dropped;
-        });
+          if_open = λ now. record {
+            same = c.if-batch-listener.false;
+            range = is.range;
+            matched = is.matched;
+            dropped = is.dropped;
+          };
+        };
       },
       step.2,
-      is.hold,
+      own.hold,
       is.same ∙ sym c.if-batch-listener.false,
       inl (omega (arith, c.if-listener-ne0.false), refl, refl),
       told,

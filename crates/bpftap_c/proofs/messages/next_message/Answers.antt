@@ -8,8 +8,8 @@ use Rattle.bpftap_c.proofs.Buffering.{short_none}
 use Rattle.bpftap_c.proofs.messages.next_message.Goals as goal
 use Rattle.bpftap_c.proofs.messages.next_message.Goals.{then-at-text-via-then-at-text, then-at-text-via-else-at-text+then-text-at-lt-FIELDS_LEN}
 
-pub returns-then-at-text : goal.returns-then-at-text
-returns-then-at-text c are =
+pub returns-then-at-text-clause-message : goal.returns-then-at-text-clause-message
+returns-then-at-text-clause-message c are =
     let text = c.args.text.now in
     let at = c.args.offset.now in
     let short : length (drop at text) < 32 = elim c.then-at-text.branch [
@@ -18,8 +18,8 @@ returns-then-at-text c are =
     ] in
     inr (short_none (drop at text) are short, c.no_message.ensures, refl)
 
-pub returns-then-size-rest : goal.returns-then-size-rest
-returns-then-size-rest c are =
+pub returns-then-size-rest-clause-message : goal.returns-then-size-rest-clause-message
+returns-then-size-rest-clause-message c are =
     let text = c.args.text.now in
     let at = c.args.offset.now in
     let rest = c.split_at.result.1.now in
@@ -27,10 +27,10 @@ returns-then-size-rest c are =
     let long = c.if-text-at-lt-FIELDS_LEN.false in
     let s = split_records rest (subst AreRecords (sym back) are) (omega (arith, ap length back, length-drop at text, long)) in
     let k = read_at 4 8 c.read_u32-captured.result rest c.read_u32-captured.ensures in
-    absurd (omega (arith, s.fits, ap size k, c.record_size-size.ensures, c.if-size-rest.true))
+    absurd (omega (arith, s.fits, ap size k, c.size-size.ensures, c.if-size-rest.true))
 
-pub returns : goal.returns
-returns c are =
+pub returns-clause-message : goal.returns-clause-message
+returns-clause-message c are =
     let text = c.args.text.now in
     let at = c.args.offset.now in
     let rest = c.split_at.result.1.now in
@@ -43,9 +43,9 @@ returns c are =
     let m = message_is rest c.read_u32-2.result c.read_u32-3.result kept c.read_u32-4.result c.read_u64.result c.read_u32.result bytes
     c.read_u32-2.ensures (read_at 4 4 c.read_u32-3.result rest c.read_u32-3.ensures) k (read_at 4 12 c.read_u32-4.result rest c.read_u32-4.ensures)
     (read_at 8 16 c.read_u64.result rest c.read_u64.ensures) (read_at 4 24 c.read_u32.result rest c.read_u32.ensures) refl in
-    let n = c.record_size-size.result in
+    let n = c.size-size.result in
     let later : drop (at + n) text ≡ after_first rest = sym (drop-drop n at text) ∙ ap (λ (t : List ℕ). drop n t) (sym back)
-    ∙ ap (λ (j : ℕ). drop j rest) c.record_size-size.ensures ∙ sym (after_is rest kept k) in
+    ∙ ap (λ (j : ℕ). drop j rest) c.size-size.ensures ∙ sym (after_is rest kept k) in
     let whole : length bytes ≡ kept = omega (arith, length-take kept (drop 32 rest), length-drop 32 rest, s.fits, ap size k) in
     let found : Message = record { capture = c.read_u32.result; place = c.read_u64.result; sec = c.read_u32-2.result; nanos = c.read_u32-3.result; len = c.read_u32-4.result; bytes = bytes } in
     inl (
@@ -53,7 +53,7 @@ returns c are =
       record {
         first = ap messages_in (sym back) ∙ s.is ∙ (λ i. m i ∷ messages_in (sym later i));
         others = subst AreRecords (sym later) s.after;
-        after = ap (λ (j : ℕ). at + j) (c.record_size-size.ensures ∙ ap size (sym whole));
+        after = ap (λ (j : ℕ). at + j) (c.size-size.ensures ∙ ap size (sym whole));
         is = λ i. record {
           offset = at + 32;
           place = c.read_u64.result;

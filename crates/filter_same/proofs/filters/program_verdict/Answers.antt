@@ -1,25 +1,24 @@
-use Rattle.std.proofs.Common.{refl, ◌≡◌, ℕ, List, [], ◌∷◌, ◌++◌, Some, sym, subst, ◌∙◌}
-use Rattle.std.specs.Prelude.{slice_get}
-use Rattle.std.proofs.lemmas.Option.{slice_get_read}
+use Rattle.std.proofs.Common.{◌≡◌, ap, sym, subst, ◌∙◌, ⊎_elim, List, ℕ}
 use Rattle.bpfvm.specs.declared.insn.Insn.{Insn}
-use Rattle.bpfvm.specs.declared.tracing.Executed.{Executed}
-use Rattle.bpfvm.specs.Machine.{beginning}
-use Rattle.bpfvm.specs.Traces.{Runs}
+use Rattle.bpfvm.specs.declared.ending.How.{How}
+use Rattle.bpfvm.specs.declared.ending.How.TheVariants.{NotCaptured, ZeroDivisor}
+use Rattle.bpfvm.specs.Endings.{IsEnd}
+use Rattle.filter_same.specs.declared.witness.Witness.{Witness}
 use Rattle.filter_same.specs.Same.{packet}
-use Rattle.filter_same.proofs.Runs.{runs-last}
+use Rattle.filter_same.specs.Programs.{program_test}
+use Rattle.filter_same.proofs.Runs.{end-says, verdict_by}
 use Rattle.filter_same.proofs.filters.program_verdict.Goals as goal
 
-pub returns : goal.returns
-returns c =
-    let program = c.args.program.now in
-    let p = packet c.args.witness.now in
-    let run = c.in_ok-run.run' in
-    let last = c.in-Some.last.now in
-    let insn = c.in-Some-get.insn.now in
-    let (_, reads, _, (inside, _), _) = c.in-Some-get.ensures.lookup in
-    let before = c.in-Some.field-0-1.now in
-    let told = subst (λ (l : List Executed). Runs program c.deref.result.now p.wire beginning l run.answer) (sym c.as_slice.ensures.value ∙ c.in-Some.ensures.cases.0) c.in_ok-run.ensures.steps in
-    let runs = subst (λ (b : List ℕ). Runs program b p.wire beginning (before ++ last ∷ []) run.answer) c.deref.ensures.value told in
-    c.ended.ensures
-    ∙ sym (runs-last program p beginning before last run.answer insn runs
-    (subst (λ (l : List Insn). slice_get l last.place ≡ Some insn) c.insns.ensures.value (slice_get_read c.insns.result.now _ last.place insn refl inside reads)))
+-- the end that is told, of the packet that the witness is
+says : (program : List Insn) (w : Witness) (bytes : List ℕ) (place : ℕ) (how : How) → bytes ≡ w.bytes.items → IsEnd program bytes w.wire place how → verdict_by how ≡ program_test program (packet w)
+says program w bytes place how is end = end-says program (packet w) place how (subst (λ (b : List ℕ). IsEnd program b w.wire place how) is end)
+
+pub returns-in-Returned : goal.returns-in-Returned
+returns-in-Returned c =
+    c.decided.ensures ∙ sym (ap verdict_by c.in-Returned.is)
+    ∙ says c.args.program.now c.args.witness.now c.deref.result.now c.run_to_end.result.place c.run_to_end.result.how c.deref.ensures.value c.run_to_end.ensures
+
+pub returns-in-NotCaptured : goal.returns-in-NotCaptured
+returns-in-NotCaptured c =
+    let end = says c.args.program.now c.args.witness.now c.deref.result.now c.run_to_end.result.place c.run_to_end.result.how c.deref.ensures.value c.run_to_end.ensures in
+    ⊎_elim (λ (is : c.run_to_end.result.how ≡ NotCaptured). sym (ap verdict_by is) ∙ end) (λ (is : c.run_to_end.result.how ≡ ZeroDivisor). sym (ap verdict_by is) ∙ end) c.in-NotCaptured.is

@@ -19,18 +19,18 @@ returns-in-SameAsCaptured-default c =
     let is : c.args.found.claim ≡ SameAsCaptured = search rules in
     filters-captured f g (subst (Claims (filter_test f) (filter_test g)) is c.requires)
 
-pub returns-in_ok-other-in-NeverApart-Some : goal.returns-in_ok-other-in-NeverApart-Some
-returns-in_ok-other-in-NeverApart-Some c =
+pub returns-in-NeverApart-Some : goal.returns-in-NeverApart-Some
+returns-in-NeverApart-Some c =
     let f = c.args.first in
     let g = c.args.second in
     let is : c.args.found.claim ≡ NeverApart = search rules in
     c.short.ensures (filter_accepts f) (filter_accepts g) (filter_test f) (filter_test g)
     (filters-apart f g (subst (Claims (filter_test f) (filter_test g)) is c.requires))
-    c.in_ok-one-in-NeverApart-Some.ensures c.in_ok-other-in-NeverApart-Some.ensures
+    c.verdict-one.ensures c.verdict-other.ensures
 
-pub returns-in_ok-other-in-Nothing-Some : goal.returns-in_ok-other-in-Nothing-Some
-returns-in_ok-other-in-Nothing-Some c =
+pub returns-in-Nothing-Some : goal.returns-in-Nothing-Some
+returns-in-Nothing-Some c =
     let f = c.args.first in
     let g = c.args.second in
     c.apart.ensures (filter_accepts f) (filter_accepts g) (filter_test f) (filter_test g)
-    c.in_ok-one-in-Nothing-Some.ensures c.in_ok-other-in-Nothing-Some.ensures
+    c.verdict-one-in-Nothing-Some.ensures c.verdict-other-in-Nothing-Some.ensures

@@ -1,6 +1,6 @@
 use Rattle.bpfvm.specs.Codes.{Equal, Greater, GreaterOrEqual, operation_of}
 use Rattle.bpfvm.specs.Machine.{holds}
-use Rattle.filter_same.proofs.Joins.{map-ok}
+use Rattle.filter_same.proofs.Builders.{map-ok}
 use Rattle.filter_same.proofs.Loads.{order_same, order_greater, order_at_least}
 use Rattle.filter_same.proofs.Walks.{step-of-code}
 use Rattle.filter_same.proofs.steps.jump.Goals as goal

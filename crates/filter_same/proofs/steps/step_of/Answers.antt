@@ -4,7 +4,7 @@ use Rattle.bpfvm.specs.Machine.{with_value}
 use Rattle.std.specs.Prelude.{bit_and, nat_lt}
 use Rattle.filter_same.specs.declared.known.Known.TheVariants.{Number, Length}
 use Rattle.filter_same.specs.declared.steps.Step.TheVariants.{On, End}
-use Rattle.filter_same.proofs.Joins.{map-ok}
+use Rattle.filter_same.proofs.Builders.{map-ok}
 use Rattle.filter_same.proofs.Walks.{step-of-code, set-accumulator, set-index}
 use Rattle.filter_same.proofs.steps.step_of.Goals as goal
 

@@ -4,6 +4,6 @@ use Rattle.filter_same.proofs.Walks.{nodes-kept}
 use Rattle.filter_same.proofs.spots.Spots.keep.Goals as goal
 
 pub returns-clause-kept : goal.returns-clause-kept
-returns-clause-kept c = λ nodes header insns h n.
-    nodes-kept nodes header insns c.self.inside.nodes.items c.push.new.self.items c.args.spot c.args.node
-    c.in-Ok.ensures.items (subst (AreNodes nodes header insns) (sym c.self.view_is) h) n
+returns-clause-kept c = λ b insns h n.
+    nodes-kept b insns c.self.inside.nodes.items c.push.new.self.items c.args.spot c.args.node
+    c.in-Ok.ensures.items (subst (AreNodes b insns) (sym c.self.view_is) h) n

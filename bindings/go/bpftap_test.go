@@ -1,0 +1,314 @@
+// SPDX-License-Identifier: MIT OR Apache-2.0
+
+package bpftap_test
+
+import (
+	"bytes"
+	"encoding/hex"
+	"errors"
+	"io"
+	"os"
+	"reflect"
+	"runtime"
+	"strings"
+	"sync"
+	"testing"
+	"time"
+
+	"bpftap"
+)
+
+// A frame of 38 bytes from 10.0.0.1 to 10.0.0.2, by UDP from port 53 to port 53.
+var udp, _ = hex.DecodeString("ffffffffffff000102030405080045000018000000004011" + "00000a0000010a00000200350035")
+
+// `tcpdump -ddd ip` with a snapshot length of 96.
+const listing = "4\n40 0 0 12\n21 0 1 2048\n6 0 0 96\n6 0 0 0\n"
+
+func compiled(t *testing.T, expression string) *bpftap.Filter {
+	t.Helper()
+	filter, err := bpftap.Compile(expression)
+	if err != nil {
+		t.Fatal(err)
+	}
+	return filter
+}
+
+func capture(t *testing.T, form string) []byte {
+	t.Helper()
+	content, err := os.ReadFile("../../examples/veth" + form + ".pcap")
+	if err != nil {
+		t.Fatal(err)
+	}
+	return content
+}
+
+func packets(t *testing.T, content []byte) []bpftap.Packet {
+	t.Helper()
+	reader, err := bpftap.NewReader(content)
+	if err != nil {
+		t.Fatal(err)
+	}
+	packets, err := reader.All()
+	if err != nil {
+		t.Fatal(err)
+	}
+	return packets
+}
+
+func same(t *testing.T, what string, seen, wanted any) {
+	t.Helper()
+	if !reflect.DeepEqual(seen, wanted) {
+		t.Errorf("%s: %v, wanted %v", what, seen, wanted)
+	}
+}
+
+// refused checks that an error is this fault at this place, and prints so.
+func refused(t *testing.T, err error, fault bpftap.Fault, place uint64, line string) {
+	t.Helper()
+	var found *bpftap.Error
+	if !errors.As(err, &found) || !errors.Is(err, fault) || found.Place != place || err.Error() != line {
+		t.Errorf("%v, wanted %s", err, line)
+	}
+}
+
+func TestPacketsAreFiltered(t *testing.T) {
+	dns, all := compiled(t, "udp port 5353"), packets(t, capture(t, ""))
+	count := 0
+	var answers []uint32
+	for _, packet := range all {
+		answers = append(answers, dns.Run(packet.Data, packet.Wire))
+		if dns.Matches(packet.Data, packet.Wire) {
+			count++
+		}
+	}
+	// tcpdump counts 67 with UDP port 5353.
+	same(t, "packets", [2]int{len(all), count}, [2]int{253, 67})
+	same(t, "RunEach", dns.RunEach(all), answers)
+	reader, _ := bpftap.NewReader(capture(t, ""))
+	spans, err := reader.Spans()
+	same(t, "RunSpans", dns.RunSpans(capture(t, ""), spans), answers)
+	same(t, "Spans", err, nil)
+}
+
+func TestWireLengths(t *testing.T) {
+	long := compiled(t, "len > 1000")
+	same(t, "Run", []bool{long.Matches(udp, 38), long.Matches(udp, 1500)}, []bool{false, true})
+	same(t, "RunEach", long.RunEach([]bpftap.Packet{{Data: udp, Wire: 38}, {Data: udp, Wire: 1500}}), []uint32{0, bpftap.MaxSnap})
+}
+
+func TestWhatIsEmpty(t *testing.T) {
+	all := compiled(t, "")
+	same(t, "Run", all.Run(nil, 0), uint32(bpftap.MaxSnap))
+	same(t, "RunEach", all.RunEach(nil), []uint32{})
+	same(t, "RunEach of an empty packet", all.RunEach([]bpftap.Packet{{}}), []uint32{bpftap.MaxSnap})
+	same(t, "RunSpans", all.RunSpans(nil, nil), []uint32{})
+	same(t, "RunSpans of nothing", all.RunSpans(nil, []bpftap.Span{{Offset: 7, Captured: 7}}), []uint32{bpftap.MaxSnap})
+	refused(t, bpftap.Check(nil), bpftap.Empty, 0, "Empty")
+	_, err := bpftap.FromListing("")
+	refused(t, err, bpftap.BadLine, 1, "BadLine 1")
+	_, err = bpftap.NewReader(nil)
+	refused(t, err, bpftap.ShortHeader, 0, "ShortHeader")
+	_, err = bpftap.Cut(nil, all, 0)
+	refused(t, err, bpftap.ShortHeader, 0, "ShortHeader")
+	verdict, part, err := compiled(t, "ip").Why(nil, 0)
+	same(t, "Why", []any{verdict, part, err}, []any{bpftap.Abort, "ip, byte 12 is not captured", nil})
+	found, err := bpftap.Compare("", "", bpftap.DefaultBudget)
+	same(t, "Compare", []any{found.Answer, err}, []any{bpftap.Same, nil})
+}
+
+func TestWhyDecides(t *testing.T) {
+	verdict, part, err := compiled(t, "ip and tcp port 80").Why(udp, 38)
+	same(t, "Why", []any{verdict, part, err}, []any{bpftap.No, "tcp port 80", nil})
+	text, err := compiled(t, "tcp dst port 80 or 443").Canonical()
+	same(t, "Canonical", []any{text, err}, []any{"tcp dst port 80 or tcp dst port 443", nil})
+	many := strings.TrimSuffix(strings.Repeat("port 80 or ", 40), " or ")
+	text, err = compiled(t, many).Canonical()
+	same(t, "a long text", []any{text, err}, []any{many, nil})
+}
+
+func TestFaultsHaveNamesAndPlaces(t *testing.T) {
+	_, err := bpftap.Compile("port http")
+	refused(t, err, bpftap.BadWord, 5, "BadWord 5")
+	same(t, "a fault", bpftap.BadWord.Error(), "BadWord")
+	_, err = bpftap.Compile("ip \xff")
+	refused(t, err, bpftap.NotText, 3, "NotText 3")
+	for _, snap := range []uint32{0, bpftap.MaxSnap + 1} {
+		_, err = bpftap.CompileSnap("ip", snap)
+		refused(t, err, bpftap.BadSnap, 0, "BadSnap")
+	}
+	_, err = bpftap.FromInsns([]bpftap.Insn{{Code: 21, Jt: 9}, {Code: 6}})
+	refused(t, err, bpftap.JumpOut, 0, "JumpOut 0")
+	_, err = bpftap.Compare("tcp", "port http", 1)
+	refused(t, err, bpftap.BadWord, 5, "BadWord 5")
+	var found *bpftap.Error
+	same(t, "the number", errors.As(err, &found) && found.Number == 2, true)
+}
+
+func TestProgramsAndListings(t *testing.T) {
+	listed, err := bpftap.FromListing(listing)
+	if err != nil {
+		t.Fatal(err)
+	}
+	insns := listed.Insns()
+	same(t, "Insns", insns, []bpftap.Insn{{40, 0, 0, 12}, {21, 0, 1, 2048}, {6, 0, 0, 96}, {6, 0, 0, 0}})
+	again, err := listed.Listing()
+	same(t, "Listing", []any{again, err}, []any{listing, nil})
+	image, err := listed.Image()
+	same(t, "Image", []any{strings.Split(image, "\n")[2], err}, []any{"(002) ret      #96", nil})
+	insns[2].K = 7
+	other, err := bpftap.FromInsns(insns)
+	same(t, "FromInsns", []any{other.Run(udp, 38), listed.Run(udp, 38), err}, []any{uint32(7), uint32(96), nil})
+	insns[2].K = 9
+	runtime.GC()
+	same(t, "its own memory", other.Run(udp, 38), uint32(7))
+	_, _, err = listed.Why(udp, 38)
+	_, other2 := listed.Canonical()
+	same(t, "no expression", []bool{errors.Is(err, bpftap.NotText), errors.Is(other2, bpftap.NotText)}, []bool{true, true})
+}
+
+func TestRunsAreTraced(t *testing.T) {
+	listed, _ := bpftap.FromListing(listing)
+	traced, err := listed.Trace(udp, 38)
+	same(t, "Trace", []any{traced, err}, []any{[]bpftap.Executed{{Place: 0, Accumulator: 2048}, {Place: 1, Accumulator: 2048}, {Place: 2, Accumulator: 2048}}, nil})
+	traced, _ = listed.Trace(nil, 38)
+	same(t, "a load past the end", traced, []bpftap.Executed{{}})
+	// A = 7, M[3] = A, return A.
+	stores, _ := bpftap.FromInsns([]bpftap.Insn{{K: 7}, {Code: 2, K: 3}, {Code: 0x16}})
+	traced, _ = stores.Trace(udp, 38)
+	same(t, "a store", traced[1], bpftap.Executed{Place: 1, Accumulator: 7, Stored: true, Cell: 3, Value: 7})
+	looks, err := compiled(t, "ether proto 0x800").Looks(udp, 38)
+	same(t, "Looks", []any{looks, err}, []any{[]bpftap.Look{{Offset: 12, Size: 2}}, nil})
+	looks, _ = compiled(t, strings.TrimSuffix(strings.Repeat("ether[30] = 10 and ", 80), " and ")).Looks(udp, 38)
+	same(t, "many", len(looks), 80)
+	_, err = listed.Looks(udp, 38)
+	refused(t, err, bpftap.NotText, 0, "NotText 0")
+}
+
+func TestLongExpressionsHaveStackEnough(t *testing.T) {
+	text := strings.Repeat("(", 60) + "ip" + strings.Repeat(")", 60) + strings.Repeat(" or ip", 90) + strings.Repeat(" ", 4000)
+	done := make(chan bool)
+	for n := 0; n < 8; n++ {
+		go func() {
+			filter, err := bpftap.Compile(text)
+			verdict, _, other := filter.Why(udp, 38)
+			_, last := filter.Canonical()
+			done <- err == nil && other == nil && last == nil && verdict == bpftap.Yes
+		}()
+	}
+	for n := 0; n < 8; n++ {
+		same(t, "a goroutine", <-done, true)
+	}
+}
+
+func TestWhatIsWrittenIsRead(t *testing.T) {
+	for form, wanted := range map[string]bpftap.Form{"": {}, "-big-micro": {BigEndian: true}, "-little-nano": {Nanoseconds: true},
+		"-big-nano": {BigEndian: true, Nanoseconds: true}} {
+		content := capture(t, form)
+		reader, err := bpftap.NewReader(content)
+		if err != nil {
+			t.Fatal(err)
+		}
+		wanted.Snap = reader.Form().Snap
+		same(t, "Form", reader.Form(), wanted)
+		var written bytes.Buffer
+		writer, err := bpftap.NewWriter(&written, reader.Form())
+		for _, packet := range packets(t, content) {
+			if err == nil {
+				err = writer.Write(packet)
+			}
+		}
+		same(t, "veth"+form, []any{bytes.Equal(written.Bytes(), content), err}, []any{true, nil})
+	}
+	var header bytes.Buffer
+	bpftap.NewWriter(&header, bpftap.Form{})
+	same(t, "a header", hex.EncodeToString(header.Bytes()), "d4c3b2a1020004000000000000000000"+"0000040001000000")
+}
+
+// narrow is a file that takes some bytes and then fails.
+type narrow struct{ room int }
+
+func (n *narrow) Write(content []byte) (int, error) {
+	if n.room -= len(content); n.room < 0 {
+		return 0, io.ErrShortWrite
+	}
+	return len(content), nil
+}
+
+func TestWhatMayNotBeWritten(t *testing.T) {
+	writer, err := bpftap.NewWriter(io.Discard, bpftap.Form{})
+	if err != nil || writer.Write(bpftap.Packet{Data: udp, Wire: 38, Time: time.Unix(1, 0)}) != nil {
+		t.Fatal(err)
+	}
+	for _, when := range []time.Time{{}, time.Unix(-1, 0), time.Unix(1<<32, 0)} {
+		refused(t, writer.Write(bpftap.Packet{Time: when}), bpftap.BadFraction, 1, "BadFraction 1")
+	}
+	err = writer.Write(bpftap.Packet{Data: make([]byte, bpftap.MaxSnap+1), Time: time.Unix(1, 0)})
+	same(t, "a long packet", errors.Is(err, bpftap.RecordTooLong), true)
+	same(t, "a packet after it", writer.Write(bpftap.Packet{Data: udp, Time: time.Unix(1<<32-1, 999999999)}), nil)
+	_, err = bpftap.NewWriter(&narrow{23}, bpftap.Form{})
+	same(t, "a full disk", err, io.ErrShortWrite)
+	writer, _ = bpftap.NewWriter(&narrow{24}, bpftap.Form{})
+	same(t, "a full disk later", writer.Write(bpftap.Packet{Time: time.Unix(1, 0)}), io.ErrShortWrite)
+}
+
+func TestTornCaptures(t *testing.T) {
+	content := capture(t, "")[:200]
+	reader, _ := bpftap.NewReader(content)
+	found, err := reader.All()
+	refused(t, err, bpftap.TornRecord, 2, "TornRecord 2")
+	same(t, "the packets before", len(found), 2)
+	_, err = reader.Next()
+	refused(t, err, bpftap.TornRecord, 2, "TornRecord 2")
+	written, err := bpftap.Cut(content, compiled(t, ""), 20)
+	refused(t, err, bpftap.TornRecord, 2, "TornRecord 2")
+	same(t, "its cut", []int{len(written), len(packets(t, written))}, []int{24 + 2*36, 2})
+	reader, _ = bpftap.NewReader(content)
+	spans, err := reader.Spans()
+	refused(t, err, bpftap.TornRecord, 2, "TornRecord 2")
+	same(t, "its spans", len(spans), 2)
+	_, err = bpftap.NewReader(bytes.Repeat([]byte("no capture"), 9))
+	refused(t, err, bpftap.NotSavefile, 0, "NotSavefile")
+}
+
+func TestCut(t *testing.T) {
+	content, dns := capture(t, ""), compiled(t, "udp port 5353")
+	written, err := bpftap.Cut(content, dns, 0)
+	same(t, "Cut", []any{len(packets(t, written)), err}, []any{67, nil})
+	for _, packet := range packets(t, written) {
+		same(t, "what is kept", dns.Matches(packet.Data, packet.Wire), true)
+	}
+}
+
+func TestComparisons(t *testing.T) {
+	found, err := bpftap.Compare("port 80", "src port 80 or dst port 80", bpftap.DefaultBudget)
+	same(t, "Same", []any{found, err}, []any{bpftap.Comparison{Answer: bpftap.Same}, nil})
+	found, err = bpftap.Compare("tcp", "udp", bpftap.DefaultBudget)
+	one, other := compiled(t, "tcp").Matches(found.Packet, found.Wire), compiled(t, "udp").Matches(found.Packet, found.Wire)
+	same(t, "Differ", []any{found.Answer, one != other, err}, []any{bpftap.Differ, true, nil})
+	found, err = bpftap.Compare("tcp", "udp", 1)
+	same(t, "NotDecided", []any{found, err}, []any{bpftap.Comparison{Answer: bpftap.NotDecided, Cause: bpftap.Budget}, nil})
+	same(t, "its name", found.Answer.String(), "NotDecided")
+	found, err = bpftap.Compare("len > 1500", "len > 1501", bpftap.DefaultBudget)
+	if err == nil && found.Answer == bpftap.Differ {
+		same(t, "a long packet", compiled(t, "len > 1500").Matches(found.Packet, found.Wire) != compiled(t, "len > 1501").Matches(found.Packet, found.Wire), true)
+	}
+}
+
+func TestGoroutinesShareAFilter(t *testing.T) {
+	dns, all := compiled(t, "udp port 5353"), packets(t, capture(t, ""))
+	var group sync.WaitGroup
+	counts := make([]int, 8)
+	for n := range counts {
+		group.Add(1)
+		go func(n int) {
+			defer group.Done()
+			for _, packet := range all {
+				if dns.Matches(packet.Data, packet.Wire) {
+					counts[n]++
+				}
+			}
+		}(n)
+	}
+	group.Wait()
+	same(t, "counts", counts, []int{67, 67, 67, 67, 67, 67, 67, 67})
+}

@@ -1,0 +1,237 @@
+// SPDX-License-Identifier: MIT OR Apache-2.0
+
+package bpftap
+
+// #include <stdlib.h>
+// #include "calls.h"
+import "C"
+
+import (
+	"runtime"
+	"strings"
+	"unsafe"
+)
+
+// An Insn is an instruction of the filter machine: struct bpf_insn of bpf(4), struct sock_filter of Linux.
+type Insn struct {
+	Code   uint16
+	Jt, Jf uint8
+	K      uint32
+}
+
+// A Verdict is what an expression answers to a packet.
+type Verdict int
+
+const (
+	No Verdict = iota
+	Yes
+	// Abort means that a byte past the captured ones was wanted, or that a divisor was 0. A filter rejects the packet then.
+	Abort
+)
+
+func (v Verdict) String() string { return [...]string{"No", "Yes", "Abort"}[v] }
+
+// A Filter is a compiled expression, or a program. Goroutines may share it.
+type Filter struct {
+	expression string
+	compiled   bool
+	insns      []Insn
+	program    *C.struct_bpftap_program
+}
+
+// Compile compiles an expression (docs/LANGUAGE.md). The filter keeps whole packets.
+func Compile(expression string) (*Filter, error) { return CompileSnap(expression, MaxSnap) }
+
+// CompileSnap compiles an expression to a filter that keeps at most snap bytes of a packet, from 1 to MaxSnap.
+func CompileSnap(expression string, snap uint32) (*Filter, error) {
+	insns := make([]Insn, MaxInsns)
+	text, size := textOf(expression)
+	result := C.calls_compile(text, size, C.uint32_t(snap), insnsOf(insns), MaxInsns)
+	if err := errorOf(result.fault, uint64(result.place)); err != nil {
+		return nil, err
+	}
+	filter, err := FromInsns(insns[:result.size])
+	if err != nil {
+		return nil, err
+	}
+	filter.expression, filter.compiled = expression, true
+	return filter, nil
+}
+
+// FromListing takes a program in the form of tcpdump -ddd.
+func FromListing(listing string) (*Filter, error) {
+	insns := make([]Insn, MaxInsns)
+	text, size := textOf(listing)
+	result := C.bpftap_read_listing(text, size, insnsOf(insns), MaxInsns)
+	if err := errorOf(result.fault, uint64(result.place)); err != nil {
+		return nil, err
+	}
+	return FromInsns(insns[:result.size])
+}
+
+// FromInsns takes a program as instructions, which it copies.
+func FromInsns(insns []Insn) (*Filter, error) {
+	if err := Check(insns); err != nil {
+		return nil, err
+	}
+	memory := C.malloc(C.bpftap_program_size())
+	if memory == nil {
+		return nil, &Error{Fault: NoMemory}
+	}
+	filter := &Filter{insns: append([]Insn(nil), insns...), program: (*C.struct_bpftap_program)(memory)}
+	runtime.SetFinalizer(filter, func(filter *Filter) { C.free(unsafe.Pointer(filter.program)) })
+	return filter, errorOf(C.bpftap_program_init(filter.program, insnsOf(insns), C.size_t(len(insns))), 0)
+}
+
+// Check says whether instructions are a program, and if not why.
+func Check(insns []Insn) error {
+	result := C.bpftap_check(insnsOf(insns), C.size_t(len(insns)))
+	return errorOf(result.fault, uint64(result.place))
+}
+
+func insnsOf(insns []Insn) *C.struct_bpftap_insn {
+	if len(insns) == 0 {
+		return (*C.struct_bpftap_insn)(unsafe.Pointer(&nothing))
+	}
+	return (*C.struct_bpftap_insn)(unsafe.Pointer(&insns[0]))
+}
+
+// Run is how many bytes of a packet the filter keeps, 0 if it rejects it. wire is the packet's length on the wire.
+func (f *Filter) Run(packet []byte, wire uint32) uint32 {
+	answer := C.bpftap_program_run(f.program, bytesOf(packet), C.size_t(len(packet)), C.uint32_t(wire))
+	runtime.KeepAlive(f)
+	return uint32(answer)
+}
+
+// Matches is whether the filter accepts a packet.
+func (f *Filter) Matches(packet []byte, wire uint32) bool { return f.Run(packet, wire) != 0 }
+
+// A Span is a packet that lies in a memory: its captured bytes begin at Offset. Bytes past the memory are not captured.
+type Span struct {
+	Offset         uint64
+	Captured, Wire uint32
+}
+
+// RunSpans is what the filter answers to each packet of a memory, in one call.
+func (f *Filter) RunSpans(memory []byte, spans []Span) []uint32 {
+	answers := make([]uint32, len(spans))
+	if len(spans) > 0 {
+		C.bpftap_program_run_spans(f.program, bytesOf(memory), C.size_t(len(memory)), (*C.struct_bpftap_span)(unsafe.Pointer(&spans[0])),
+			C.size_t(len(spans)), (*C.uint32_t)(unsafe.Pointer(&answers[0])), C.size_t(len(answers)))
+		runtime.KeepAlive(f)
+	}
+	return answers
+}
+
+// RunEach is what the filter answers to each packet, in one call. The packets are copied into one memory first: RunSpans needs no copy.
+func (f *Filter) RunEach(packets []Packet) []uint32 {
+	var memory []byte
+	spans := make([]Span, len(packets))
+	for place, packet := range packets {
+		spans[place] = Span{uint64(len(memory)), uint32(len(packet.Data)), packet.Wire}
+		memory = append(memory, packet.Data...)
+	}
+	return f.RunSpans(memory, spans)
+}
+
+// Why is what an expression answers to a packet, and the primitive or relation that decides: No and "tcp port 80". Of a program without an
+// expression it is NotText.
+func (f *Filter) Why(packet []byte, wire uint32) (Verdict, string, error) {
+	if !f.compiled {
+		return No, "", &Error{Fault: NotText}
+	}
+	verdict := No
+	expression, size := textOf(f.expression)
+	line, err := text(256, func(to *C.char, room C.size_t) C.struct_bpftap_result {
+		reason := C.calls_why(expression, size, bytesOf(packet), C.size_t(len(packet)), C.uint32_t(wire), to, room)
+		verdict = Verdict(reason.verdict)
+		return C.struct_bpftap_result{fault: reason.fault, size: reason.size, place: reason.place}
+	})
+	_, part, _ := strings.Cut(line, " ")
+	return verdict, part, err
+}
+
+// An Executed is an instruction that was executed, and what the machine holds after it.
+type Executed struct {
+	Place              int
+	Accumulator, Index uint32
+	// Stored says whether it stored Value into Cell of scratch memory.
+	Stored      bool
+	Cell, Value uint32
+}
+
+// Trace is which instructions a run over a packet executes, in order.
+func (f *Filter) Trace(packet []byte, wire uint32) ([]Executed, error) {
+	to := make([]C.struct_bpftap_executed, MaxInsns)
+	traced := C.bpftap_trace(insnsOf(f.insns), C.size_t(len(f.insns)), bytesOf(packet), C.size_t(len(packet)), C.uint32_t(wire), &to[0], MaxInsns)
+	if err := errorOf(traced.fault, uint64(traced.place)); err != nil {
+		return nil, err
+	}
+	made := make([]Executed, traced.size)
+	for at := range made {
+		made[at] = Executed{Place: int(to[at].place), Accumulator: uint32(to[at].accumulator), Index: uint32(to[at].index)}
+		if to[at].cell != C.BPFTAP_NO_CELL {
+			made[at].Stored, made[at].Cell, made[at].Value = true, uint32(to[at].cell), uint32(to[at].value)
+		}
+	}
+	return made, nil
+}
+
+// A Look is what a test looked at: Size bytes of the frame from byte Offset on, captured or not; or, if both are 0, the length on the wire.
+type Look struct{ Offset, Size int }
+
+// Looks is what the expression looks at of a packet: what each primitive or relation does that is asked, from left to right. Of a program
+// without an expression it is NotText.
+func (f *Filter) Looks(packet []byte, wire uint32) ([]Look, error) {
+	if !f.compiled {
+		return nil, &Error{Fault: NotText}
+	}
+	expression, size := textOf(f.expression)
+	for room := 64; ; {
+		to := make([]C.struct_bpftap_look, room)
+		result := C.calls_looks(expression, size, bytesOf(packet), C.size_t(len(packet)), C.uint32_t(wire), &to[0], C.size_t(room))
+		if result.fault == C.BPFTAP_NO_ROOM {
+			room = int(result.size)
+			continue
+		}
+		if err := errorOf(result.fault, uint64(result.place)); err != nil {
+			return nil, err
+		}
+		made := make([]Look, result.size)
+		for at := range made {
+			made[at] = Look{int(to[at].offset), int(to[at].size)}
+		}
+		return made, nil
+	}
+}
+
+// Expression is the one that was compiled, or "" of a program.
+func (f *Filter) Expression() string { return f.expression }
+
+// Canonical is the expression in its canonical form, which shows how it was read. Of a program without an expression it is NotText.
+func (f *Filter) Canonical() (string, error) {
+	if !f.compiled {
+		return "", &Error{Fault: NotText}
+	}
+	expression, size := textOf(f.expression)
+	return text(1024, func(to *C.char, room C.size_t) C.struct_bpftap_result {
+		return C.calls_print(expression, size, to, room)
+	})
+}
+
+// Insns are the instructions; the caller may change them.
+func (f *Filter) Insns() []Insn { return append([]Insn(nil), f.insns...) }
+
+// Listing is the program in the form of tcpdump -ddd.
+func (f *Filter) Listing() (string, error) {
+	return text(1024, func(to *C.char, room C.size_t) C.struct_bpftap_result {
+		return C.bpftap_write_listing(insnsOf(f.insns), C.size_t(len(f.insns)), to, room)
+	})
+}
+
+// Image is the program by the names of its instructions, as tcpdump -d prints it.
+func (f *Filter) Image() (string, error) {
+	return text(1024, func(to *C.char, room C.size_t) C.struct_bpftap_result {
+		return C.bpftap_image(insnsOf(f.insns), C.size_t(len(f.insns)), to, room)
+	})
+}

@@ -1,0 +1,3 @@
+module bpftap
+
+go 1.19

@@ -1,0 +1,125 @@
+//! `bpftap info`, over files.
+
+use crate::report::{print_survey, report_survey};
+use cli_args::info::InfoWords;
+use cli_files::captures::output_buffer;
+use cli_files::paths::{Opening, STANDARD_OUTPUT, refuse_shared_files};
+use cli_json::LineForm;
+use cli_report::HintSink;
+use cli_report::failures::{hint_input, hint_output};
+use cli_report::probe::ProbedInput;
+use cli_report::stream::give_hint;
+use cli_text::Status;
+use cli_text::report::{EscapedPath, report_fault, report_unwritten};
+use cli_watch::captures::watched_inputs;
+use cli_watch::output::WatchedOutput;
+use cli_watch::{Screen, Watch};
+use pcap_info::survey::survey_capture;
+use savefile::Fault;
+use std::alloc::Global;
+use std::fs::Files;
+use std::io;
+use std::io::{ErrorKind, Read, Write};
+
+/// Surveys a capture, prints its line, and reports a failed file; `Err` if standard output failed.
+fn inspect<R: Read + Drop, O: Write, E: HintSink>(
+    alloc: Global,
+    path: &str,
+    form: LineForm,
+    input: ProbedInput<R>,
+    out: &mut O,
+    err: &mut E,
+) -> Result<Status, Status> {
+    let survey = survey_capture(alloc, input);
+    let printed = print_survey(alloc, path, &survey, form, out);
+    let status = report_survey(&survey, path, err);
+    if let Err(fault) = survey.read {
+        give_hint(format_args!("{}:", EscapedPath(path)), err);
+        hint_input(&survey.source, fault, err);
+    }
+    match printed {
+        Ok(()) => Ok(status),
+        Err(error) => Err(status.max(report_unprinted(&error, err))),
+    }
+}
+
+/// Reports that memory for a line ran out, or that standard output failed.
+fn report_unprinted<E: HintSink>(error: &io::Error, err: &mut E) -> Status {
+    if error.kind() == ErrorKind::OutOfMemory {
+        report_fault(Fault::NoMemory, Status::Refused, err)
+    } else {
+        report_unwritten(error, err)
+    }
+}
+
+/// Inspects all captures, in order.
+fn inspect_all<R: Read + Drop, O: Write, E: HintSink>(
+    alloc: Global,
+    words: &InfoWords<'_>,
+    inputs: Vec<ProbedInput<R>>,
+    out: &mut O,
+    err: &mut E,
+) -> Result<Status, Status> {
+    let form = LineForm::asked(words.json);
+    let mut status = Status::Clean;
+    for (path, input) in words.inputs.as_slice().iter().zip(inputs) {
+        match inspect(alloc, *path, form, input, out, err) {
+            Ok(one) => status = status.max(one),
+            Err(one) => return Err(status.max(one)),
+        }
+    }
+    Ok(status)
+}
+
+/// Inspects all captures, with a buffer in front of the output.
+fn inspect_buffered<F: Screen, R: Read + Drop, O: Write, E: HintSink>(
+    alloc: Global,
+    words: &InfoWords<'_>,
+    watch: &Watch<'_, F>,
+    inputs: Vec<ProbedInput<R>>,
+    out: &mut O,
+    err: &mut E,
+) -> Result<Status, Status> {
+    let out = WatchedOutput::new(&mut *out, watch);
+    let mut out = output_buffer(alloc, out, err)?;
+    let ended = inspect_all(alloc, words, inputs, &mut out, err);
+    watch.erase();
+    let ended = flush(ended, &mut out, err);
+    hint_output(out.get_ref(), err);
+    ended
+}
+
+/// Sends what the output has gathered, unless it has failed.
+fn flush<O: Write, E: HintSink>(
+    ended: Result<Status, Status>,
+    out: &mut O,
+    err: &mut E,
+) -> Result<Status, Status> {
+    let status = ended?;
+    match out.flush() {
+        Ok(()) => Ok(status),
+        Err(error) => Err(status.max(report_unprinted(&error, err))),
+    }
+}
+
+/// `bpftap info`: a line for each capture, and the greatest exit status of them. No capture is the file that is printed to. A capture that is
+/// torn or refused does not end the reading.
+pub fn info_command<R: Files + AllocGlobal + Screen, O: Write, E: HintSink>(
+    rt: &R,
+    words: &InfoWords<'_>,
+    out: &mut O,
+    err: &mut E,
+) -> Status {
+    let paths = words.inputs.as_slice();
+    let output = Some(STANDARD_OUTPUT);
+    if let Err(status) = refuse_shared_files(rt, Opening::First, output, paths, &[], err) {
+        return status;
+    }
+    let watch = Watch::new(rt, paths, err.takes_hints());
+    let Ok(inputs) = watched_inputs(rt, rt.alloc(), paths, &watch) else {
+        return report_fault(Fault::NoMemory, Status::Refused, err);
+    };
+    match inspect_buffered(rt.alloc(), words, &watch, inputs, out, err) {
+        Ok(status) | Err(status) => status,
+    }
+}

@@ -1,0 +1,4 @@
+pub mod Answers
+pub mod Diagrams
+pub mod Fields
+pub mod Calls

@@ -1,0 +1,365 @@
+//! Binary decision diagrams, and what joins them.
+
+ghost use Rattle.std.specs.Prelude.{◌≡◌, ℕ, ◌<◌, Bool, cond, length, slice_index_or, IsTrue, IfOk, IfSome, []};
+ghost use Rattle.filter_bdd.specs.Answers.{outcome, joined, ite_answer};
+ghost use Rattle.filter_bdd.specs.Diagrams.{answer, node_answer, Gives, Grew, IsBefore};
+ghost use Rattle.filter_bdd.specs.Calls.{call_answer, IsInside, IsResult, IsStep, IsApplied};
+
+use crate::answer::{Answer, Operation};
+use crate::cache::{Call, ComputedCache};
+use crate::table::{Node, Stop, UniqueTable};
+use std::alloc::Global;
+use std::marker::Model;
+
+/// How many bits deep a call goes at first before it puts the rest off. So it needs a bounded stack.
+const DEPTH: u32 = 96;
+
+/// How many more bits deep a later try goes, at most. So a result that the cache forgot is made again of those below it.
+const MORE: u64 = 64;
+
+/// How often a call puts off another one that goes on below it. Diagrams that ask for more bits in a row are over the budget.
+const LEVELS: u32 = 256;
+
+/// The most entries that the computed cache has.
+const MOST_ENTRIES: usize = 1 << 20;
+
+/// What may be spent: so many nodes of a table, and so many steps, which are nodes added and calls that were not kept.
+#[derive(Clone, Copy, Debug, PartialEq, Eq)]
+pub struct Budget {
+    pub nodes: usize,
+    pub steps: u64,
+}
+
+/// Binary decision diagrams: their nodes, each of which is there once, and a computed cache of the operations on them.
+#[derive(Drop)]
+pub struct Diagrams {
+    table: UniqueTable,
+    cache: ComputedCache,
+    budget: Budget,
+}
+
+impl Model for Diagrams {
+    ghost use Rattle.std.specs.Prelude.{List};
+    ghost use Rattle.filter_bdd.specs.declared.table.Node.{Node};
+    ghost use Rattle.filter_bdd.specs.Calls.{AreResults};
+
+    ghost Value = { List Node };
+
+    ghost view = { λ d. d.table };
+
+    ghost invariant = { λ d. AreResults d.table d.cache };
+}
+
+/// What is done with the nodes of a call.
+#[derive(Clone, Copy)]
+enum Step {
+    /// All are answers.
+    Answers(Answer, Answer, Answer),
+    /// One of them asks for this bit.
+    Bit(u32),
+}
+
+/// What became of a call.
+#[derive(Clone, Copy)]
+enum Applied {
+    /// The place of its node.
+    Node(u32),
+    /// A call deep below it, whose result is wanted first.
+    First(Call),
+}
+
+/// The bit that a node asks for, or one that none does.
+fn bit_of(node: Node) -> u32 {
+    match node {
+        Node::Leaf(_) => u32::MAX,
+        Node::Branch(bit, _, _) => bit,
+    }
+}
+
+/// What is done with three nodes.
+fn step_of(first: Node, second: Node, third: Node) -> Step
+    ensures { IsStep first second third result }
+{
+    match (first, second, third) {
+        (Node::Leaf(first), Node::Leaf(second), Node::Leaf(third)) => {
+            Step::Answers(first, second, third)
+        }
+        _ => Step::Bit(bit_of(first).min(bit_of(second)).min(bit_of(third))),
+    }
+}
+
+impl Diagrams {
+    /// No node yet.
+    pub fn new(alloc: Global, budget: Budget) -> Diagrams
+        ensures { result ≡ [] }
+    {
+        Diagrams {
+            table: UniqueTable::new(alloc),
+            cache: ComputedCache::empty(alloc),
+            budget,
+        }
+    }
+
+    /// How many nodes there are.
+    pub fn len(&self) -> usize
+        ensures { result ≡ length self.now }
+    {
+        self.table.len()
+    }
+
+    /// What is left of the budget.
+    pub fn budget(&self) -> Budget {
+        self.budget
+    }
+
+    /// The node at a place.
+    pub fn node(&self, place: u32) -> Node
+        requires { place < length self.now }
+        ensures node { result ≡ slice_index_or self.now place (Node.Leaf Answer.Never) }
+        ensures before { IsBefore place result }
+        ensures says { (v : ℕ → Bool) → answer self.now v place ≡ node_answer self.now result v }
+    {
+        self.table.node(place)
+    }
+
+    /// Takes a step from the budget.
+    fn spend(&mut self) -> Result<(), Stop>
+        ensures { self.new ≡ self.old }
+    {
+        let Some(left) = self.budget.steps.checked_sub(1) else {
+            return Err(Stop::Budget);
+        };
+        self.budget.steps = left;
+        Ok(())
+    }
+
+    /// The place of a node, which is added if it is not there.
+    fn place(&mut self, node: Node) -> Result<u32, Stop>
+        requires { IsBefore (length self.old) node }
+        ensures gives { IfOk result (Gives self.new (node_answer self.old node)) }
+        ensures grew { Grew self.old self.new }
+    {
+        if self.table.len() >= self.budget.nodes {
+            return Err(Stop::Budget);
+        }
+        self.table.place(node)
+    }
+
+    /// A node that gives an answer.
+    pub fn leaf(&mut self, says: Answer) -> Result<u32, Stop>
+        ensures gives { IfOk result (Gives self.new (λ v. says)) }
+        ensures grew { Grew self.old self.new }
+    {
+        self.place(Node::Leaf(says))
+    }
+
+    /// A node that goes on at one of two others, by a bit.
+    #[tactic(auto, using(crate::proofs::Tables::grown_more, crate::proofs::Tables::grown_same, crate::proofs::Tables::grown_inside))]
+    pub fn branch(&mut self, bit: u32, zero: u32, one: u32) -> Result<u32, Stop>
+        requires zero { zero < length self.old }
+        requires one { one < length self.old }
+        ensures gives { IfOk result (Gives self.new (λ v. cond (v bit) (answer self.old v one) (answer self.old v zero))) }
+        ensures grew { Grew self.old self.new }
+    {
+        if zero == one {
+            return Ok(zero);
+        }
+        self.place(Node::Branch(bit, zero, one))
+    }
+
+    /// Where a node goes on if a bit is known: at one of its children, or where it does not ask for the bit at itself.
+    fn half(&self, place: u32, bit: u32, one: bool) -> u32
+        requires { place < length self.now }
+        ensures inside { result < length self.now }
+        ensures says { (v : ℕ → Bool) → v bit ≡ one → answer self.now v result ≡ answer self.now v place }
+    {
+        match self.node(place) {
+            Node::Branch(asked, zero, other) if asked == bit => { if one { other } else { zero } }
+            _ => place,
+        }
+    }
+
+    /// The same call, where a bit is known.
+    fn half_of(&self, call: Call, bit: u32, one: bool) -> Call
+        requires { IsInside self.now call }
+        ensures inside { IsInside self.now result }
+        ensures says { (v : ℕ → Bool) → v bit ≡ one → call_answer self.now result v ≡ call_answer self.now call v }
+    {
+        Call {
+            operation: call.operation,
+            first: self.half(call.first, bit, one),
+            second: self.half(call.second, bit, one),
+            third: self.half(call.third, bit, one),
+        }
+    }
+
+    /// Where the node of a call is, if that takes no step.
+    fn known(&self, call: Call) -> Option<u32>
+        requires { IsInside self.now call }
+        ensures { IfSome result (IsResult self.now call) }
+    {
+        if call.operation.keeps_same() && call.first == call.second {
+            return Some(call.first);
+        }
+        if let Node::Leaf(says) = self.node(call.first) {
+            if call.operation.ends_at(says) {
+                return Some(call.first);
+            }
+            if call.operation.passes(says) {
+                return Some(call.second);
+            }
+            if call.operation.skips(says) {
+                return Some(call.third);
+            }
+        }
+        self.cache.get(call)
+    }
+
+    /// Keeps the node of a call, and returns its place. The cache has about as many entries as there are nodes, up to its most.
+    fn keep(&mut self, call: Call, place: u32) -> Result<u32, Stop>
+        requires inside { IsInside self.old call }
+        requires result { IsResult self.old call place }
+        ensures gives { IfOk result (IsResult self.old call) }
+        ensures same { self.new ≡ self.old }
+    {
+        let size = self.cache.len();
+        if size < MOST_ENTRIES && size <= self.table.len() {
+            let wider = self.cache.wider()?;
+            self.cache = wider;
+        }
+        self.cache.put(call, place);
+        Ok(place)
+    }
+
+    /// The node of a call on answers.
+    #[tactic(auto, using(crate::proofs::Tables::grown_more, crate::proofs::Tables::grown_same, crate::proofs::Tables::grown_inside))]
+    fn apply_answers(
+        &mut self,
+        call: Call,
+        first: Answer,
+        second: Answer,
+        third: Answer,
+    ) -> Result<u32, Stop>
+        requires inside { IsInside self.old call }
+        requires is { (v : ℕ → Bool) → outcome call.operation first second third ≡ call_answer self.old call v }
+        ensures gives { IfOk result (Gives self.new (call_answer self.old call)) }
+        ensures grew { Grew self.old self.new }
+    {
+        let place = self.leaf(call.operation.of(first, second, third))?;
+        self.keep(call, place)
+    }
+
+    /// The node of a call, by those of its halves.
+    #[tactic(auto, using(crate::proofs::Tables::grown_more, crate::proofs::Tables::grown_same, crate::proofs::Tables::grown_inside))]
+    fn apply_halves(&mut self, call: Call, bit: u32, zero: u32, one: u32) -> Result<u32, Stop>
+        requires inside { IsInside self.old call }
+        requires zero { zero < length self.old }
+        requires one { one < length self.old }
+        requires whole { (v : ℕ → Bool) → cond (v bit) (answer self.old v one) (answer self.old v zero) ≡ call_answer self.old call v }
+        ensures gives { IfOk result (Gives self.new (call_answer self.old call)) }
+        ensures grew { Grew self.old self.new }
+    {
+        let place = self.branch(bit, zero, one)?;
+        self.keep(call, place)
+    }
+
+    /// The node of a call that goes at most so many bits deep, or else a call below it that is wanted first.
+    #[tactic(auto, using(crate::proofs::Tables::grown_more, crate::proofs::Tables::grown_same, crate::proofs::Tables::grown_inside))]
+    fn apply_within(&mut self, call: Call, depth: u32) -> Result<Applied, Stop>
+        requires { IsInside self.old call }
+        ensures applied { IfOk result (IsApplied self.old self.new call) }
+        ensures grew { Grew self.old self.new }
+    {
+        if let Some(place) = self.known(call) {
+            return Ok(Applied::Node(place));
+        }
+        self.spend()?;
+        let step = step_of(
+            self.node(call.first),
+            self.node(call.second),
+            self.node(call.third),
+        );
+        let bit = match step {
+            Step::Answers(first, second, third) => {
+                return Ok(Applied::Node(self.apply_answers(call, first, second, third)?));
+            }
+            Step::Bit(bit) => bit,
+        };
+        let Some(rest) = depth.checked_sub(1) else {
+            return Ok(Applied::First(call));
+        };
+        let low = self.half_of(call, bit, false);
+        let high = self.half_of(call, bit, true);
+        let zero = match self.apply_within(low, rest)? {
+            Applied::Node(place) => place,
+            Applied::First(inner) => return Ok(Applied::First(inner)),
+        };
+        let one = match self.apply_within(high, rest)? {
+            Applied::Node(place) => place,
+            Applied::First(inner) => return Ok(Applied::First(inner)),
+        };
+        Ok(Applied::Node(self.apply_halves(call, bit, zero, one)?))
+    }
+
+    /// The node of a call. It puts off calls that go on far below, and tries again with what they gave.
+    #[tactic(auto, using(crate::proofs::Tables::grown_more, crate::proofs::Tables::grown_same, crate::proofs::Tables::grown_inside))]
+    fn apply_call(&mut self, call: Call, levels: u32) -> Result<u32, Stop>
+        requires { IsInside self.old call }
+        ensures gives { IfOk result (Gives self.new (call_answer self.old call)) }
+        ensures grew { Grew self.old self.new }
+    {
+        let Some(rest) = levels.checked_sub(1) else {
+            return Err(Stop::Budget);
+        };
+        for attempt in 0..u64::MAX {
+            let more = (attempt % MORE) as u32;
+            let inner = match self.apply_within(call, DEPTH + more)? {
+                Applied::Node(place) => return Ok(place),
+                Applied::First(inner) => inner,
+            };
+            self.apply_call(inner, rest)?;
+        }
+        Err(Stop::Budget)
+    }
+
+    /// A node that answers what an operation makes of the answers of two nodes.
+    pub fn apply(&mut self, operation: Operation, first: u32, second: u32) -> Result<u32, Stop>
+        requires first { first < length self.old }
+        requires second { second < length self.old }
+        ensures gives { IfOk result (Gives self.new (λ v. joined operation (answer self.old v first) (answer self.old v second))) }
+        ensures grew { Grew self.old self.new }
+    {
+        let call = Call {
+            operation,
+            first,
+            second,
+            third: second,
+        };
+        self.apply_call(call, LEVELS)
+    }
+
+    /// A node that goes on at `yes` or at `no`, by what the node `test` answers.
+    pub fn ite(&mut self, test: u32, yes: u32, no: u32) -> Result<u32, Stop>
+        requires test { test < length self.old }
+        requires yes { yes < length self.old }
+        requires no { no < length self.old }
+        ensures gives { IfOk result (Gives self.new (λ v. ite_answer (answer self.old v test) (answer self.old v yes) (answer self.old v no))) }
+        ensures grew { Grew self.old self.new }
+    {
+        let call = Call {
+            operation: Operation::Ite,
+            first: test,
+            second: yes,
+            third: no,
+        };
+        self.apply_call(call, LEVELS)
+    }
+
+    /// Whether a node gives one answer to everything.
+    pub fn is(&self, place: u32, says: Answer) -> bool
+        requires { place < length self.now }
+        ensures { IsTrue result → (v : ℕ → Bool) → answer self.now v place ≡ says }
+    {
+        self.node(place) == Node::Leaf(says)
+    }
+}

@@ -1,0 +1,272 @@
+// The page as a whole: what is typed and chosen, and which view follows which.
+
+import { ComparisonView } from "./comparison.js";
+import { Desk, Ended } from "./jobs.js";
+import { FilterView } from "./filter.js";
+import { GraphView } from "./graph.js";
+import { LessonView } from "./lessons.js";
+import { ListView, NO_ANSWERS } from "./list.js";
+import { ListenersView } from "./listeners.js";
+import { OK } from "./library.js";
+import { PacketView } from "./packet.js";
+import { Stopped } from "./memory.js";
+import { captureOf, cutCapture } from "./captures.js";
+import { find, settled } from "./dom.js";
+import { linkTo, readState } from "./state.js";
+
+/** @typedef {import("./library.js").Library} Library */
+/** @typedef {import("./captures.js").Records} Records */
+/** @typedef {import("./filter.js").Filter} Filter */
+/** @typedef {import("./state.js").PageState} PageState */
+/**
+ * A capture: its name, the file and the packets in it.
+ * @typedef {{ name: string, file: Uint8Array, records: Records }} Capture
+ */
+
+const EXAMPLE = "examples/veth.pcap";
+
+export class App {
+  /**
+   * @param {Library} library
+   * @param {() => Worker} startWorker
+   * @param {Uint8Array} example the capture that the page carries
+   */
+  constructor(library, startWorker, example) {
+    this.library = library;
+    this.example = example;
+    this.state = readState(location.hash);
+    /** @type {Filter | null} */
+    this.filter = null;
+    /** @type {Capture | null} */
+    this.capture = null;
+    this.source = { name: EXAMPLE, file: example };
+    const desk = (/** @type {boolean} */ yields) => new Desk(startWorker, library.module, yields);
+    this.packetDesk = desk(true);
+    this.write = settled(150, () => this.writeLink());
+    this.filterView = new FilterView((filter) => this.follow(filter));
+    this.graph = new GraphView(() => this.packet.go(this.packet.at));
+    this.packet = new PacketView((trace, at) => this.mark(trace, at));
+    this.list = new ListView((place) => this.choose(place));
+    this.comparison = new ComparisonView(desk(false), (packet, wire) => this.openWitness(packet, wire), this.write);
+    this.listeners = new ListenersView(desk(false), this.write);
+    this.lessons = new LessonView();
+    [this.filterView, this.comparison, this.listeners].forEach((view) => view.use(library));
+  }
+
+  start() {
+    find("about").textContent = `Library ${this.library.version()}. All is done in this page: nothing is sent anywhere.`;
+    this.listen();
+    this.go(this.state);
+  }
+
+  listen() {
+    const open = async (/** @type {File | undefined} */ file) => {
+      if (file) this.openFile(file.name, new Uint8Array(await file.arrayBuffer()));
+    };
+    window.addEventListener("hashchange", () => this.go(readState(location.hash)));
+    window.addEventListener("error", (event) => this.takeTrap(event, event.error));
+    window.addEventListener("unhandledrejection", (event) => this.takeTrap(event, event.reason));
+    document.addEventListener("keydown", (event) => this.key(event));
+    find("file").addEventListener("change", (event) => open(/** @type {any} */ (event.target).files[0]));
+    find("example-file").addEventListener("click", () => this.openFile(EXAMPLE, this.example));
+    find("cut").addEventListener("change", () => this.cut());
+    find("stop-packets").addEventListener("click", () => this.packetDesk.stop());
+    find("show-filters").addEventListener("click", () => this.view("filters"));
+    find("show-listeners").addEventListener("click", () => this.view("listeners"));
+    const over = (/** @type {boolean} */ isOver) => (/** @type {DragEvent} */ event) => {
+      event.preventDefault();
+      document.body.classList.toggle("over", isOver);
+    };
+    document.addEventListener("dragover", over(true));
+    document.addEventListener("dragleave", over(false));
+    document.addEventListener("drop", (event) => {
+      over(false)(event);
+      if (event.dataTransfer) open(event.dataTransfer.files[0]);
+    });
+  }
+
+  /**
+   * Shows a state, as a link has it.
+   * @param {PageState} state
+   */
+  go(state) {
+    const isCutAnew = this.capture === null || state.cut !== this.state.cut;
+    this.state = state;
+    this.listeners.write(state);
+    this.lessons.show(state);
+    if (isCutAnew) this.openCapture();
+    this.comparison.input.value = state.other;
+    this.filterView.write(state.filter);
+    if (!isCutAnew && state.packet >= 0) this.show(state.packet);
+    this.view(state.view);
+  }
+
+  /** Writes the state into the address of the page. */
+  writeLink() {
+    const { filterView, comparison, listeners } = this;
+    Object.assign(this.state, listeners.plan, { filter: filterView.input.value, other: comparison.input.value });
+    history.replaceState(null, "", linkTo(this.state));
+  }
+
+  /** @param {string} view */
+  view(view) {
+    this.state.view = view;
+    for (const name of ["filters", "listeners"]) {
+      find(name).hidden = name !== view;
+      find(`show-${name}`).setAttribute("aria-pressed", String(name === view));
+    }
+    if (view === "listeners" && this.capture) {
+      this.listeners.open(this.capture);
+      this.listeners.play();
+    }
+    this.write();
+  }
+
+  /**
+   * Goes on with another filter, or without one.
+   * @param {Filter | null} filter
+   */
+  follow(filter) {
+    this.filter = filter;
+    find("stopped").hidden = true;
+    this.graph.show(filter);
+    this.comparison.follow(filter && filter.expression);
+    this.explain();
+    this.show(this.list.chosen);
+    this.write();
+  }
+
+  /**
+   * @param {string} name
+   * @param {Uint8Array} file
+   */
+  openFile(name, file) {
+    this.source = { name, file };
+    this.state.packet = -1;
+    this.openCapture();
+  }
+
+  cut() {
+    const size = Number(/** @type {HTMLInputElement} */ (find("cut")).value);
+    this.state.cut = Number.isInteger(size) && size > 0 ? size : 0;
+    this.openCapture();
+  }
+
+  /** Reads the records of the capture, each packet cut if that is wanted, and asks the filter about each. */
+  async openCapture() {
+    const { name, file: whole } = this.source, { cut } = this.state;
+    /** @type {HTMLInputElement} */ (find("cut")).value = cut ? String(cut) : "";
+    this.capture = null;
+    const file = cut ? cutCapture(this.library, whole, cut) : whole;
+    try {
+      const records = await this.packetDesk.ask("open", [file]);
+      this.capture = { name, file, records };
+    } catch (why) {
+      this.endOf(why);
+      return;
+    }
+    this.showName(this.capture);
+    this.list.open(this.capture.records);
+    this.show(Math.min(Math.max(0, this.state.packet), this.capture.records.count - 1));
+    this.explain();
+    this.view(this.state.view);
+  }
+
+  /** @param {Capture} capture */
+  showName({ name, records }) {
+    const { fault, place, count } = records, text = fault === OK ? "" : `: ${this.library.faultText(fault, place)}`;
+    find("capture-name").textContent = `${name}, ${count} packets${text}${fault !== OK && count ? "; the packets before it are shown" : ""}`;
+    find("capture-name").classList.toggle("fault", fault !== OK);
+    find("counts").textContent = "";
+  }
+
+  /** Asks the filter about each packet of the capture. */
+  async explain() {
+    const { filter, capture } = this;
+    // Once a capture is read, it is explained.
+    if (!capture) return;
+    this.packetDesk.turnAway();
+    this.list.answer(NO_ANSWERS, true);
+    if (!filter) return;
+    const slow = setTimeout(() => (find("stop-packets").hidden = false), 200);
+    try {
+      // A worker that was stopped has forgotten the capture.
+      if (!this.packetDesk.isOpen) await this.packetDesk.ask("open", [capture.file]);
+      const answers = await this.packetDesk.ask("ask", [filter.expression], (news) => this.list.answer(news, false));
+      this.list.answer(answers, true);
+      if (this.state.packet < 0) this.show(Math.max(0, answers.verdicts.indexOf(1)));
+    } catch (why) {
+      this.endOf(why);
+    } finally {
+      clearTimeout(slow);
+      find("stop-packets").hidden = true;
+    }
+  }
+
+  /** @param {number} place of the packet that the user chose */
+  choose(place) {
+    this.state.packet = place;
+    this.show(place);
+    this.write();
+  }
+
+  /** @param {number} place */
+  show(place) {
+    const { capture } = this, isThere = capture !== null && place >= 0 && place < capture.records.count;
+    if (!isThere) {
+      this.packet.show(this.library, this.filter, null);
+      return;
+    }
+    const { offsets, captured, wire } = capture.records, begin = offsets[place];
+    this.list.show(place);
+    this.packet.show(this.library, this.filter, { place, bytes: capture.file.subarray(begin, begin + captured[place]), wire: wire[place] });
+  }
+
+  /**
+   * Shows where the run of the chosen packet is.
+   * @param {import("./library.js").Trace | null} trace
+   * @param {number} at
+   */
+  mark(trace, at) {
+    const steps = trace ? trace.steps : [];
+    this.filterView.mark(steps, at);
+    this.graph.mark(steps.map(({ place }) => place), steps.length ? steps[at].place : -1);
+  }
+
+  /**
+   * @param {Uint8Array} packet
+   * @param {number} wire
+   */
+  openWitness(packet, wire) {
+    this.state.cut = 0;
+    this.openFile("the packet that shows the difference", captureOf(this.library, packet, wire));
+  }
+
+  /** @param {KeyboardEvent} event */
+  key(event) {
+    const isTyped = event.target instanceof HTMLElement && event.target.matches("input:not([type=checkbox]), textarea, select");
+    if (isTyped || event.ctrlKey || event.altKey || event.metaKey) return;
+    const view = this.state.view === "filters" ? this.packet : this.listeners;
+    if (view.takesKey(event.key)) event.preventDefault();
+  }
+
+  /**
+   * Says that the library stopped in a call of the page's own. It has been started anew by then.
+   * @param {Event} event
+   * @param {unknown} why
+   */
+  takeTrap(event, why) {
+    if (!(why instanceof Stopped)) return;
+    event.preventDefault();
+    this.follow(null);
+    this.endOf(why);
+  }
+
+  /** @param {unknown} why work of a worker came to no end */
+  endOf(why) {
+    if (why instanceof Ended) return;
+    find("stopped").hidden = false;
+    find("stopped").textContent = `The library stopped in this call (${why instanceof Error ? why.message : why}). `
+      + "It was started anew and the page goes on, but this filter has no result here.";
+  }
+}

@@ -1,0 +1,131 @@
+// Captures: what the library reads of one, and a capture of one packet.
+
+import { END, MOST_SNAP, OK } from "./library.js";
+import { words } from "./memory.js";
+
+/** @typedef {import("./library.js").Library} Library */
+/** @typedef {import("./memory.js").Part} Part */
+
+/**
+ * The packets of a capture, a column for each of their numbers, and the fault that ended them if one did.
+ * @typedef {object} Records
+ * @property {number} count
+ * @property {Float64Array} offsets where the captured bytes begin in the file
+ * @property {Uint32Array} seconds
+ * @property {Uint32Array} nanos
+ * @property {Uint32Array} captured
+ * @property {Uint32Array} wire
+ * @property {number} fault
+ * @property {number} place
+ */
+
+const RECORD_SIZE = 40, READER_SIZE = 32, RECORDS_ROOM = 1024;
+
+/** @returns {Records} */
+function noRecords() {
+  const [seconds, nanos, captured, wire] = [0, 1, 2, 3].map(() => new Uint32Array(RECORDS_ROOM));
+  return { count: 0, offsets: new Float64Array(RECORDS_ROOM), seconds, nanos, captured, wire, fault: 0, place: 0 };
+}
+
+/**
+ * @template {Float64Array | Uint32Array} T
+ * @param {T} column
+ * @param {number} size
+ * @returns {T} the column with another size
+ */
+function resized(column, size) {
+  const longer = column instanceof Float64Array ? new Float64Array(size) : new Uint32Array(size);
+  longer.set(column.subarray(0, Math.min(size, column.length)));
+  return /** @type {T} */ (longer);
+}
+
+/**
+ * @param {Records} records
+ * @param {number} size
+ */
+function resize(records, size) {
+  records.offsets = resized(records.offsets, size);
+  records.seconds = resized(records.seconds, size);
+  records.nanos = resized(records.nanos, size);
+  records.captured = resized(records.captured, size);
+  records.wire = resized(records.wire, size);
+}
+
+/**
+ * @param {Library} library
+ * @param {number} at
+ * @param {Records} records
+ */
+function append(library, at, records) {
+  const { count } = records, view = library.view();
+  if (count === records.offsets.length) resize(records, 2 * count);
+  records.offsets[count] = library.u64(at);
+  records.seconds[count] = view.getUint32(at + 20, true);
+  records.nanos[count] = view.getUint32(at + 24, true);
+  records.captured[count] = view.getUint32(at + 28, true);
+  records.wire[count] = view.getUint32(at + 32, true);
+  records.count++;
+}
+
+/**
+ * Reads the records of a capture that is in the library's memory, up to its end or its first fault.
+ * @param {Library} library
+ * @param {Part} capture
+ * @returns {Records}
+ */
+export function readRecords(library, capture) {
+  return library.within((take) => {
+    const reader = take(READER_SIZE), record = take(RECORD_SIZE), records = noRecords();
+    library.call("open", BigInt(reader), ...words(capture));
+    records.fault = library.u32(reader + 16);
+    while (records.fault === OK) {
+      library.call("next", BigInt(record), ...words(capture), BigInt(reader));
+      const fault = library.u32(record + 16);
+      if (fault === END) break;
+      if (fault === OK) {
+        append(library, record, records);
+      } else {
+        records.fault = fault;
+        records.place = library.u64(record + 8);
+      }
+    }
+    resize(records, records.count);
+    return records;
+  });
+}
+
+/**
+ * A capture of one packet, as a file.
+ * @param {Library} library
+ * @param {Uint8Array} packet
+ * @param {number} wire
+ */
+export function captureOf(library, packet, wire) {
+  return library.within((take) => {
+    const room = packet.length + 64, result = take(24), to = take(room), record = take(RECORD_SIZE), bytes = library.put(take, packet);
+    library.call("put_header", BigInt(result), 0, 0, MOST_SNAP, BigInt(to), BigInt(room));
+    const begin = library.result(result).size;
+    library.bytes(record, RECORD_SIZE).fill(0);
+    library.view().setUint32(record + 28, packet.length, true);
+    library.view().setUint32(record + 32, wire, true);
+    library.call("put", BigInt(result), 0, 0, BigInt(record), ...words(bytes), BigInt(to + begin), BigInt(room - begin));
+    return library.bytes(to, begin + library.result(result).size).slice();
+  });
+}
+
+/**
+ * A capture with at most this many bytes of each packet, as a file; up to a record that cannot be read.
+ * @param {Library} library
+ * @param {Uint8Array} file
+ * @param {number} size
+ */
+export function cutCapture(library, file, size) {
+  const { insns } = library.compile("");
+  return library.within((take) => {
+    const result = take(24), to = take(file.length), capture = library.put(take, file), program = library.putProgram(take, insns);
+    library.call("cut", BigInt(result), ...words(capture), ...program, size, BigInt(to), BigInt(file.length));
+    const written = library.result(result).size;
+    // A file that is no capture stays as it is, so that its fault is shown.
+    return written > 0 && written <= file.length ? library.bytes(to, written).slice() : file;
+  });
+}

@@ -1,0 +1,111 @@
+// The filter that is typed: how it is read, its instructions by names, or its fault with a caret and hints.
+
+import { OK } from "./library.js";
+import { decode } from "./program.js";
+import { find, make } from "./dom.js";
+
+/** @typedef {import("./library.js").Library} Library */
+/** @typedef {import("./program.js").Insn} Insn */
+/** @typedef {import("./library.js").Executed} Executed */
+/**
+ * An expression that has a program; the image has its instructions by names.
+ * @typedef {{ expression: string, insns: Uint8Array, program: Insn[], image: string[] }} Filter
+ */
+
+/**
+ * Spaces up to a byte of a text, and a caret.
+ * @param {string} text
+ * @param {number} place
+ */
+export function caret(text, place) {
+  const before = new TextDecoder().decode(new TextEncoder().encode(text).slice(0, place));
+  return " ".repeat([...before].length) + "^";
+}
+
+/**
+ * The lines that explain a fault of an expression: the caret if it has a place, its name, and the hints.
+ * @param {Library} library
+ * @param {string} expression
+ * @param {{ fault: number, place: number }} answer
+ */
+export function faultLines(library, expression, { fault, place }) {
+  const name = library.faultText(fault, place), hint = library.hint(fault, place, expression);
+  return [/ \d+$/.test(name) ? caret(expression, place) : "", name, ...hint.split("\n")].filter(Boolean);
+}
+
+export class FilterView {
+  /** @param {(filter: Filter | null) => void} onFilter is called after each edit */
+  constructor(onFilter) {
+    this.onFilter = onFilter;
+    /** @type {HTMLInputElement} */
+    this.input = find("filter");
+    /**
+     * The rows of the listing.
+     * @type {HTMLElement[]}
+     */
+    this.lines = [];
+    this.input.addEventListener("input", () => this.read());
+  }
+
+  /** @param {Library} library */
+  use(library) {
+    this.library = library;
+  }
+
+  /** @param {string} expression */
+  write(expression) {
+    this.input.value = expression;
+    this.read();
+  }
+
+  read() {
+    const library = /** @type {Library} */ (this.library), expression = this.input.value, answer = library.compile(expression);
+    if (answer.fault !== OK) {
+      this.show(faultLines(library, expression, answer).join("\n"), "", []);
+      this.onFilter(null);
+      return;
+    }
+    const image = library.image(answer.insns).text.trimEnd().split("\n").map((line) => line.replace("\t", " "));
+    this.show("", library.print(expression).text, image);
+    this.onFilter({ expression, insns: answer.insns, program: decode(answer.insns), image });
+  }
+
+  /**
+   * @param {string} fault
+   * @param {string} canonical
+   * @param {string[]} image
+   */
+  show(fault, canonical, image) {
+    find("fault").textContent = fault;
+    this.input.setAttribute("aria-invalid", String(fault !== ""));
+    const count = `${image.length} instruction${image.length === 1 ? "" : "s"}`;
+    find("canonical").replaceChildren(...(fault ? [] : ["read as ", make("code", {}, canonical || "(every packet)"), `: ${count}`]));
+    const width = Math.max(0, ...image.map((line) => line.length)) + 2;
+    this.lines = image.map((line) => make("span", { class: "insn" }, line.padEnd(width), make("span", { class: "registers" }), "\n"));
+    find("listing").replaceChildren(...this.lines);
+  }
+
+  /**
+   * Marks the instructions that a run executed, with the registers after each.
+   * @param {Executed[]} steps
+   * @param {number} at which step it is at
+   */
+  mark(steps, at) {
+    const { lines } = this, byPlace = new Map(steps.map((step, number) => [step.place, { step, number }]));
+    lines.forEach((line, place) => {
+      const found = byPlace.get(place), registers = /** @type {Element} */ (line.querySelector(".registers"));
+      registers.textContent = found ? registersText(found.step) : "";
+      line.classList.toggle("way", found !== undefined);
+      line.classList.toggle("here", found !== undefined && found.number === at);
+    });
+    const here = lines[steps.length ? steps[at].place : -1], box = find("listing");
+    if (here && (here.offsetTop < box.scrollTop || here.offsetTop + here.offsetHeight > box.scrollTop + box.clientHeight)) {
+      box.scrollTop = here.offsetTop - box.clientHeight / 2;
+    }
+  }
+}
+
+/** @param {Executed} step */
+export function registersText({ accumulator, index }) {
+  return `A 0x${accumulator.toString(16)} X 0x${index.toString(16)}`;
+}

@@ -1,0 +1,96 @@
+// The lessons of examples/lessons that can be done in the page: what to look at, and a link to it.
+
+import { find, make } from "./dom.js";
+import { linkTo, readState } from "./state.js";
+
+/** @typedef {import("./state.js").PageState} PageState */
+/**
+ * A thing to look at.
+ * @typedef {{ say: string, show: Partial<PageState> }} Stop
+ */
+/** @typedef {{ name: string, title: string, stops: Stop[] }} Lesson */
+
+const STEP = { view: "listeners", filter: "icmp", listeners: "64 192 icmp\n" };
+
+/**
+ * @param {number} arrivals between two reads
+ * @param {number} times
+ */
+const readAfter = (arrivals, times) => ("arrive\n".repeat(arrivals) + "read 0\n").repeat(times);
+
+/** @type {Lesson[]} */
+const LESSONS = [
+  {
+    name: "filters",
+    title: "What a filter is",
+    stops: [
+      { say: "A filter is read as a tree: what a number inherits is written out in the line below the box.", show: { filter: "tcp port 80 or 8080" } },
+      { say: "`and` and `or` bind alike, from the left. What would C make of it?", show: { filter: "arp or icmp and src host 192.0.2.1" } },
+      { say: "The smallest program: which bytes does it load, and where does it go? Be the machine on packet 2.", show: { filter: "icmp", packet: 2 } },
+      { say: "The first packet is an ARP request: how many instructions run, and why so few?", show: { filter: "icmp", packet: 0 } },
+      { say: "A text that is no expression is refused, at the place where it stops being one.", show: { filter: "icmp and proot 17" } },
+    ],
+  },
+  {
+    name: "drops",
+    title: "Why a packet was dropped",
+    stops: [
+      { say: "Two buffers of 192 bytes, seven arrivals, and nobody reads: go through the steps by the arrow keys.", show: { ...STEP, script: "arrive\n".repeat(7) } },
+      { say: "A reader that comes after each two packets loses nothing.", show: { ...STEP, script: readAfter(2, 20) } },
+      { say: "After each eight: at which step is a packet lost first, and why?", show: { ...STEP, script: readAfter(8, 8) } },
+      { say: "The same reader with larger buffers.", show: { ...STEP, listeners: "64 768 icmp\n", script: readAfter(8, 8) } },
+      { say: "An `i` hands each packet over at once. Which of the two loses more?", show: { ...STEP, listeners: "64 192 icmp\n64 192i icmp\n", script: readAfter(8, 8).replace(/read 0/g, "read 0\nread 1") } },
+    ],
+  },
+  {
+    name: "rejects",
+    title: "Why a filter rejects",
+    stops: [
+      { say: "Frames cut to 14 bytes: a test that needs a byte that is not there aborts, and the packet is rejected.", show: { filter: "tcp", cut: 14, packet: 2 } },
+      { say: "`not` makes Yes of No. What does it make of Abort?", show: { filter: "not tcp", cut: 14, packet: 2 } },
+      { say: "The order counts: put the test that can be answered first.", show: { filter: "ip or not tcp", cut: 14, packet: 2 } },
+      { say: "A later fragment has no ports: bytes 20 and 21 have its place in the packet.", show: { filter: "udp port 5353", packet: 116 } },
+      { say: "This was meant to keep answers. Why does it keep packet 27?", show: { filter: "icmp and not icmp[icmptype] = icmp-echo", packet: 27 } },
+      { say: "A division by 0 has no answer either.", show: { filter: "10 / (len - 42) = 0", packet: 0 } },
+    ],
+  },
+  {
+    name: "same",
+    title: "Filters that look the same",
+    stops: [
+      { say: "A filter that was shortened: is it still the same, for every packet there can be?", show: { filter: "ip and tcp port 80", other: "tcp port 80" } },
+      { say: "`not` takes one test, and `or 443` inherits the word `port` only.", show: { filter: "not port 80 or 443", other: "not (port 80 or 443)" } },
+      { say: "Any port is not every packet: open the packet that shows it.", show: { filter: "tcp", other: "tcp portrange 0-65535" } },
+      { say: "The order of `or`, on frames that were cut.", show: { filter: "port 80 or 8080", other: "port 8080 or 80", cut: 36, packet: 124 } },
+    ],
+  },
+];
+
+/**
+ * The words of a text, with those between backquotes as code.
+ * @param {string} text
+ */
+const withCode = (text) => text.split("`").map((part, at) => (at % 2 ? make("code", {}, part) : part));
+
+export class LessonView {
+  /** Puts a link to each lesson into the page's list. */
+  constructor() {
+    const link = (/** @type {Lesson} */ { name, title, stops }) => make("a", { href: linkTo({ ...stops[0].show, lesson: name }) }, title);
+    find("lessons").replaceChildren(...LESSONS.map((lesson) => make("li", {}, link(lesson))));
+  }
+
+  /** @param {PageState} state */
+  show(state) {
+    const lesson = LESSONS.find(({ name }) => name === state.lesson), panel = find("lesson");
+    panel.hidden = lesson === undefined;
+    if (!lesson) return;
+    const here = linkTo(state);
+    const stops = lesson.stops.map(({ say, show }) => {
+      const href = linkTo({ ...show, lesson: lesson.name }), isHere = linkTo(readState(href)) === here;
+      return make("li", {}, make("a", { href, "aria-current": isHere ? "step" : undefined }, ...withCode(say)));
+    });
+    panel.replaceChildren(make("h2", {}, `Lesson: ${lesson.title}`), make("ol", {}, ...stops),
+      make("p", { class: "soft" }, `The whole lesson, with questions, is examples/lessons/${lesson.name}.md. `,
+        make("a", { href: linkTo({ ...state, lesson: "" }) }, "Close the lesson")));
+  }
+}

@@ -1,0 +1,390 @@
+"""The page: its module beside the native library, what it is made of, and what a person sees in Chromium and in Firefox."""
+import base64
+import gzip
+import json
+import os
+import pathlib
+import random
+import re
+import subprocess
+import sys
+import time
+
+from . import library
+from .common import HEADER, IP_RECORD, LIMIT, ROOT, TORN, VETH, case, records
+
+SOURCES = ROOT / "page"
+HARNESS = ROOT / "tests" / "page"
+sys.path[:0] = [str(SOURCES), str(HARNESS)]
+import browsers
+import make_page
+
+# The page that the variable BPFTAP_PAGE names, the one that was made here, or the released one.
+NAMED = [pathlib.Path(path).resolve() for path in [os.environ.get("BPFTAP_PAGE")] if path]
+PAGE = next((path for path in [*NAMED, ROOT / "out" / "page" / "bpftap.html", ROOT / "release" / "bpftap.html"] if path.is_file()), None)
+# Debian's linter looks for its own modules only under Debian's own node.
+NODE = {**os.environ, "NODE_PATH": "/usr/share/nodejs"}
+
+
+def is_there(scene):
+    if PAGE is None:
+        scene.leave("there is no page: ./build --page makes it")
+    return PAGE is not None
+
+
+def part(name):
+    """What the page carries, unpacked: `module` or `example`."""
+    found = re.search(rf'<script type="text/plain" id="{name}">([^<]*)</script>', PAGE.read_text())
+    return gzip.decompress(base64.b64decode(found[1]))
+
+
+def printed(scene, words, given=None, **how):
+    """What words print, and their status, in the scene's folder."""
+    done = subprocess.run(words, cwd=scene.folder, input=given, stdout=subprocess.PIPE, stderr=subprocess.STDOUT, text=True, timeout=10 * LIMIT, **how)
+    return done.stdout, done.returncode
+
+
+@case
+def scripts_are_checked(scene):
+    """The types of the page's scripts by tsc, and their style by eslint; no module has 300 lines."""
+    if scene.has("tsc"):
+        scene.check("tsc", printed(scene, ["tsc", "-p", SOURCES]), ("", 0))
+    if scene.has("eslint"):
+        done = subprocess.run(["eslint", "-f", "unix", "src"], cwd=SOURCES, env=NODE, capture_output=True, text=True, timeout=LIMIT)
+        scene.check("eslint", (done.stdout, done.stderr, done.returncode), ("", "", 0))
+
+
+@case
+def page_is_what_its_sources_give(scene):
+    """The page is made again from its module and its sources, byte for byte, and is small enough to send; its module asks for nothing."""
+    if not is_there(scene):
+        return
+    scene.start({"module": part("module")})
+    said = printed(scene, [sys.executable, "-B", SOURCES / "make_page.py", "module", "again.html"])
+    scene.check("made again", said, ("", 0))
+    scene.check("the same bytes", scene.read("again.html") == PAGE.read_bytes(), True)
+    scene.check("its example", part("example") == VETH.read_bytes(), True)
+    scene.check("at most 450 KB", PAGE.stat().st_size <= 450_000, True)
+    if scene.has("node"):
+        script = 'const m = new WebAssembly.Module(require("fs").readFileSync("module")); console.log(WebAssembly.Module.imports(m).length)'
+        scene.check("imports", printed(scene, ["node", "-e", script]), ("0\n", 0))
+    kept = ROOT / "out" / "build" / "page" / "library.wasm"
+    if kept.is_file() and PAGE.parent.name == "page":
+        scene.check("the module that was built", part("module") == kept.read_bytes(), True)
+
+
+WRONG_MODULES = {
+    "an intrinsic of x86": ("declare void @llvm.x86.sse2.pause()", "has intrinsics of x86: llvm.x86.sse2.pause"),
+    "another form": ("target triple = \"wasm\"", "the toolchain writes another form"),
+}
+
+
+@case
+def other_modules_are_refused(scene):
+    """A module in a form that is not known, with an intrinsic of x86 or with imports, and a file that is none: a sentence says so."""
+    for name, (text, wanted) in WRONG_MODULES.items():
+        scene.check(name, wanted in why(make_page.retargeted, text), True)
+    scene.start({"text.bc": "no module"})
+    said = why(make_page.module_of, scene.folder / "text.bc", scene.folder, scene.folder)
+    scene.check("a text", "is no LLVM module" in said, True)
+    imports = b"\0asm\1\0\0\0" + b"\x01\x04\x01\x60\0\0" + b"\x02\x07\x01\x01a\x01b\x00\x00"
+    scene.check("an import", "imports" in why(make_page.lower.lowered, imports), True)
+
+
+def why(call, *given):
+    """Why a call refuses what it is given."""
+    try:
+        call(*given)
+    except (make_page.Refused, make_page.lower.Unknown) as error:
+        return str(error)
+    return "nothing was refused"
+
+
+def spoiled(chance, text):
+    at = chance.randrange(len(text) + 1)
+    return text[:at] + chance.choice(["(", ")", "[", "!", "é", "9", " prot ", "%"]) + text[at:]
+
+
+def questions():
+    """What the module and the native library are asked: 2,000 expressions, some spoiled, 200 pairs, 300 captures, some spoiled, and steps."""
+    chance = random.Random(80)
+    texts = [library.expression(chance) for _ in range(2000)]
+    texts = [spoiled(chance, text) if number % 8 == 0 else text for number, text in enumerate(texts)]
+    frames = records(library.frames())
+    packets = [(frame[16:].hex(), int.from_bytes(frame[12:16], "little")) for frame in chance.sample(frames, 12)]
+    captures = []
+    for number in range(300):
+        file = bytearray(HEADER + b"".join(chance.sample(frames, chance.randrange(6))))
+        if number % 3:
+            file[chance.randrange(len(file))] ^= chance.randrange(1, 256)
+        captures.append([bytes(file[: chance.randrange(len(file)) if number % 5 == 0 else None]).hex(), chance.randrange(1, 100)])
+    played = VETH.read_bytes()[: 20_000].hex()
+    replays = [["64 192 icmp\n0 262176i arp\n", "arrive\n" * 20 + "read 0\nflush 1\nclose 0\n", played], ["x", "", ""], ["64 192 tcp and 80\n", "arrive\n", played]]
+    for _ in range(20):
+        lines = f"{chance.choice([1, 33, 96])} {chance.randrange(140, 4000)}{chance.choice(['', 'i'])} {chance.choice(['', 'ip', 'udp', 'not tcp'])}\n"
+        steps = chance.choices(["arrive", "arrive", "arrive", "read 0", "flush 0"], k=60)
+        replays.append([lines, "".join(f"{step}\n" for step in steps), played])
+    pairs = [[*pair, 20000] for pair in zip(texts[:200], texts[1:201])]
+    return {"packets": packets, "expressions": texts, "pairs": pairs, "captures": captures, "replays": replays}
+
+
+@case
+def module_answers_as_the_native_library(scene):
+    """All that the page asks: expressions and their programs, reasons, looks, traces and hints, pairs, captures and steps, beside libbpftap.so."""
+    if not is_there(scene) or not library.is_there(scene) or not scene.has("node"):
+        return
+    scene.start({"module": part("module")})
+    asked = questions()
+    seen, status = printed(scene, ["node", HARNESS / "module.js", "module"], json.dumps(asked))
+    wanted, other = printed(scene, [sys.executable, HARNESS / "native.py", library.LIBRARY], json.dumps(asked))
+    scene.check("statuses", (status, other), (0, 0))
+    seen, wanted = seen.splitlines(), wanted.splitlines()
+    scene.check("lines", (len(seen), len(wanted) > 2500), (len(wanted), True))
+    inputs = [*asked["expressions"], *asked["pairs"], *asked["captures"], *asked["replays"]]
+    differ = [f"{question}: {one} {other}" for question, one, other in zip(inputs, seen, wanted) if one != other]
+    scene.check("that differ", differ[:3], [])
+    scene.check("the last lines", seen[len(inputs):], wanted[len(inputs):])
+
+
+@case
+def refused_memory_is_no_trap(scene):
+    """Each allocation of some calls fails in turn: the call returns NoMemory and gives all back. An address above 4 GiB traps, and the library
+    goes on anew."""
+    if is_there(scene) and scene.has("node"):
+        scene.start({"module": part("module")})
+        wanted = "enough allocations were refused\nstopped, and went on\n"
+        scene.check("refused", printed(scene, ["node", HARNESS / "refused.js", "module"]), (wanted, 0))
+
+
+class Visit:
+    """A page that is open in a browser, and the scene that it is looked at for."""
+
+    def __init__(self, scene, browser):
+        self.scene, self.browser = scene, browser
+        self.run, self.wait, self.press = browser.run, browser.wait, browser.press
+
+    def open(self, link=""):
+        self.browser.open(f"file://{PAGE}{link}")
+
+    def text(self, place):
+        return self.run("return document.getElementById(arguments[0]).textContent", place)
+
+    def wait_for(self, place, text):
+        self.wait("return document.getElementById(arguments[0]).textContent.includes(arguments[1])", place, text)
+
+    def check(self, what, seen, wanted):
+        self.scene.check(f"{self.browser.name}: {what}", seen, wanted)
+
+    def check_has(self, what, place, text):
+        """Waits until a part of the page has a text."""
+        try:
+            self.wait_for(place, text)
+        except browsers.BrowserError:
+            pass
+        self.check(what, text in self.text(place) or self.text(place), True)
+
+    def filter(self, text):
+        self.browser.type_into("filter", text)
+
+    def click(self, place):
+        self.run("document.getElementById(arguments[0]).click()", place)
+
+
+def look_at_packet(visit):
+    """A student's question: why is packet 123 of the example accepted by `tcp port 8080 or 443`?"""
+    visit.open("#e=tcp%20port%208080%20or%20443&p=123")
+    visit.check_has("the answer of packet 123", "reason", "Yes tcp port 8080: the program answers 262144 after 12 instructions")
+    visit.check_has("all counted", "counts", "253 packets: 120 Yes, 133 No, 0 Abort")
+    visit.check("how it was read", "tcp port 8080 or tcp port 443" in visit.text("canonical"), True)
+    explained = visit.scene.run(["explain", "-p", "123", "-e", "tcp port 8080 or 443", VETH]).out.decode()
+    wanted = {tuple(found.groups()) for found in re.finditer(r"^ +(ether\[[\d:]+\]) = (0x[0-9a-f]+)$", explained, re.M)}
+    rows = visit.run("return [...document.querySelectorAll('#looks tr')].map((row) => [...row.cells].map((cell) => cell.textContent))")
+    visit.check("bytes that the filter looked at", {tuple(row[:2]) for row in rows}, wanted)
+    visit.check("a port's name", ["ether[36:2]", "0x1f90", "destination port: 8080"] in rows, True)
+    executed = re.findall(r"^\((\d{3})\).* (A 0x[0-9a-f]+ X 0x[0-9a-f]+)$", explained, re.M)
+    lines = visit.run("return [...document.querySelectorAll('.insn.way')].map((line) => [line.textContent.slice(1, 4), line.querySelector('.registers').textContent])")
+    visit.check("the run with its registers", [tuple(line) for line in lines], executed)
+    lit = visit.run("return [...document.querySelectorAll('#graph .node.way .title')].map((title) => title.textContent)")
+    visit.check("the way through the graph", (lit[0], lit[-1]), ("ethertype = IPv4?", "accept: 262144"))
+
+
+def see_marked_bytes(visit):
+    """The bytes that are marked in the dump are those that `explain -p` marks."""
+    explained = visit.scene.run(["explain", "-p", "123", "-e", "tcp port 8080 or 443", VETH]).out.decode()
+    marked = re.findall(r"^\t0x[0-9a-f]+:  (.*)\n(?:\t +([\^ ]+)\n)?", explained, re.M)
+    count = sum(marks.count("^") for _, marks in marked) // 2
+    visit.check("bytes that are marked", visit.run("return document.querySelectorAll('#bytes b').length") // 2, count)
+
+
+def type_filters(visit):
+    """Typing, a fault with its caret and hint, and how long an answer takes."""
+    visit.open()
+    visit.filter("icmp and proot 17")
+    hint = visit.scene.run(["--hints", "check", "icmp and proot 17"]).err.decode().splitlines()
+    visit.check("a fault with its caret and its hint", visit.text("fault").splitlines(), [" " * 9 + "^", "BadWord 9", *(line.strip() for line in hint[3:])])
+    visit.filter("udp port 5353")
+    visit.check_has("another filter", "counts", "253 packets: 67 Yes, 186 No, 0 Abort")
+    visit.check("no fault is left", visit.text("fault"), "")
+    took = visit.run("""
+        const field = document.getElementById('filter'), took = [];
+        for (const text of ['tcp port 80 or 44', 'tcp port 80 or 443', 'tcp port 80 or 44', 'tcp port 80 or 443', 'udp']) {
+          field.value = text; const begun = performance.now(); field.dispatchEvent(new Event('input')); took.push(performance.now() - begun);
+        }
+        return Math.min(...took.slice(0, 4))""")
+    visit.check(f"a keystroke's answer within 16 ms, not {took}", took <= 16 * slowness(), True)
+
+
+def use_keys_alone(visit):
+    """Everything by keys: the list, the steps of a run, the second filter."""
+    visit.open("#e=icmp")
+    visit.wait_for("counts", "49 Yes")
+    visit.run("document.getElementById('packets').focus()")
+    visit.press("ArrowDown", "ArrowDown")
+    visit.check_has("two packets further down", "packet-title", "Packet 4")
+    visit.press("End")
+    visit.check_has("the last packet", "packet-title", "Packet 252")
+    visit.press("Home", "ArrowDown", "ArrowDown")
+    visit.check_has("the third packet", "packet-title", "Packet 2:")
+    visit.press("ArrowLeft")
+    visit.check_has("a step back", "step", "Step 4 of 5: (003) jeq #0x1 jt 4 jf 5: A 0x1 X 0x0")
+    visit.press("ArrowLeft", "ArrowLeft", "ArrowLeft", "ArrowLeft")
+    visit.check_has("the first step", "step", "Step 1 of 5: (000) ldh [12]: A 0x800 X 0x0")
+    # From the filter by the tabulator to the second filter.
+    visit.run("document.getElementById('filter').focus()")
+    visit.press("Tab", "Tab", *"icmp and ip")
+    visit.check_has("the second filter, typed", "same", "Same")
+    visit.check("the link has it", "o=icmp%20and%20ip" in visit.wait("return location.hash.includes('&o=') && location.hash"), True)
+
+
+def see_difference(visit):
+    """Two filters that differ, and the packet that shows it, opened by a click."""
+    visit.open("#e=tcp&o=tcp%20portrange%200-65535")
+    visit.check_has("they differ", "same", "Differ")
+    visit.check_has("both answers", "same", "Yes tcp")
+    visit.click("open-witness")
+    visit.check_has("the packet", "capture-name", "the packet that shows the difference, 1 packets")
+    visit.check_has("the first filter's answer", "reason", "Yes tcp")
+
+
+def give_files(visit):
+    """A file by its button, by a drop, a torn one, one that is none, and one with 100,000 packets."""
+    visit.open("#e=ip")
+    visit.scene.put({"one.pcap": HEADER + IP_RECORD, "torn.pcap": TORN, "none.pcap": b"\n\r\r\n" + bytes(100)})
+    visit.browser.give_file("file", visit.scene.folder / "one.pcap")
+    visit.check_has("a file", "capture-name", "one.pcap, 1 packets")
+    visit.browser.give_file("file", visit.scene.folder / "torn.pcap")
+    visit.check_has("a torn file", "capture-name", "torn.pcap, 1 packets: TornRecord 1; the packets before it are shown")
+    visit.browser.give_file("file", visit.scene.folder / "none.pcap")
+    visit.check_has("no capture", "capture-name", "none.pcap, 0 packets: NotSavefile")
+    visit.run("""
+        const data = new DataTransfer(), bytes = Uint8Array.from(arguments[0]);
+        data.items.add(new File([bytes], 'dropped.pcap'));
+        document.dispatchEvent(new DragEvent('drop', { dataTransfer: data, bubbles: true, cancelable: true }))""", list(HEADER + 2 * IP_RECORD))
+    visit.check_has("a dropped file", "capture-name", "dropped.pcap, 2 packets")
+
+
+def give_many_packets(visit):
+    """100,000 packets: asked in 2 seconds, and the list scrolls to the last one."""
+    frames = records(VETH.read_bytes())
+    visit.scene.put({"many.pcap": HEADER + b"".join(frames[number % len(frames)] for number in range(100_000))})
+    visit.open("#e=tcp%20port%208080%20or%20443")
+    visit.browser.give_file("file", visit.scene.folder / "many.pcap")
+    visit.check_has("100,000 packets", "counts", "100000 packets")
+    begun = time.monotonic()
+    visit.filter("udp port 5353 or arp")
+    visit.wait("return document.getElementById('counts').textContent.startsWith('100000 packets: 29')")
+    took = time.monotonic() - begun
+    visit.check(f"asked in at most 2 s, not {took:.2f} s", took <= 2 * slowness(), True)
+    visit.run("document.getElementById('packets').focus()")
+    visit.press("End")
+    visit.check_has("the last packet", "packet-title", "Packet 99999")
+    visit.check("few rows are in the page", visit.run("return document.querySelectorAll('.row').length") < 60, True)
+    visit.check("it is in sight", visit.run("return document.getElementById('packet-99999') !== null"), True)
+
+
+def slowness():
+    """How much longer than an idle machine this one may take, by how many processes wait for its processors."""
+    return max(1, 2 * os.getloadavg()[0] / os.cpu_count())
+
+
+def play_steps(visit):
+    """Listeners and a script: the reports are those of `bpftap steps`, and the picture is gone through step by step."""
+    steps = ROOT / "examples" / "steps"
+    visit.open("#v=listeners")
+    visit.check_has("the reports", "reports", "listener 0 received 8 matched 6 dropped 1")
+    wanted = visit.scene.run(["steps", steps / "listeners.txt", steps / "script.txt", VETH]).out.decode()
+    visit.check("all reports", visit.text("reports"), wanted)
+    visit.run("document.getElementById('picture').focus()")
+    visit.press(*["ArrowRight"] * 7)
+    visit.check_has("step 8", "column", "step 8 arrive capture 0 place 6")
+    answered = visit.scene.run(["steps", "-v", steps / "listeners.txt", steps / "script.txt", VETH]).out.decode()
+    wanted = re.search(r"^step 8 .*\n((?:  .*\n)+)", answered, re.M)[1].split("\n  ")
+    seen = visit.run("return [...document.querySelectorAll('#column-answers li')].map((line) => line.textContent)")
+    visit.check("what became of it, and why", seen, [line.strip() for line in wanted])
+    drawn = visit.run("return document.getElementById('picture').shadowRoot.querySelectorAll('rect.dropped, rect.over').length")
+    visit.check("drops in the picture", drawn, 3)
+    visit.browser.type_into("listeners-text", "64 95 icmp\n0 262176i arp")
+    visit.check_has("a listener that is refused", "steps-fault", "BadCapacity")
+
+
+def follow_lesson(visit):
+    """A lesson's links: each shows what it says."""
+    visit.open("#k=rejects&e=tcp&c=14&p=2")
+    visit.check_has("frames that were cut", "reason", "Abort tcp, byte 23 is not captured")
+    visit.check_has("and a byte that is not there", "looks", "not captured")
+    visit.run("document.querySelectorAll('#lesson li a')[3].click()")
+    visit.check_has("the next stop: a later fragment", "reason", "No udp port 5353")
+    visit.check_has("its name", "looks", "fragment offset")
+    count = visit.run("return document.querySelectorAll('#lessons a').length")
+    visit.check("lessons", count >= 4, True)
+
+
+def survive_trap(visit):
+    """A call that traps, as none should: the page says so, and goes on with the next filter. The scripts are made to call so."""
+    plain, trapping = "library.compile(expression);", 'expression === "trap" ? library.call("image", 8n, 1n << 50n, 8n, 8n, 8n) : library.compile(expression);'
+    scripts = make_page.script()
+    visit.scene.put({"trap.html": make_page.page_of(part("module"), scripts.replace(plain, trapping, 1))})
+    visit.check("a call that traps", plain in scripts, True)
+    visit.browser.open(f"file://{visit.scene.folder}/trap.html#e=ip")
+    visit.wait_for("counts", "Yes")
+    visit.filter("trap")
+    visit.check_has("it is said", "stopped", "The library stopped in this call (image: ")
+    visit.filter("arp")
+    visit.check_has("the next filter", "counts", "253 packets: 7 Yes")
+    visit.check("nothing more is said", visit.run("return document.getElementById('stopped').hidden"), True)
+
+
+def stay_quiet(visit):
+    """No message on the console, and nothing is asked for but the page and its own workers."""
+    visit.check("the console", [line for line in visit.browser.complaints() if "bpftap.html" in line or visit.browser.name == "Chromium"], [])
+    asked = [url for url in visit.browser.requests() if not url.startswith(("chrome:", "blob:", "data:image/gif"))]
+    visit.check("requests", {url.partition("#")[0] for url in asked} - {f"file://{PAGE}", "about:blank"}, set())
+
+
+VISITS = [look_at_packet, see_marked_bytes, type_filters, use_keys_alone, see_difference, give_files, give_many_packets, play_steps, follow_lesson,
+          survive_trap, stay_quiet]
+
+
+def visit_page(scene, kind):
+    """All visits, in one browser."""
+    if not is_there(scene) or not scene.has(*kind.tools):
+        return
+    scene.start({})
+    browser = kind()
+    try:
+        for one in VISITS:
+            one(Visit(scene, browser))
+    finally:
+        browser.close()
+
+
+@case
+def chromium_shows_it(scene):
+    """Chromium, without a window: what a student and a teacher do with the page."""
+    visit_page(scene, browsers.Chromium)
+
+
+@case
+def firefox_shows_it(scene):
+    """Firefox, without a window: the same."""
+    visit_page(scene, browsers.Firefox)
