@@ -130,7 +130,7 @@ def questions():
 
 @case
 def module_answers_as_the_native_library(scene):
-    """All that the page asks: expressions and their programs, reasons, looks, traces and hints, pairs, captures and steps, beside libbpftap.so."""
+    """All that the page asks: expressions and their programs, reasons, looks and traces, pairs, captures and steps, beside libbpftap.so."""
     if not is_there(scene) or not library.is_there(scene) or not scene.has("node"):
         return
     scene.start({"module": part("module")})
@@ -217,11 +217,10 @@ def see_marked_bytes(visit):
 
 
 def type_filters(visit):
-    """Typing, a fault with its caret and hint, and how long an answer takes."""
+    """Typing, a fault with its caret, and how long an answer takes."""
     visit.open()
     visit.filter("icmp and proot 17")
-    hint = visit.scene.run(["--hints", "check", "icmp and proot 17"]).err.decode().splitlines()
-    visit.check("a fault with its caret and its hint", visit.text("fault").splitlines(), [" " * 9 + "^", "BadWord 9", *(line.strip() for line in hint[3:])])
+    visit.check("a fault with its caret", visit.text("fault").splitlines(), [" " * 9 + "^", "BadWord 9"])
     visit.filter("udp port 5353")
     visit.check_has("another filter", "counts", "253 packets: 67 Yes, 186 No, 0 Abort")
     visit.check("no fault is left", visit.text("fault"), "")
