@@ -8,7 +8,7 @@ sys.path.insert(0, str(ROOT / "bench"))
 import filters
 import meaning
 
-SAME, CAPTURED, SHORT, DIFFER = "same", "same as captured", "differ only where a frame is cut short", "differ"
+SAME, CAPTURED, SHORT, DIFFER = "same", "same as captured", "differ only where one aborts", "differ"
 STATUS = {SAME: 0, CAPTURED: 0, SHORT: 4, DIFFER: 4}
 
 # Each pair with the answer that follows from docs/LANGUAGE.md, written down by hand. An `and` accepts if both sides do, whatever comes

@@ -38,23 +38,23 @@ const COMPARE_EXAMPLES: &str = "Examples:
 
 For each packet that one filter accepts and the other does not, a line is printed with its place,
 time and lengths, and what each filter answers and why, as explain prints it. No and Abort are the
-same here: both reject the packet. At the end are the counts. Places count from 0 in each capture.
-With -q the first such packet ends the reading. An expression that begins with - is written in
-parentheses.
+same here: both reject the packet. How many bytes of a packet a program keeps is not compared. At
+the end are the counts. Places count from 0 in each capture. With -q the first such packet ends
+the reading. An expression that begins with - is written in parentheses. EXPR1 is read first.
 
 Without IN both filters are decided for every packet. compare prints one of these:
   same                                      on every packet, of every length
   same as captured                          if no more bytes were captured than were on the wire
-  differ only where a frame is cut short    one is Yes where the other needs more captured bytes
+  differ only where one aborts              one is Yes where the frame is too short for the other
   differ                                    one is Yes and the other No
   not decided: CAUSE                        nothing is claimed
 If they differ, a packet that shows it follows: its lengths, both answers, and its bytes. -w writes
 it to OUT, for bpftap explain -p 0 -e EXPR1 OUT.
 
-Exit status: 0 all was read, with -q: no packet is treated differently; without IN: the same;
-1 bad usage, a refused expression, file or listing, or out of memory; 2 a torn or bad record, after
-the packets before it; 3 a file or device failed; 4 with -q or without IN: a packet is treated
-differently; 5 not decided.";
+Exit status: 0 all was read, with -q: no packet is treated differently; without IN: the same, or
+the same as captured; 1 bad usage, a refused expression, file or listing, or out of memory; 2 a
+torn or bad record, after the packets before it; 3 a file or device failed; 4 with -q: a packet is
+treated differently; without IN: they differ, also only where one aborts; 5 not decided.";
 
 static ARGUMENTS: [Argument; 7] = [
     Argument::DefaultSnap,

@@ -1,5 +1,5 @@
 pub mod Differences
 pub mod Ending
-pub mod Several
 mod Sent
 pub mod Witnesses
+pub mod Visits

@@ -1,8 +1,11 @@
--- Several captures that two filters are compared by, in order, up to the first fault.
-use Rattle.std.specs.Prelude.{◌≡◌, ℕ, suc, ◌⊎◌, ◌||◌, Bool, List, [], ◌∷◌, Option, Err, IsOk, IsErr}
-use Rattle.savefile.specs.declared.fault.Fault.{Fault}
-use Rattle.cli_explain.specs.Captures.{stop, sum_of}
+-- Several captures that are read in order, up to the first fault.
+use Rattle.std.specs.Prelude.{◌≡◌, ℕ, ◌||◌, Bool, false, List, Option, Result, Ok}
+use Rattle.cli_walk.specs.declared.walk.Stop.{Stop}
+use Rattle.cli_walk.specs.declared.walk.Visited.{Visited}
+use Rattle.cli_walk.specs.Walking.{Walked, visited}
+use Rattle.cli_explain.specs.Captures.{goes_on, read_of, sum_of}
 use Rattle.cli_compare.specs.declared.captures.ComparedCaptures.{ComparedCaptures}
+use Rattle.cli_compare.specs.declared.captures.ComparedTotals.{ComparedTotals}
 use Rattle.cli_compare.specs.declared.each.Compared.{Compared}
 use Rattle.cli_compare.specs.declared.each.DifferenceCounts.{DifferenceCounts}
 use Rattle.cli_compare.specs.declared.pair.FilterPair.{FilterPair}
@@ -15,15 +18,19 @@ no_counts = record { packets = 0; first = 0; second = 0 }
 abbrev pub plus : DifferenceCounts → DifferenceCounts → DifferenceCounts
 plus a b = record { packets = sum_of a.packets b.packets; first = sum_of a.first b.first; second = sum_of a.second b.second }
 
--- Of these captures, of which the first has the number n, the lines of the packets that are treated differently were printed, each capture
--- after the one before it, and counted after those so far; until a fault ended a capture, or the printing failed. `opened`: whether a header
--- was read.
-abbrev pub ComparesIn : {R : Type 0} → (R → Option (List ℕ)) → FilterPair → ℕ → (opened : Bool) → DifferenceCounts → List R → Option (List ℕ) → Option (List ℕ) → ComparedCaptures R → Type 0
-ComparesIn left pair n opened so_far [] old new end =
-    (end.opened ≡ opened) × (end.counts ≡ so_far) × IsOk end.read × IsOk end.printed × (new ≡ old)
-ComparesIn {R = R} left pair n opened so_far (capture ∷ captures) old new end =
-    (c : Compared R) × (mid : Option (List ℕ)) × Compares left capture pair old mid c
-    × ((IsOk c.read × IsOk c.printed × ComparesIn left pair (suc n) (opened || c.opened) (plus so_far c.counts) captures mid new end)
-    ⊎ ((fault : Fault) × (c.read ≡ Err fault) × IsOk c.printed × (end.read ≡ Err (stop n fault c.source)) × IsOk end.printed
-    × (end.opened ≡ (opened || c.opened)) × (end.counts ≡ plus so_far c.counts) × (new ≡ mid))
-    ⊎ (IsErr c.printed × (end.printed ≡ c.printed) × IsOk end.read × (end.opened ≡ (opened || c.opened)) × (new ≡ mid)))
+-- nothing was printed so far
+abbrev pub no_totals : ComparedTotals
+no_totals = record { opened = false; counts = no_counts; printed = Ok tt }
+
+-- The lines of the packets of a capture that are treated differently were printed, and all its packets were counted after those so far.
+abbrev pub ComparesNext : {R : Type 0} → (R → Option (List ℕ)) → FilterPair → ComparedTotals → Option (List ℕ) → R → Visited R → ComparedTotals → Option (List ℕ) → Type 0
+ComparesNext {R = R} left pair t old from v t' new =
+    (c : Compared R) × Compares left from pair old new c × (v ≡ visited c.source (goes_on c.read c.printed))
+    × (t' ≡ record { opened = t.opened || c.opened; counts = plus t.counts c.counts; printed = c.printed })
+
+-- The lines of the packets of these captures that are treated differently were printed, each capture after the one before it, until a fault
+-- ended one, or the printing failed.
+abbrev pub ComparesIn : {R O : Type 0} → (R → Option (List ℕ)) → (R → ℕ) → (O → Option (List ℕ)) → FilterPair → List R → O → O → ComparedCaptures R → Type 0
+ComparesIn left failures contents pair captures old new end =
+    (ended : Result Bool Stop) × (end.read ≡ read_of ended)
+    × Walked left failures (λ n t o from v t' o'. ComparesNext left pair t (contents o) from v t' (contents o')) captures end.sources.items no_totals old end.totals new ended

@@ -1,5 +1,5 @@
 -- What is printed of two filters that are decided for every packet, and the exit status.
-use Rattle.std.specs.Prelude.{◌≡◌, ℕ, Bool, List, ◌++◌, length, Option, Some, None, Result, Ok, Err, codes}
+use Rattle.std.specs.Prelude.{◌≡◌, ℕ, Bool, List, [], ◌++◌, length, Option, Some, None, Result, Ok, Err, codes}
 use Rattle.std.specs.Fmt.{decimal}
 use Rattle.std.specs.Io.KnownBytes.{Appends, Keeps}
 use Rattle.savefile.specs.declared.packet.Packet.{Packet}
@@ -19,6 +19,7 @@ use Rattle.cli_text.specs.declared.status.Status.{Status}
 use Rattle.cli_text.specs.declared.status.Status.TheVariants.{Clean, Negative, Undecided, Refused, Failed}
 use Rattle.cli_text.specs.Sending.{TakesPart}
 use Rattle.cli_text.specs.Telling.{end_of_line}
+use Rattle.cli_explain.specs.Dumps.{dump_text}
 use Rattle.cli_explain.specs.declared.filter.AskedFilter.{AskedFilter}
 use Rattle.cli_explain.specs.declared.each.Unprinted.{Unprinted}
 use Rattle.cli_explain.specs.declared.each.Unprinted.TheVariants.{NoMemory, Output}
@@ -36,7 +37,7 @@ cause_text budget Relation = codes "a relation"
 abbrev pub answer_line : ℕ → Sameness → List ℕ
 answer_line budget Same = codes "same" ++ end_of_line
 answer_line budget SameAsCaptured = codes "same as captured" ++ end_of_line
-answer_line budget (Short w) = codes "differ only where a frame is cut short" ++ end_of_line
+answer_line budget (Short w) = codes "differ only where one aborts" ++ end_of_line
 answer_line budget (Differ w) = codes "differ" ++ end_of_line
 answer_line budget (NotDecided cause) = codes "not decided: " ++ cause_text budget cause ++ end_of_line
 
@@ -85,9 +86,20 @@ PutsDetail pair (Short w) old new = PutsWitness pair w old new
 PutsDetail pair (Differ w) old new = PutsWitness pair w old new
 PutsDetail pair (NotDecided cause) old new = new ≡ old
 
+-- the packet that an answer has
+abbrev pub witness_of : Sameness → Option Witness
+witness_of (Short w) = Some w
+witness_of (Differ w) = Some w
+witness_of s = None
+
+-- its bytes as they are printed
+abbrev pub dump_of : Option Witness → List ℕ
+dump_of (Some w) = dump_text w.bytes.items
+dump_of None = []
+
 -- a text is the line of an answer, the line of its witness, and the bytes of the witness
 abbrev pub IsText : FilterPair → ℕ → Sameness → List ℕ → Type 0
-IsText pair budget s text = (lines dump : List ℕ) × PutsDetail pair s (answer_line budget s) lines × (text ≡ lines ++ dump)
+IsText pair budget s text = (lines : List ℕ) × PutsDetail pair s (answer_line budget s) lines × (text ≡ lines ++ dump_of (witness_of s))
 
 -- a text of an answer was printed
 abbrev pub PrintsAnswer : FilterPair → ℕ → Sameness → Option (List ℕ) → Option (List ℕ) → Type 0

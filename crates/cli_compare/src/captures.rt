@@ -1,70 +1,87 @@
 //! Several captures, read in order up to the first fault: the functions under `bpftap compare`.
 
-ghost use Rattle.std.specs.Prelude.{◌≡◌, ◌+◌, ◌||◌, true, false, Err, is_err, IsErr, IsOk};
-ghost use Rattle.savefile.specs.declared.fault.Fault.{Fault};
+ghost use Rattle.std.specs.Prelude.{◌≡◌, ◌+◌, ◌||◌, false, true, IsErr, IsOk};
 ghost use Rattle.cli_text.specs.Sending.{Takes};
-ghost use Rattle.cli_explain.specs.Captures.{stop};
-ghost use Rattle.cli_compare.specs.Captures.{ComparesIn, no_counts, plus};
+ghost use Rattle.cli_compare.specs.Captures.{ComparesIn, ComparesNext, plus};
 ghost use Rattle.cli_compare.specs.Printed.{counts_text};
 
 use crate::each::{Compared, DifferenceCounts, compare_each, print_counts};
 use crate::pair::FilterPair;
-use cli_explain::captures::Stop;
+use cli_explain::captures::{goes_on, read_of};
 use cli_explain::each::Unprinted;
+use cli_walk::{Stop, Visited, Visitor, Walk, visit_captures};
 use savefile::Source;
 use std::alloc::Global;
 use std::io::Write;
 
-/// What comparing two filters by several captures came to.
+/// What was printed of the captures so far.
 #[derive(Debug, Drop)]
-pub struct ComparedCaptures<R> {
+pub struct ComparedTotals {
     /// Whether the header of a capture was read.
     pub opened: bool,
     /// Of all packets that were read of all captures, if all was printed.
     pub counts: DifferenceCounts,
-    /// The capture that ended the reading, if one did.
-    pub read: Result<(), Stop<R>>,
     /// Whether all was printed.
     pub printed: Result<(), Unprinted>,
 }
 
-impl<R: Drop> ComparedCaptures<R> {
-    /// Whether no further capture is read.
-    fn is_over(&self) -> bool
-        ensures { result ≡ (is_err self.now.read || is_err self.now.printed) }
+impl ComparedTotals {
+    /// What was printed, once one capture more was.
+    fn after(
+        &self,
+        opened: bool,
+        counts: DifferenceCounts,
+        printed: Result<(), Unprinted>,
+    ) -> ComparedTotals
+        ensures opened { result.opened ≡ (self.now.opened || opened) }
+        ensures counts { result.counts ≡ plus self.now.counts counts }
+        ensures printed { result.printed ≡ printed }
     {
-        self.read.is_err() || self.printed.is_err()
+        ComparedTotals {
+            opened: self.opened || opened,
+            counts: self.counts.plus(counts),
+            printed,
+        }
     }
+}
 
-    /// What comparing came to, once one capture more was read, of this number.
-    fn after(self, number: usize, next: Compared<R>) -> ComparedCaptures<R>
-        ensures opened { result.opened ≡ (self.opened || next.opened) }
-        ensures counts { result.counts ≡ plus self.counts next.counts }
-        ensures read { IsOk next.read → IsOk result.read }
-        ensures fault { (fault : Fault) → next.read ≡ Err fault → result.read ≡ Err (stop number fault next.source) }
-        ensures printed { result.printed ≡ next.printed }
-    {
+/// What comparing two filters by several captures came to.
+#[derive(Debug, Drop)]
+pub struct ComparedCaptures<R> {
+    /// The sources of the captures, in order. Those after the last one that was read are as they were.
+    pub sources: Vec<R>,
+    pub totals: ComparedTotals,
+    /// The capture that ended the reading, if one did.
+    pub read: Result<(), Stop>,
+}
+
+/// Prints the lines of each capture.
+#[derive(Clone, Copy)]
+struct Comparer<'p> {
+    alloc: Global,
+    pair: &'p FilterPair,
+}
+
+impl<R: Source, O: Write> Visitor<R, ComparedTotals, O> for Comparer<'_> {
+    ghost visits = { λ c n t o from v t' o'. ComparesNext R.left c.pair.now t (O.contents o) from v t' (O.contents o') };
+
+    fn visit(
+        &self,
+        _number: usize,
+        capture: R,
+        totals: &mut ComparedTotals,
+        out: &mut O,
+    ) -> Visited<R> {
         let Compared {
             source,
             opened,
             counts,
             read,
             printed,
-        } = next;
-        let read = match read {
-            Ok(()) => Ok(()),
-            Err(fault) => Err(Stop {
-                number,
-                fault,
-                source,
-            }),
-        };
-        ComparedCaptures {
-            opened: self.opened || opened,
-            counts: self.counts.plus(counts),
-            read,
-            printed,
-        }
+        } = compare_each(self.alloc, capture, self.pair, out);
+        let goes_on = goes_on(read, &printed);
+        *totals = totals.after(opened, counts, printed);
+        Visited { source, goes_on }
     }
 }
 
@@ -72,61 +89,43 @@ impl<R: Drop> ComparedCaptures<R> {
 /// count from 0 in each capture.
 ///
 /// The first fault ends the reading, and the lines of the packets before it are printed. If `printed` has a fault, `read` is `Ok`, since
-/// no further packet was read.
+/// no further packet was read. If memory is refused for the sources, `read` is [`savefile::Fault::NoMemory`] of capture 0, and none is read.
 pub fn compare_captures<R: Source + Drop, O: Write>(
     alloc: Global,
     captures: Vec<R>,
     pair: &FilterPair,
     out: &mut O,
 ) -> ComparedCaptures<R>
-    ensures { ComparesIn R.left pair.now 0 false no_counts captures.items (O.contents out.old) (O.contents out.new) result }
+    ensures { ComparesIn R.left R.failures O.contents pair.now captures.items out.old out.new result }
 {
-    let mut end = ComparedCaptures {
+    let mut totals = ComparedTotals {
         opened: false,
         counts: DifferenceCounts::NONE,
-        read: Ok(()),
         printed: Ok(()),
     };
-    let mut number = 0;
-    for capture in captures {
-        end = end.after(number, compare_each(alloc, capture, pair, out));
-        if end.is_over() {
-            return end;
-        }
-        number += 1;
+    let comparer = Comparer { alloc, pair };
+    let Walk { sources, end } = visit_captures(alloc, captures, &comparer, &mut totals, out);
+    ComparedCaptures {
+        sources,
+        totals,
+        read: read_of(end),
     }
-    end
 }
 
 /// Prints the counts of all captures, if a header was read and all lines were printed.
-pub fn print_totals<R: Drop, O: Write>(
+pub fn print_totals<O: Write>(
     alloc: Global,
-    ended: ComparedCaptures<R>,
+    totals: ComparedTotals,
     out: &mut O,
-) -> ComparedCaptures<R>
-    ensures opened { result.opened ≡ ended.opened }
-    ensures counts { result.counts ≡ ended.counts }
-    ensures read { result.read ≡ ended.read }
-    ensures none { ended.opened ≡ false → (result ≡ ended) × (out.new ≡ out.old) }
-    ensures failed { IsErr ended.printed → (result ≡ ended) × (out.new ≡ out.old) }
-    ensures prints { ended.opened ≡ true → IsOk ended.printed →
-        Takes (O.contents out.old) (O.contents out.new) result.printed (counts_text ended.counts.packets (ended.counts.first + ended.counts.second) ended.counts.first ended.counts.second) }
+) -> Result<(), Unprinted>
+    ensures none { totals.opened ≡ false → (result ≡ totals.printed) × (out.new ≡ out.old) }
+    ensures failed { IsErr totals.printed → (result ≡ totals.printed) × (out.new ≡ out.old) }
+    ensures prints { totals.opened ≡ true → IsOk totals.printed →
+        Takes (O.contents out.old) (O.contents out.new) result (counts_text totals.counts.packets (totals.counts.first + totals.counts.second) totals.counts.first totals.counts.second) }
 {
-    let ComparedCaptures {
-        opened,
-        counts,
-        read,
-        printed,
-    } = ended;
-    let printed = if opened && printed.is_ok() {
-        print_counts(alloc, counts, out)
+    if totals.opened && totals.printed.is_ok() {
+        print_counts(alloc, totals.counts, out)
     } else {
-        printed
-    };
-    ComparedCaptures {
-        opened,
-        counts,
-        read,
-        printed,
+        totals.printed
     }
 }

@@ -1,14 +1,15 @@
 //! `bpftap compare`, over files.
 
-use crate::captures::{compare_captures, print_totals};
+use crate::captures::{ComparedCaptures, compare_captures, print_totals};
 use crate::decide::decide_for_all;
 use crate::pair::FilterPair;
 use crate::paths::check_paths;
 use crate::plan::read_pair;
-use crate::report::{report_captures, report_sameness};
+use crate::report::report_sameness;
 use cli_args::compare::CompareWords;
-use cli_explain::captures::find_in_captures;
-use cli_explain::hints::hint_capture;
+use cli_explain::captures::{SoughtCaptures, find_in_captures};
+use cli_explain::hints::hint_stop;
+use cli_explain::report::report_captures;
 use cli_files::captures::output_buffer;
 use cli_report::HintSink;
 use cli_report::failures::hint_output;
@@ -42,12 +43,16 @@ fn compare_all<F: Screen, R: Read + Drop, O: Write, E: HintSink>(
     err: &mut E,
 ) -> Status {
     let paths = job.words.inputs.as_slice();
-    let ended = compare_captures(job.alloc, captures, &job.pair, out);
+    let ComparedCaptures {
+        sources,
+        totals,
+        read,
+    } = compare_captures(job.alloc, captures, &job.pair, out);
     job.watch.erase();
-    let ended = print_totals(job.alloc, ended, out);
-    let status = report_captures(&ended, paths, err);
-    if let Err(stop) = &ended.read {
-        hint_capture(paths, stop.number, stop.fault, &stop.source, err);
+    let printed = print_totals(job.alloc, totals, out);
+    let status = report_captures(&printed, read, paths, err);
+    if let Err(stop) = read {
+        hint_stop(paths, stop, sources.as_slice(), err);
     }
     status
 }
@@ -89,11 +94,11 @@ fn ask_quietly<F: Screen, R: Read + Drop, E: HintSink>(
     err: &mut E,
 ) -> Status {
     let paths = job.words.inputs.as_slice();
-    let sought = find_in_captures(job.alloc, captures, &job.pair);
+    let SoughtCaptures { sources, found } = find_in_captures(job.alloc, captures, &job.pair);
     job.watch.erase();
-    let status = report_sameness(&sought, paths, err);
-    if let Err(stop) = &sought {
-        hint_capture(paths, stop.number, stop.fault, &stop.source, err);
+    let status = report_sameness(found, paths, err);
+    if let Err(stop) = found {
+        hint_stop(paths, stop, sources.as_slice(), err);
     }
     status
 }

@@ -1,8 +1,8 @@
 //! Two filters decided for every packet: the function under `bpftap compare` without a capture.
 
-ghost use Rattle.std.specs.Prelude.{◌≡◌, ◌++◌, ℕ, List, Ok, IfOk, IfErr, OnOk, string_bytes};
+ghost use Rattle.std.specs.Prelude.{◌≡◌, ◌++◌, ℕ, List, Ok, IfOk, IfErr, OnOk, MatchOption, None, Some, string_bytes};
 ghost use Rattle.filter_same.specs.Filters.{filter_accepts, filter_test};
-ghost use Rattle.cli_compare.specs.Deciding.{HoldsOfPair, IsText, IsUnanswered, PrintsAnswer, PutsDetail, PutsWitness, answer_line, asked_accepts, asked_test, cause_text, lengths_text};
+ghost use Rattle.cli_compare.specs.Deciding.{HoldsOfPair, IsText, IsUnanswered, PrintsAnswer, PutsDetail, PutsWitness, answer_line, asked_accepts, asked_test, cause_text, dump_of, lengths_text, witness_of};
 
 use crate::pair::FilterPair;
 use bpfvm::NoMemory;
@@ -87,7 +87,7 @@ fn put_answer_line(text: &mut String, budget: usize, sameness: &Sameness) -> Res
     match sameness {
         Sameness::Same => text.push_str("same\n"),
         Sameness::SameAsCaptured => text.push_str("same as captured\n"),
-        Sameness::Short(_) => text.push_str("differ only where a frame is cut short\n"),
+        Sameness::Short(_) => text.push_str("differ only where one aborts\n"),
         Sameness::Differ(_) => text.push_str("differ\n"),
         Sameness::NotDecided(cause) => put_undecided(text, budget, *cause),
     }
@@ -110,15 +110,19 @@ fn put_detail(
 }
 
 /// The packet that shows a difference, if the answer has one.
-pub fn witness_of(sameness: &Sameness) -> Option<&Witness> {
+pub fn witness_of(sameness: &Sameness) -> Option<&Witness>
+    ensures { MatchOption result (witness_of sameness.now ≡ None) (λ w. witness_of sameness.now ≡ Some w.now) }
+{
     match sameness {
         Sameness::Short(witness) | Sameness::Differ(witness) => Some(witness),
         _ => None,
     }
 }
 
-/// The bytes of a witness as `tcpdump -XX` prints them.
-fn dump_of(alloc: Global, sameness: &Sameness) -> Result<String, NoMemory> {
+/// The bytes of a witness as `tcpdump -XX` prints them; nothing if the answer has none.
+fn dump_of(alloc: Global, sameness: &Sameness) -> Result<String, NoMemory>
+    ensures { IfOk result (λ text. string_bytes text ≡ dump_of (witness_of sameness.now)) }
+{
     let mut text = String::new(alloc);
     if let Some(witness) = witness_of(sameness) {
         put_dump(&mut text, &[], witness.bytes.as_slice())?;
@@ -156,7 +160,7 @@ pub fn decide_pair(alloc: Global, pair: &FilterPair, budget: usize) -> Result<Sa
 }
 
 /// Decides whether two filters accept the same packets, as [`decide_filters`] does, and prints the answer: `same`, `same as captured`,
-/// `differ only where a frame is cut short`, `differ`, or `not decided: ` and the cause. If a packet shows a difference, a line with its
+/// `differ only where one aborts`, `differ`, or `not decided: ` and the cause. If a packet shows a difference, a line with its
 /// lengths and what each filter answers to it and why comes next, and then its bytes, as `tcpdump -XX` prints them.
 ///
 /// `Unprinted::NoMemory`: nothing was printed. `Unprinted::Output`: the writer failed, and took a prefix of the text.
