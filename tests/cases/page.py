@@ -368,7 +368,7 @@ def stay_quiet(visit):
 
 
 VISITS = [look_at_packet, see_marked_bytes, type_filters, use_keys_alone, see_difference, give_files, give_many_packets, play_steps, follow_lesson,
-          survive_trap, stay_quiet]
+          stay_quiet, survive_trap]
 
 
 def visit_page(scene, kind):
