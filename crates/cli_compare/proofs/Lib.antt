@@ -1,5 +1,5 @@
 pub mod Differences
 pub mod Ending
-mod Sent
+pub mod Sent
 pub mod Witnesses
 pub mod Visits

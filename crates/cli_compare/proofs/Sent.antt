@@ -1,9 +1,13 @@
 -- What was sent of a savefile that broke off.
-use Rattle.std.proofs.Common.{ℕ, List, [], ◌∷◌, ◌++◌, Option, ap, ◌∙◌, append_assoc}
+use Rattle.std.proofs.Common.{◌≡◌, ℕ, ◌+◌, ◌^◌, ◌≤◌, ◌⊎◌, inl, inr, Bool, true, false, List, [], ◌∷◌, ◌++◌, length, Option, refl, ap, ◌∙◌, append_assoc, arith}
+use Rattle.savefile.specs.declared.fault.Fault.{Fault}
+use Rattle.savefile.specs.declared.fault.Fault.TheVariants.{CountFull, Device, Failed, TooLong}
 use Rattle.savefile.specs.declared.header.Order.{Order}
+use Rattle.savefile.specs.declared.header.Order.TheVariants.{Little}
 use Rattle.savefile.specs.declared.header.Unit.{Unit as TimeUnit}
+use Rattle.savefile.specs.declared.header.Unit.TheVariants.{Micro}
 use Rattle.savefile.specs.declared.packet.Packet.{Packet}
-use Rattle.savefile.specs.Savefile.{encoded}
+use Rattle.savefile.specs.Savefile.{encoded, header_text}
 use Rattle.savefile.specs.Writer.{HasWritten, HasWrittenPart, IsBeginning, Writing}
 use Rattle.savefile.proofs.Encoding.{encoded-begins}
 use Rattle.cli_text.specs.Sending.{TakesPart}
@@ -33,3 +37,18 @@ only_header taken start order unit snap p w h = record {
   begins = encoded-begins order unit snap [] (p ∷ []);
   appends = h.sent.bytes;
 }
+
+-- the header has 24 bytes
+header-size : length (encoded Little Micro (2 ^ 18) []) ≡ 24
+unfolding encoded header_text
+header-size = refl
+
+contrary : (b : Bool) → b ≡ false → b ≡ true → ⊥
+contrary true first second = absurd (cc)
+contrary false first second = absurd (cc)
+
+-- behind a header that was sent whole only the device can fail
+pub only_device : {W : Type 0} (taken : W → Option (List ℕ)) (start : Option (List ℕ)) (w : Writing W) (fault : Fault) (size : ℕ) → HasWritten taken start Little Micro (2 ^ 18) [] w → size ≤ 2 ^ 18 → ((fault ≡ Device) ⊎ ((fault ≡ Failed) ⊎ (fault ≡ CountFull))) → (fault ≡ Failed → w.failed ≡ true) → (fault ≡ CountFull → (w.failed ≡ false) × (2 ^ 64 ≤ w.sent + 16 + size)) → (fault ≡ Device) ⊎ (fault ≡ TooLong 0)
+only_device taken start w fault size written small (inl device) failed full = inl device
+only_device taken start w fault size written small (inr (inl is)) failed full = absurd (contrary w.failed written.works (failed is))
+only_device taken start w fault size written small (inr (inr is)) failed full = absurd (omega (arith, (full is).1, written.sent.count ∙ header-size, small))

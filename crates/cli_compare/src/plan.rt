@@ -1,24 +1,38 @@
 //! The two filters that the arguments of `compare` ask for.
 
+ghost use Rattle.std.specs.Prelude.{IfOk};
+ghost use Rattle.cli_explain.specs.Filter.{IsOfExpression};
+
 use crate::pair::FilterPair;
 use cli_args::compare::CompareWords;
 use cli_explain::AskedFilter;
-use cli_explain::filter::of_program;
+use cli_explain::filter::{of_expression, of_program};
 use cli_explain::plan::read_expression;
-use cli_filter::program_of_file;
+use cli_filter::{hint_expression, program_of_file};
 use cli_report::HintSink;
+use cli_report::stream::give_hint;
 use cli_text::Status;
+use cli_text::report::report_fault;
 use std::fs::Files;
 
-/// The filter of the second expression, or of a listing's file.
-fn read_second<R: Files + AllocGlobal, E: HintSink>(
+/// The filter of one of two expressions; or reports why there is none, with a hint that names the expression.
+fn read_one_of_two<R: AllocGlobal, E: HintSink>(
     rt: &R,
-    words: &CompareWords<'_>,
+    name: &str,
+    expr: &str,
+    snap: u32,
     err: &mut E,
-) -> Result<AskedFilter, Status> {
-    match words.listing {
-        Some(path) => Ok(of_program(program_of_file(rt, path, err)?)),
-        None => read_expression(rt, words.second.unwrap_or(""), words.snap, err),
+) -> Result<AskedFilter, Status>
+    ensures { IfOk result (IsOfExpression expr.now snap) }
+{
+    match of_expression(rt.alloc(), expr, snap) {
+        Ok(filter) => Ok(filter),
+        Err(fault) => {
+            let status = report_fault(fault, Status::Refused, err);
+            give_hint(format_args!("{name}:"), err);
+            hint_expression(rt.alloc(), expr, fault, err);
+            Err(status)
+        }
     }
 }
 
@@ -28,7 +42,15 @@ pub(crate) fn read_pair<R: Files + AllocGlobal, E: HintSink>(
     words: &CompareWords<'_>,
     err: &mut E,
 ) -> Result<FilterPair, Status> {
-    let first = read_expression(rt, words.first, words.snap, err)?;
-    let second = read_second(rt, words, err)?;
-    Ok(FilterPair { first, second })
+    let (first, snap) = (words.first, words.snap);
+    match words.listing {
+        Some(path) => Ok(FilterPair {
+            first: read_expression(rt, first, snap, err)?,
+            second: of_program(program_of_file(rt, path, err)?),
+        }),
+        None => Ok(FilterPair {
+            first: read_one_of_two(rt, "EXPR1", first, snap, err)?,
+            second: read_one_of_two(rt, "EXPR2", words.second.unwrap_or(""), snap, err)?,
+        }),
+    }
 }

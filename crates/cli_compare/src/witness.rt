@@ -1,6 +1,6 @@
 //! The savefile of a packet that shows a difference.
 
-ghost use Rattle.std.specs.Prelude.{◌≡◌, ◌≢◌, ◌↔◌, ◌<◌, ◌∷◌, [], ◌^◌, Err, length, OnOk, OnErr};
+ghost use Rattle.std.specs.Prelude.{◌≡◌, ◌≢◌, ◌↔◌, ◌⊎◌, ◌<◌, ◌∷◌, [], ◌^◌, Err, IfErr, length, OnOk, OnErr};
 ghost use Rattle.std.specs.Io.KnownBytes.{Appends};
 ghost use Rattle.savefile.specs.Savefile.{encoded};
 ghost use Rattle.cli_text.specs.Sending.{TakesPart};
@@ -18,10 +18,11 @@ pub fn write_witness<W: Sink>(sink: W, witness: &Witness) -> (W, Result<(), Faul
     ensures ok { OnOk result.1 (Appends (W.taken sink) (W.taken result.0) (encoded Order.Little Unit.Micro (2 ^ 18) (packet_of_witness witness.now ∷ []))) }
     ensures err { OnErr result.1 (TakesPart (W.taken sink) (W.taken result.0) (encoded Order.Little Unit.Micro (2 ^ 18) (packet_of_witness witness.now ∷ []))) }
 
-    // When these errors come.
+    // When each error comes, and no other.
     ensures broke { (result.1 ≡ Err Fault.Device) ↔ (W.failures result.0 ≢ W.failures sink) }
     ensures too_long { (result.1 ≡ Err (Fault.TooLong 0)) ↔ (2 ^ 18 < length witness.now.bytes.items) }
     ensures unwritten { 2 ^ 18 < length witness.now.bytes.items → result.0 ≡ sink }
+    ensures only { IfErr result.1 (λ fault. (fault ≡ Fault.Device) ⊎ (fault ≡ Fault.TooLong 0)) }
 {
     let bytes = witness.bytes.as_slice();
     if bytes.len() > MAX_SNAP as usize {

@@ -11,8 +11,11 @@ use crate::table::{Node, Stop, UniqueTable};
 use std::alloc::Global;
 use std::marker::Model;
 
-/// How many bits deep a call goes before it puts the rest off. So it needs a bounded stack.
-const DEPTH: u32 = 128;
+/// How many bits deep a call goes at first before it puts the rest off. So it needs a bounded stack.
+const DEPTH: u32 = 96;
+
+/// How many more bits deep a later try goes, at most. So a result that the cache forgot is made again of those below it.
+const MORE: u64 = 64;
 
 /// How often a call puts off another one that goes on below it. Diagrams that ask for more bits in a row are over the budget.
 const LEVELS: u32 = 256;
@@ -308,8 +311,9 @@ impl Diagrams {
         let Some(rest) = levels.checked_sub(1) else {
             return Err(Stop::Budget);
         };
-        for _ in 0..u64::MAX {
-            let inner = match self.apply_within(call, DEPTH)? {
+        for attempt in 0..u64::MAX {
+            let more = (attempt % MORE) as u32;
+            let inner = match self.apply_within(call, DEPTH + more)? {
                 Applied::Node(place) => return Ok(place),
                 Applied::First(inner) => inner,
             };

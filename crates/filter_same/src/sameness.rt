@@ -67,11 +67,11 @@ fn is_short(first: Verdict, second: Verdict) -> bool
 }
 
 /// How many steps are taken in all for each node that a diagram may have.
-const STEPS: u64 = 8;
+const STEPS: u64 = 6;
 
 /// What two expressions do on every packet there can be. Each answer but [`Sameness::NotDecided`] is so.
 ///
-/// `budget` is how many nodes the diagrams of one header length may have, and an eighth of the steps that are taken in all. `NoMemory` if
+/// `budget` is how many nodes the diagrams of one header length may have, and a sixth of the steps that are taken in all. `NoMemory` if
 /// memory is refused.
 pub fn decide(
     alloc: Global,
@@ -93,7 +93,7 @@ pub fn decide(
 /// any bytes of it, and aborts if it reads past the captured bytes or divides by 0. Filters with the same tree, or the same instructions, are
 /// the same, whatever they calculate.
 ///
-/// `budget` is how many nodes the diagrams of one header length may have, at how many places of a program it may look, and an eighth of the
+/// `budget` is how many nodes the diagrams of one header length may have, at how many places of a program it may look, and a sixth of the
 /// steps that are taken in all. An expression of more than 1,000 levels is over it. `NoMemory` if memory is refused.
 pub fn decide_filters(
     alloc: Global,

@@ -133,12 +133,14 @@ fn the_same_tree_is_the_same_whatever_it_calculates(rt: HostRuntime) {
 }
 
 /// So many tests of four bytes each, one after the other, joined by `and`.
-fn chain(rt: &(impl Abort + AllocGlobal), count: u32, last: u32) -> String {
+fn chain(rt: &(impl Abort + AllocGlobal), count: u16, last: u32) -> String {
     let mut text = String::new(rt.alloc());
     for place in 0..count {
-        let number = if place + 1 == count { last } else { place };
+        let number = u32::from(place);
+        let wanted = if place + 1 == count { last } else { number };
         let joined = if place == 0 { "" } else { " and " };
-        write!(text, "{joined}ether[{}:4] = {number}", 4 * place).expect(rt, "there is memory");
+        let offset = 4 * number;
+        write!(text, "{joined}ether[{offset}:4] = {wanted}").expect(rt, "there is memory");
     }
     text
 }
@@ -147,8 +149,8 @@ fn chain(rt: &(impl Abort + AllocGlobal), count: u32, last: u32) -> String {
 fn what_asks_for_thousands_of_bits_is_decided(rt: HostRuntime) {
     let (first, second) = (chain(&rt, 100, 5), chain(&rt, 100, 6));
     let whole = format!(in rt.alloc(); "not not ({first})").expect(&rt, "there is memory");
-    decided(&rt, &first, &whole, 100_000, Sameness::Same);
-    let other = decided_of(&rt, &first, &second, 100_000);
+    decided(&rt, &first, &whole, 1_000_000, Sameness::Same);
+    let other = decided_of(&rt, &first, &second, 1_000_000);
     same(&rt, matches!(other, Sameness::Differ(_)), true);
 }
 
