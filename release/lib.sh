@@ -60,8 +60,25 @@ is_release_of() { [ "$1" = "$(said sources)" ] && set -- "$root"/release/*.tar.g
 form='%p %i %s %T@ %C@\n'
 state() { texts "$form" "$@" crates.txt release $(others); }
 
+# Sets `place` to the real path of `out` or the cache: who can write to a folder above what a link leads to can change that.
+real_place() { # FOLDER
+  place=$1
+  [ "$1" != "$root/out" ] || [ -L "$1" ] || return 0
+  place=$(cd -P -- "$1" 2>/dev/null && printf '%s\n' "$PWD")
+  [ -n "$place" ]
+}
+
+# Whether the caller may make something in a folder, or make that: if the nearest one that exists is his own, or as /tmp. Root makes none in the
+# home or the clone of another user, who could not write there then.
+may_make() { # FOLDER
+  nearest=$1
+  until [ -e "$nearest" ] || [ -L "$nearest" ] || [ -z "$nearest" ]; do nearest=${nearest%/*}; done
+  [ -O "${nearest:-/}" ] || [ -k "${nearest:-/}" ]
+}
+
 # Whether others can write to none of these paths, and to none of the folders that they are in. A folder may be as /tmp, where nobody can replace
-# what is not his own. The clone's own folders are not asked: who can write there can change this script. `whose` has more tests of `find`.
+# what is not his own. A link counts as open. The clone's own folders are not asked: who can write there can change this script. `whose` has more tests of
+# `find`.
 whose=
 is_closed() { # PATH..
   for path; do
@@ -71,20 +88,25 @@ is_closed() { # PATH..
       path=${path%/*}
     done
   done
-  [ -z "$(find -L "$@" -maxdepth 0 '(' -perm /022 ! '(' -type d -perm -1000 ')' $whose ')' 2>&1)" ]
+  [ -z "$(find "$@" -maxdepth 0 '(' -perm /022 ! '(' -type d -perm -1000 ')' $whose ')' 2>&1)" ]
 }
 
-# Whether only the caller, root, or the owner of this script can have changed a file in `out` or the cache.
+# Whether only the caller, root, or the owner of this script can have changed a file in `out` or the cache; and whether that is so of all files in
+# a folder.
 is_ours() ( # PATH
-  whose="-o ! -uid $(id -u) ! -uid 0 ! -uid $(stat -L -c %u -- "$root/release/lib.sh")"
+  whose=$(of_others)
   is_closed "$1"
 )
+are_ours() ( # FOLDER
+  is_ours "$1" && [ -z "$(find "$1" '(' -perm /022 $(of_others) ')' 2>&1)" ]
+)
+of_others() { echo "-o ! -uid $(id -u) ! -uid 0 ! -uid $(stat -L -c %u -- "$root/release/lib.sh")"; }
 
 # Sets `program` to the path of this folder's program, and `origin` to how it came there. Both are noted in the folder that has it, `out` or the
 # cache, with the state, so that the next call need not read the files. A note is taken only if nobody else can have written it.
 find_program() {
-  for place in "$root/out" "$cache"; do
-    [ -O "$place" ] && [ -O "$place/noted" ] && { IFS= read -r name && IFS= read -r origin; } 2>/dev/null <"$place/noted" || continue
+  for folder in "$root/out" "$cache"; do
+    real_place "$folder" && [ -O "$place" ] && [ -O "$place/noted" ] && { IFS= read -r name && IFS= read -r origin; } 2>/dev/null <"$place/noted" || continue
     case /$name in */../*) continue ;; esac
     program=$place/$name
     is_closed "$place/noted" "$program" || continue
@@ -107,7 +129,7 @@ note_program() (
 choose_program() {
   key=$(sources_key)
   if ! is_built && ! is_release_of "$key"; then
-    [ ! -e "$root/out" ] || is_ours "$root/out" || refuse "nothing in $root/out is run, since others can change it: remove it, or run chmod -R go-w on it"
+    [ ! -e "$root/out" ] || { real_place "$root/out" && is_ours "$place"; } || refuse "nothing in $root/out is run, since others can change it: remove it, or run chmod -R go-w on it"
     "$root/build"
     status=$?
     [ $status -lt 128 ] || exit $status
@@ -115,11 +137,11 @@ choose_program() {
     key=$(sources_key)
     is_built || is_release_of "$key" || refuse 'a source was edited meanwhile: the next call builds it'
   fi
-  if is_built; then place=$root/out name=built/$key/bin/bpftap origin='built and proved here'; else choose_released; fi
+  if is_built; then name=built/$key/bin/bpftap origin='built and proved here'; else choose_released; fi
   program=$place/$name
 }
 
-is_built() { [ -x "$root/out/built/$key/bin/bpftap" ] && is_ours "$root/out/built/$key/bin/bpftap"; }
+is_built() { real_place "$root/out" && [ -x "$place/built/$key/bin/bpftap" ] && is_ours "$place/built/$key/bin/bpftap"; }
 
 choose_released() {
   build='./build proves and builds one, with the toolchain'
@@ -136,6 +158,14 @@ choose_released() {
 # The checksums of a folder's files. A link is none.
 contents() (cd -- "$1" && find . -type f -printf '%P\0' | LC_ALL=C sort -z | xargs -0 sha256sum)
 
+# Chooses again, for those who copy what is beside the program: sets `made` to its folder, of which every file is compared with its checksum.
+choose_all() {
+  choose_program
+  made=${program%/bin/bpftap}
+  case $made in "$place"/built/*) ;; *) return 0 ;; esac
+  are_ours "$made" && contents "$made" | cmp -s - "$made.sums" || refuse "$made is not what ./build left: remove it, and run ./build"
+}
+
 # Prints the path of this folder's program.
 program_path() { find_program && printf '%s\n' "$program"; }
 
@@ -145,24 +175,23 @@ unpack() { # ARCHIVE
   archive=$1
   sum=$(checksum <"$root/release/$archive")
   [ "$sum" = "$(sum_of "$archive")" ] || refuse "release/$archive is damaged: its SHA-256 is not the one in $sums"
-  unpack_in "$root/out" -O || unpack_in "$cache" -O || unpack_in "$root/out" -e ||
+  { may_make "$root/out" && unpack_in "$root/out"; } || unpack_in "$cache" || unpack_in "$root/out" ||
     refuse "no program can be put in $root/out or ${cache:-a cache}: set XDG_CACHE_HOME to a folder that only you can write to"
   [ "$(contents "$unpacked")" = "$(listed "$archive")" ] || refuse "$unpacked is not what $sums says"
 }
 
-# Unpacks in a place that is new or passes a test, unless that was done, and says whether the program is there and others cannot change it. The
-# folder is there at once or not at all, since another call may be doing the same.
-unpack_in() { # PLACE TEST
-  place=$1 unpacked=$1/released/$sum
+# Unpacks in `out` or the cache, unless that was done, and says whether the program is there and others cannot change it. The folder is there at once
+# or not at all, since another call may be doing the same.
+unpack_in() { # FOLDER
   [ -n "$1" ] || return
-  [ ! -e "$1" ] || [ "$2" "$1" ] || return
-  [ -d "$unpacked" ] || (
+  [ -d "$1/released/$sum" ] || (
     umask 022
-    mkdir -p -- "$1/released" && is_ours "$1/released" && cd -- "$1/released" && new=$(mktemp -d "$sum.XXXXXX") || exit
+    may_make "$1" && mkdir -p -- "$1/released" && real_place "$1" && is_ours "$place/released" && cd -- "$place/released" || exit
+    new=$(mktemp -d "$sum.XXXXXX") || exit
     tar -xzf "$root/release/$archive" -C "$new" && mv -T -- "$new" "$sum"
     rm -rf -- "$new"
   ) 2>/dev/null
-  [ -x "$unpacked/bin/bpftap" ] && is_ours "$unpacked/bin/bpftap"
+  real_place "$1" && unpacked=$place/released/$sum && [ -x "$unpacked/bin/bpftap" ] && is_ours "$unpacked/bin/bpftap"
 }
 
 # Keeps what a build has left, if the sources still have the key that they had when it began.
@@ -174,6 +203,7 @@ keep() { # KEY
   while read -r mode from to; do
     install -D -m "$mode" -- "$root/$from" "$built/new/$to" || exit
   done <"$root/release/files"
+  contents "$built/new" >"$built/$1.sums"
   mv -T -- "$built/new" "$built/$1"
 }
 

@@ -91,6 +91,9 @@ def main():
     if asked.list:
         list_cases(groups)
         return
+    if {*groups} <= {"build", "release"}:
+        # Their cases call stand-ins.
+        os.environ.setdefault("BPFTAP", "true")
     if "BPFTAP" not in os.environ:
         run_with_own_program()
     passed, failed = run_groups(groups) if "BPFTAP" in os.environ else (0, 1)

@@ -1,4 +1,5 @@
 """`./install` and `./package`: what is put where, what is printed, and what is refused. A stand-in takes the program's place."""
+import json
 import pathlib
 import re
 import shutil
@@ -12,12 +13,6 @@ from .release import Clone, Within
 
 TEXTS = ["CHANGELOG.md", "LICENSE-APACHE", "LICENSE-MIT", "NOTICES", "README.md"]
 
-
-def listed(folder):
-    """The files below a folder of the repository, by their paths in the repository."""
-    return sorted(str(path.relative_to(ROOT)) for path in (ROOT / folder).rglob("*") if path.is_file())
-
-
 # Below the prefix: the program, the pages, the completions, and the documents, in the order in which they are put.
 PUT = {
     "bin/bpftap": None,
@@ -25,15 +20,15 @@ PUT = {
     "share/bash-completion/completions/bpftap": "completions/bpftap.bash",
     "share/zsh/site-functions/_bpftap": "completions/_bpftap",
     "share/fish/vendor_completions.d/bpftap.fish": "completions/bpftap.fish",
-    **{f"share/doc/bpftap/{name}": name for name in [*TEXTS, *listed("docs"), *listed("examples")]},
+    **{f"share/doc/bpftap/{name}": name for name in (ROOT / "release" / "documents").read_text().splitlines()},
 }
 
 
 def source_in(scene, **program):
     """A clone with all that is put."""
     clone = Clone(scene, **program)
-    for name in ["install", "package", *TEXTS]:
-        shutil.copy(ROOT / name, clone.folder)
+    for name in ["install", "package", "release/documents", *TEXTS]:
+        shutil.copy(ROOT / name, clone.folder / name)
     for name in ["man", "completions", "docs", "examples", "packaging"]:
         shutil.copytree(ROOT / name, clone.folder / name)
     return clone
@@ -41,12 +36,14 @@ def source_in(scene, **program):
 
 def install(scene, source, *words, path="/usr/bin:/bin", shell="/bin/bash", program="install"):
     """Runs `install` of a source folder, in the case's folder, without the toolchain, as a user of this shell."""
-    return source.run(*words, program=program, env={**source.bare(), "PATH": path, "SHELL": shell})
+    # Packages are packed by xz, for minutes on a busy machine.
+    limit = 5 * LIMIT if program == "package" else LIMIT
+    return source.run(*words, program=program, env={**source.bare(), "PATH": path, "SHELL": shell}, timeout=limit)
 
 
 def put_below(prefix):
-    """The files below a prefix, by their paths there, but for the list of folders that were made."""
-    return {str(path.relative_to(prefix)) for path in prefix.rglob("*") if not path.is_dir() and path.name != ".folders"}
+    """The files below a prefix, by their paths there, but for the list of what was put."""
+    return {str(path.relative_to(prefix)) for path in prefix.rglob("*") if not path.is_dir() and path.name != ".installed"}
 
 
 # A link of a page, whose text is what a reader sees.
@@ -173,6 +170,48 @@ def without_a_program_nothing_is_put(scene):
 
 
 @case
+def documents_are_those_of_the_repository(scene):
+    """release/documents lists what git tracks; what a user keeps beside it is not installed."""
+    if scene.has("git") and (ROOT / ".git").exists():
+        tracked = subprocess.run(["git", "ls-files", *TEXTS, "docs", "examples"], cwd=ROOT, stdout=subprocess.PIPE, text=True, timeout=LIMIT).stdout
+        scene.check("listed", sorted(tracked.splitlines()), (ROOT / "release" / "documents").read_text().splitlines())
+    source = source_in(scene)
+    for name in ["examples/my capture.pcap", "docs/.README.md.swp", "notes.md"]:
+        (source.folder / name).write_text("a user's own\n")
+    scene.check("install", install(scene, source, str(scene.folder / "there")).status, 0)
+    scene.check("put", put_below(scene.folder / "there"), set(PUT))
+
+
+@case
+def what_an_older_version_put_is_removed(scene):
+    """`--remove` takes what was put there, not what would be put today."""
+    source, prefix = source_in(scene), scene.folder / "there"
+    page = source.folder / "man" / "bpftap-old.1"
+    page.write_text("old\n")
+    scene.check("install", install(scene, source, str(prefix)).status, 0)
+    page.unlink()
+    scene.check("again", install(scene, source, str(prefix)).status, 0)
+    scene.check("remove", (install(scene, source, "--remove", str(prefix)).status, prefix.exists()), (0, False))
+
+
+@case
+def what_was_built_and_changed_is_not_installed(scene):
+    """A file of what was built here that was changed, or that others can write to, is not installed."""
+    source = source_in(scene)
+    source.run()
+    built = source.folder / "out" / "built" / source.lib("sources_key").out.decode().strip()
+    line = f"bpftap: {built} is not what ./build left: remove it, and run ./build\ninstall: nothing was put under {scene.folder}/there\n"
+    refused = Seen(b"", line.encode(), 1)
+    (built / "lib").mkdir()
+    scene.check("as it was", install(scene, source, str(scene.folder / "first")).status, 0)
+    (built / "lib").chmod(0o777)
+    scene.check("open to others", install(scene, source, str(scene.folder / "there")), refused)
+    (built / "lib").chmod(0o755)
+    (built / "lib" / "libbpftap.so.1").write_text("another\n")
+    scene.check("another file", install(scene, source, str(scene.folder / "there")), refused)
+
+
+@case
 def what_was_changed_is_not_installed(scene):
     """A released file that was changed since it was unpacked is neither installed nor packaged, though the launcher runs the program."""
     source = source_in(scene)
@@ -263,22 +302,28 @@ def packages_have_what_is_installed(scene):
     seen = install(scene, source, str(packages), program="package")
     names = sorted(path.name for path in packages.iterdir())
     version = re.fullmatch(r"bpftap-(.*)-x86_64-linux\.tar\.gz", names[0])[1]
-    scene.check("names", names, [f"bpftap-{version}-x86_64-linux.tar.gz", f"bpftap_{version}_amd64.deb"])
+    kinds = [f"bpftap-{version}-x86_64-linux.tar.gz", f"bpftap-{version}.spdx.json", f"bpftap_{version}_amd64.deb"]
+    scene.check("names", names, kinds)
     scene.check("printed", seen, Seen("".join(f"{packages}/{name}\n" for name in names).encode(), b"", 0))
     root = scene.folder / "root"
-    subprocess.run(["dpkg-deb", "-x", packages / names[1], root], check=True)
+    package = packages / names[2]
+    subprocess.run(["dpkg-deb", "-x", package, root], check=True)
     zipped = {f"{name}.gz" if name.startswith("share/man/man1/") else name for name in PUT if not name.startswith("share/man/man3/")}
     zipped = {name.replace("site-functions", "vendor-completions") for name in zipped}
     zipped -= {f"share/doc/bpftap/{name}" for name in ["CHANGELOG.md", "LICENSE-APACHE", "LICENSE-MIT"]}
     zipped |= {"share/doc/bpftap/changelog.gz", "share/doc/bpftap/copyright"}
     scene.check("files of the package", put_below(root), {f"usr/{name}" for name in zipped})
     run_all_examples(scene, root / "usr", "by the package")
-    fields = subprocess.run(["dpkg-deb", "-f", packages / names[1], "Package", "Version", "Depends"], stdout=subprocess.PIPE, text=True).stdout
+    fields = subprocess.run(["dpkg-deb", "-f", package, "Package", "Version", "Depends"], stdout=subprocess.PIPE, text=True).stdout
     scene.check("fields", fields, f"Package: bpftap\nVersion: {version}\nDepends: libc6 (>= 2.34)\n")
-    owners = subprocess.run(["dpkg-deb", "-c", packages / names[1]], stdout=subprocess.PIPE, text=True).stdout
+    owners = subprocess.run(["dpkg-deb", "-c", package], stdout=subprocess.PIPE, text=True).stdout
     scene.check("owners", {line.split()[1] for line in owners.splitlines()}, {"root/root"})
     subprocess.run(["tar", "-xzf", packages / names[0], "-C", scene.folder], check=True)
     scene.check("files of the archive", put_below(scene.folder / f"bpftap-{version}"), set(PUT))
     again = scene.folder / "again"
     install(scene, source, str(again), program="package")
-    scene.check("the same again", [(again / name).read_bytes() == (packages / name).read_bytes() for name in names], [True, True])
+    scene.check("the same again", [name for name in names if (again / name).read_bytes() != (packages / name).read_bytes()], [])
+    made_of = json.loads((packages / names[1]).read_text())
+    known = {"SPDXRef-DOCUMENT", *(each["SPDXID"] for each in [*made_of["packages"], *made_of["files"]])}
+    named = {each[key] for each in made_of["relationships"] for key in ("spdxElementId", "relatedSpdxElement")}
+    scene.check("what it is made of", (named - known, [each["fileName"] for each in made_of["files"]]), (set(), ["./bpftap-x86_64-linux/bin/bpftap"]))

@@ -396,6 +396,55 @@ def a_cache_that_others_can_write_to_is_none(scene):
 
 
 @case
+def a_link_is_asked_where_it_leads(scene):
+    """A link on the way to `out` or the cache is followed once, and the folders above its end are asked: others may write to none of them."""
+    clone = Clone(scene)
+    out, cache, shared = clone.folder / "out", clone.home / ".cache" / "bpftap", scene.folder / "shared"
+    (shared / "cache").mkdir(parents=True)
+    (shared / "out").mkdir()
+    out.symlink_to(shared / "out")
+    scene.check("out is a link", (clone.call("--version").out, clone.is_unpacked_in(shared / "out")), (RELEASED, ["bpftap"]))
+    plant(clone, out)
+    shared.chmod(0o777)
+    scene.check("out is a link to where others can write", (clone.call("--version").out, has_run(clone)), (RELEASED, False))
+    shutil.rmtree(cache.parent)
+    out.unlink()
+    out.write_text("in the way\n")
+    shared.chmod(0o755)
+    cache.parent.symlink_to(shared / "cache")
+    calls = (clone.call("--version").out, clone.call("--version").out)
+    scene.check("the cache is a link", (*calls, clone.is_unpacked_in(shared / "cache" / "bpftap")), (RELEASED, RELEASED, ["bpftap"]))
+    plant(clone, shared / "cache" / "bpftap")
+    scene.check("one's own note there", (clone.call("--version").status, has_run(clone)), (0, True))
+    shared.chmod(0o777)
+    scene.check("the cache is a link to where others can write", (clone.call("--version"), has_run(clone)), (no_place(clone, cache), False))
+    shared.chmod(0o755)
+    planted = shared / "cache" / "bpftap" / "released"
+    planted.rename(scene.folder / "released")
+    planted.symlink_to(scene.folder / "released")
+    scene.check("a link within", (clone.call("--version"), has_run(clone)), (no_place(clone, cache), False))
+
+
+@case
+def root_makes_nothing_in_a_folder_of_another_user(scene):
+    """Called by root, with the HOME of another user or in another user's clone, it leaves nothing there that this user could not write to."""
+    if os.geteuid() != 0:
+        scene.leave("only root can make files of another user")
+        return
+    clone = Clone(scene)
+    give(clone.home)
+    (clone.folder / "out").write_text("in the way\n")
+    scene.check("another user's home", clone.call("--version"), no_place(clone, clone.home / ".cache" / "bpftap"))
+    scene.check("made there", [*clone.home.iterdir()], [])
+    (clone.folder / "out").unlink()
+    give(clone.folder)
+    scene.check("and clone", clone.call("--version"), no_place(clone, clone.home / ".cache" / "bpftap"))
+    give(clone.home, user=0)
+    scene.check("another user's clone", clone.call("--version").out, RELEASED)
+    scene.check("made there", (clone.folder / "out").exists(), False)
+
+
+@case
 def what_another_user_made_is_not_run(scene):
     """Root's first call with the HOME of another user, and a cache or `out` that another user made, run nothing of that user's."""
     if os.geteuid() != 0:
