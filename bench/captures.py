@@ -52,7 +52,7 @@ def measure_loops(path):
         return sum(wanted.matches(packet) for packet in bpftap.read(path))
 
     ways = {
-        "read alone": lambda: [*bpftap.read(path)], "read and matches of each": loop, "read and run_each": lambda: bpftap.Filter(EXPRESSION).run_each(bpftap.read(path)),
+        "read": lambda: [*bpftap.read(path)], "read and matches of each": loop, "read and run_each": lambda: bpftap.Filter(EXPRESSION).run_each(bpftap.read(path)),
         "Capture.matching": lambda: [*bpftap.read(path).matching(EXPRESSION)], "Capture.answers": lambda: bpftap.read(path).answers(EXPRESSION)}
     for name, call in ways.items():
         print(f"{name:26} {ratio(call, pcapys):.2f} of pcapy's loop")

@@ -278,8 +278,8 @@ enum bpftap_sameness {
 /* Why nothing is claimed. */
 enum bpftap_cause {
     BPFTAP_GRAPHS = 1,  /* their decision graphs differ, and no packet was found that shows how they do */
-    BPFTAP_BUDGET = 2,  /* the budget is spent */
-    BPFTAP_RELATION = 3 /* one of them has a relation, as `ip[8] < 5` */
+    BPFTAP_BUDGET = 2,  /* the budget is spent, or an expression has more than 1,000 levels */
+    BPFTAP_RELATION = 3 /* one of them has a relation of a kind that is not decided, as `ip[8] < len` */
 };
 
 struct bpftap_comparison {
@@ -294,8 +294,9 @@ struct bpftap_comparison {
 
 /* Decides for every packet that there can be whether two expressions accept it alike, and writes a packet that shows a difference, if it
  * has one: its captured bytes. 1,514 bytes are mostly room enough; without enough the answer is returned all the same, with NO_ROOM.
- * `budget` is how many nodes a decision graph may have, and how many pairs of them it may join: `bpftap compare` takes 2,000,000. The
- * more of it is needed, the more memory and time are taken.
+ * `budget` is how many nodes the diagrams of one header length may have, and a sixth of the steps that are taken in all: `bpftap compare`
+ * takes 2,000,000. The more of it is needed, the more memory and time are taken. A relation is decided if one side is a constant, and the
+ * other is `len` or the bytes of a layer at a constant index, under a constant mask or none.
  * Faults: those of bpftap_print, of expression `number`. */
 struct bpftap_comparison bpftap_compare(const char *first, size_t first_size, const char *second, size_t second_size, size_t budget,
                                         uint8_t *to, size_t room);

@@ -1,4 +1,4 @@
-// The filter that is typed: how it is read, its instructions by names, or its fault with a caret and hints.
+// The filter that is typed: how it is read, its instructions by names, or its fault with a caret.
 
 import { OK } from "./library.js";
 import { decode } from "./program.js";
@@ -23,14 +23,14 @@ export function caret(text, place) {
 }
 
 /**
- * The lines that explain a fault of an expression: the caret if it has a place, its name, and the hints.
+ * The lines that explain a fault of an expression: the caret if it has a place, and its name.
  * @param {Library} library
  * @param {string} expression
  * @param {{ fault: number, place: number }} answer
  */
 export function faultLines(library, expression, { fault, place }) {
-  const name = library.faultText(fault, place), hint = library.hint(fault, place, expression);
-  return [/ \d+$/.test(name) ? caret(expression, place) : "", name, ...hint.split("\n")].filter(Boolean);
+  const name = library.faultText(fault, place);
+  return / \d+$/.test(name) ? [caret(expression, place), name] : [name];
 }
 
 export class FilterView {

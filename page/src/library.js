@@ -76,14 +76,6 @@ export class Library extends Memory {
     }
   }
 
-  /**
-   * Whether the library has a call.
-   * @param {string} name
-   */
-  has(name) {
-    return `bpftap_${name}` in this.calls;
-  }
-
   version() {
     return this.textOf("version", () => []).text;
   }
@@ -158,17 +150,6 @@ export class Library extends Memory {
       const { fault, size, place } = this.result(result);
       return { fault, size, place, verdict: this.u32(result + 4), text: fault === OK ? this.text(to, size) : "" };
     };
-  }
-
-  /**
-   * The sentences that help with a fault of an expression, or none.
-   * @param {number} fault
-   * @param {number} place
-   * @param {string} expression
-   */
-  hint(fault, place, expression) {
-    if (!this.has("hint")) return "";
-    return this.textOf("hint", (take) => [fault, BigInt(place), ...words(this.putText(take, expression))]).text;
   }
 
   /**

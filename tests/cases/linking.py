@@ -164,7 +164,7 @@ def manual_has_each_call(scene):
     pages = {path.stem: path.read_text() for path in man.glob("bpftap_*.3")}
     scene.check("pages", sorted(pages), sorted(names))
     others = {name: re.fullmatch(r"\.so man3/(\w+)\.3\n", text) for name, text in pages.items() if text.startswith(".so")}
-    scene.check("pages that name another one", [name for name, found in others.items() if not found or f".Nm {name}\n" not in pages[found[1]]], [])
+    scene.check("pages that name another one", [name for name, found in others.items() if not found or not re.search(rf"^\.Nm {name}\b", pages[found[1]], re.M)], [])
     if scene.has("mandoc"):
         whole = [man / f"{name}.3" for name in pages if name not in others]
         scene.check("mandoc", done(scene, ["mandoc", "-Tlint", "-Werror", *whole]), ("", 0))

@@ -130,7 +130,7 @@ def questions():
 
 @case
 def module_answers_as_the_native_library(scene):
-    """All that the page asks: expressions and their programs, reasons, looks, traces and hints, pairs, captures and steps, beside libbpftap.so."""
+    """All that the page asks: expressions and their programs, reasons, looks and traces, pairs, captures and steps, beside libbpftap.so."""
     if not is_there(scene) or not library.is_there(scene) or not scene.has("node"):
         return
     scene.start({"module": part("module")})
@@ -154,6 +154,17 @@ def refused_memory_is_no_trap(scene):
         scene.start({"module": part("module")})
         wanted = "enough allocations were refused\nstopped, and went on\n"
         scene.check("refused", printed(scene, ["node", HARNESS / "refused.js", "module"]), (wanted, 0))
+
+
+# A loop of the same work at each call, and how many milliseconds it takes if nothing else runs: so a busy machine is not taken for a slow page.
+SPIN = """
+    const spin = () => {
+      const begun = performance.now();
+      let sum = 0;
+      for (let n = 0; n < 1e7; n++) sum = (Math.imul(sum, 31) + n) | 0;
+      return performance.now() - begun + (sum === 1 ? 1 : 0);
+    };"""
+IDLE = 15
 
 
 class Visit:
@@ -217,21 +228,20 @@ def see_marked_bytes(visit):
 
 
 def type_filters(visit):
-    """Typing, a fault with its caret and hint, and how long an answer takes."""
+    """Typing, a fault with its caret, and how long an answer takes."""
     visit.open()
     visit.filter("icmp and proot 17")
-    hint = visit.scene.run(["--hints", "check", "icmp and proot 17"]).err.decode().splitlines()
-    visit.check("a fault with its caret and its hint", visit.text("fault").splitlines(), [" " * 9 + "^", "BadWord 9", *(line.strip() for line in hint[3:])])
+    visit.check("a fault with its caret", visit.text("fault").splitlines(), [" " * 9 + "^", "BadWord 9"])
     visit.filter("udp port 5353")
     visit.check_has("another filter", "counts", "253 packets: 67 Yes, 186 No, 0 Abort")
     visit.check("no fault is left", visit.text("fault"), "")
-    took = visit.run("""
-        const field = document.getElementById('filter'), took = [];
-        for (const text of ['tcp port 80 or 44', 'tcp port 80 or 443', 'tcp port 80 or 44', 'tcp port 80 or 443', 'udp']) {
-          field.value = text; const begun = performance.now(); field.dispatchEvent(new Event('input')); took.push(performance.now() - begun);
+    took, slow = visit.run(SPIN + """
+        const field = document.getElementById('filter'), took = [], spun = [];
+        for (const text of ['tcp port 80 or 44', 'tcp port 80 or 443', 'tcp port 80 or 44', 'tcp port 80 or 443', 'udp port 53', 'tcp port 80 or 443']) {
+          field.value = text; const begun = performance.now(); field.dispatchEvent(new Event('input')); took.push(performance.now() - begun); spun.push(spin());
         }
-        return Math.min(...took.slice(0, 4))""")
-    visit.check(f"a keystroke's answer within 16 ms, not {took}", took <= 16 * slowness(), True)
+        return [Math.min(...took), Math.min(...spun)]""")
+    visit.check(f"a keystroke's answer within 16 ms, not {took} where a loop takes {slow}", took <= 16 * max(1, slow / IDLE), True)
 
 
 def use_keys_alone(visit):
@@ -294,17 +304,13 @@ def give_many_packets(visit):
     visit.filter("udp port 5353 or arp")
     visit.wait("return document.getElementById('counts').textContent.startsWith('100000 packets: 29')")
     took = time.monotonic() - begun
-    visit.check(f"asked in at most 2 s, not {took:.2f} s", took <= 2 * slowness(), True)
+    slow = visit.run(f"{SPIN} return Math.max(spin(), spin(), spin())")
+    visit.check(f"asked in at most 2 s, not {took:.2f} s where a loop takes {slow}", took <= 2 * max(1, slow / IDLE), True)
     visit.run("document.getElementById('packets').focus()")
     visit.press("End")
     visit.check_has("the last packet", "packet-title", "Packet 99999")
     visit.check("few rows are in the page", visit.run("return document.querySelectorAll('.row').length") < 60, True)
     visit.check("it is in sight", visit.run("return document.getElementById('packet-99999') !== null"), True)
-
-
-def slowness():
-    """How much longer than an idle machine this one may take, by how many processes wait for its processors."""
-    return max(1, 2 * os.getloadavg()[0] / os.cpu_count())
 
 
 def play_steps(visit):
@@ -362,7 +368,7 @@ def stay_quiet(visit):
 
 
 VISITS = [look_at_packet, see_marked_bytes, type_filters, use_keys_alone, see_difference, give_files, give_many_packets, play_steps, follow_lesson,
-          survive_trap, stay_quiet]
+          stay_quiet, survive_trap]
 
 
 def visit_page(scene, kind):

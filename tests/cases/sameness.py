@@ -34,6 +34,9 @@ PAIRS = {
         ("tcp[2:2] > 1023", "tcp dst portrange 1024-65535"), ("ip[12:4] & 0xff000000 = 0x0a000000", "ip src net 10.0.0.0/8"),
         ("ip[0] >= 64 and ip[0] <= 79", "ip[0] & 0xf0 = 0x40"), ("arp[6:2] = 1", "arp[6] = 0 and arp[7] = 1"),
         ("len = 100", "less 100 and greater 100"), ("100 < len", "greater 101"), ("len != 100", "less 99 or greater 101"),
+        ("ip[0] & 15 = 5 and tcp dst port 80", "tcp dst port 80 and ip[0] & 15 = 5"),
+        # The same tree twice, whatever it calculates.
+        ("ip[2:2] - ((ip[0] & 15) << 2) != 0", "(ip[2:2] - ((ip[0] & 15) << 2)) != 0"), ("ip[8] / 64 * 64 = ip[8]", "ip[8] / 64 * 64 = ip[8]"),
     ],
     CAPTURED: [
         ("ip", "ip and greater 14"), ("arp", "arp and greater 14"), ("tcp", "tcp and greater 24"), ("tcp", "tcp and not less 23"),

@@ -183,7 +183,7 @@ static void keep_packets(const struct input *in) {
 typedef struct bpftap_replay (*steps)(const char *, size_t, const char *, size_t, const struct bpftap_capture *, size_t, char *, size_t);
 
 static void play_steps(const struct input *in, const uint8_t *whole, size_t size) {
-    static const steps CALLS[] = {bpftap_steps, bpftap_steps_json, bpftap_picture};
+    static const steps CALLS[] = {bpftap_steps, bpftap_steps_json, bpftap_steps_answers, bpftap_steps_answers_json, bpftap_picture};
     static const char script[] = "arrive\narrive\nflush 0\narrive\nread 0\nclose 0\n";
     char *line = NULL;
     int line_size = asprintf(&line, "96 4096 %.*s\n", (int)in->text_size, in->text);

@@ -174,7 +174,7 @@ static void takes_null(void) {
     struct bpftap_program *program = prepared(IP, 4);
     size_t size = bpftap_compile(NULL, 0, 96, insns, BPFTAP_MAX_INSNS).size;
     CHECK(size == 1 && bpftap_compile(NULL, 0, 96, NULL, 0).fault == BPFTAP_NO_ROOM);
-    CHECK(bpftap_check(NULL, 0).fault == BPFTAP_EMPTY && bpftap_read_listing(NULL, 0, NULL, 0).fault == BPFTAP_COUNT);
+    CHECK(bpftap_check(NULL, 0).fault == BPFTAP_EMPTY && bpftap_read_listing(NULL, 0, NULL, 0).fault == BPFTAP_BAD_LINE);
     CHECK(bpftap_write_listing(NULL, 0, NULL, 0).fault == BPFTAP_EMPTY && bpftap_write_listing(IP, 4, NULL, 0).fault == BPFTAP_NO_ROOM);
     CHECK(bpftap_image(NULL, 0, NULL, 0).fault == BPFTAP_EMPTY && bpftap_image(IP, 4, NULL, 0).fault == BPFTAP_NO_ROOM);
     CHECK(bpftap_print(NULL, 0, text, sizeof room).size == 0 && bpftap_print(NULL, 0, NULL, 0).fault == BPFTAP_NO_ROOM);

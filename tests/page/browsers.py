@@ -4,7 +4,6 @@ import contextlib
 import json
 import pathlib
 import shutil
-import signal
 import socket
 import subprocess
 import tempfile
@@ -88,7 +87,11 @@ class Chromium(Browser):
         self.folder = tempfile.TemporaryDirectory()
         silent = {"stdout": subprocess.DEVNULL, "stderr": subprocess.DEVNULL}
         self.driver = subprocess.Popen(["chromedriver", f"--port={port}"], start_new_session=True, **silent)
-        wait_until(self.is_up, "chromedriver")
+        try:
+            wait_until(self.is_up, "chromedriver")
+        except BrowserError:
+            self.driver.kill()
+            raise
         words = ["--headless=new", "--no-sandbox", "--window-size=1500,1250", f"--user-data-dir={self.folder.name}"]
         words += ["--blink-settings=preferredColorScheme=0"] if is_dark else []
         wanted = {"browserName": "chrome", "goog:chromeOptions": {"args": words}, "goog:loggingPrefs": {"browser": "ALL", "performance": "ALL"}}
@@ -149,9 +152,13 @@ class Firefox(Browser):
         self.said = open(pathlib.Path(self.folder.name) / "said", "wb+")
         words = ["firefox-esr", "--headless", "--marionette", "--no-remote", "--profile", self.folder.name, "--width", "1500", "--height", "1250"]
         self.process = subprocess.Popen(words, stdout=self.said, stderr=self.said, start_new_session=True)
-        self.wire = wait_until(lambda: self.connected(port), "Firefox")
-        self.read()
-        made = self.send("WebDriver:NewSession", {"capabilities": {"alwaysMatch": {}}})
+        try:
+            self.wire = wait_until(lambda: self.connected(port), "Firefox")
+            self.read()
+            made = self.send("WebDriver:NewSession", {"capabilities": {"alwaysMatch": {}}})
+        except (OSError, BrowserError):
+            self.process.kill()
+            raise
         self.version = made["capabilities"]["browserVersion"]
 
     def connected(self, port):
@@ -199,7 +206,7 @@ class Firefox(Browser):
         with contextlib.suppress(subprocess.TimeoutExpired):
             self.process.wait(15)
         if self.process.poll() is None:
-            self.process.send_signal(signal.SIGKILL)
+            self.process.kill()
             self.process.wait(LIMIT)
         self.said.close()
         self.folder.cleanup()

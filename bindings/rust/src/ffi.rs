@@ -180,6 +180,14 @@ extern "C" {
         listeners: *const u8, listeners_size: usize, script: *const u8, script_size: usize, captures: *const Capture, count: usize, to: *mut u8,
         room: usize,
     ) -> Replay;
+    pub fn bpftap_steps_answers(
+        listeners: *const u8, listeners_size: usize, script: *const u8, script_size: usize, captures: *const Capture, count: usize, to: *mut u8,
+        room: usize,
+    ) -> Replay;
+    pub fn bpftap_steps_answers_json(
+        listeners: *const u8, listeners_size: usize, script: *const u8, script_size: usize, captures: *const Capture, count: usize, to: *mut u8,
+        room: usize,
+    ) -> Replay;
     pub fn bpftap_picture(
         listeners: *const u8, listeners_size: usize, script: *const u8, script_size: usize, captures: *const Capture, count: usize, to: *mut u8,
         room: usize,

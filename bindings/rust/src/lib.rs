@@ -17,7 +17,7 @@ pub use error::{Error, Fault};
 pub use ffi::Insn;
 pub use filter::{check, Executed, Filter, Look, Span, Verdict};
 pub use listener::{Fed, Listener, Message, Messages, Mode, MAX_CAPACITY};
-pub use steps::{picture, steps, steps_json, Replay};
+pub use steps::{picture, steps, steps_answers, steps_answers_json, steps_json, Replay};
 
 /// The most captured bytes of a packet.
 pub const MAX_SNAP: u32 = 262_144;

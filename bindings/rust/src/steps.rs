@@ -60,6 +60,29 @@ pub fn steps(listeners: &str, script: &str, captures: &[&[u8]]) -> Result<Replay
     play(ffi::bpftap_steps, listeners, script, captures)
 }
 
+/// Does the same, and returns what `bpftap steps -v` prints before its reports: a line for each step, and below it one for each listener
+/// that the step reaches, with what it answered, and why.
+///
+/// ```
+/// let replay = bpftap::steps_answers("96 4096\n", "flush 0\n", &[])?;
+/// assert_eq!(replay.reports, "step 1 flush 0\n  listener 0 not flushed, nothing is stored\n");
+/// # Ok::<(), bpftap::Error>(())
+/// ```
+pub fn steps_answers(listeners: &str, script: &str, captures: &[&[u8]]) -> Result<Replay, Error> {
+    play(ffi::bpftap_steps_answers, listeners, script, captures)
+}
+
+/// Does the same, and returns the answers as JSON Lines: an object for each line of [`steps_answers`].
+///
+/// ```
+/// let replay = bpftap::steps_answers_json("96 4096\n", "flush 0\n", &[])?;
+/// assert_eq!(replay.reports.lines().next(), Some("{\"step\":1,\"action\":\"flush\",\"listener\":0}"));
+/// # Ok::<(), bpftap::Error>(())
+/// ```
+pub fn steps_answers_json(listeners: &str, script: &str, captures: &[&[u8]]) -> Result<Replay, Error> {
+    play(ffi::bpftap_steps_answers_json, listeners, script, captures)
+}
+
 /// Does the same, and returns the picture that `bpftap steps -p` draws, as SVG.
 ///
 /// ```

@@ -11,8 +11,14 @@ use Rattle.cli_json.specs.Strings.{json_string}
 use Rattle.cli_text.specs.Telling.{end_of_line}
 use Rattle.cli_info.specs.Lines.{order_text, unit_text}
 
+abbrev pub number_of_packets_json : ℕ → List ℕ
+number_of_packets_json packets = codes ",\"packets\":" ++ decimal packets
+
+abbrev pub lengths_json : (len captured : ℕ) → List ℕ
+lengths_json len captured = codes ",\"length\":" ++ decimal len ++ codes ",\"captured\":" ++ decimal captured
+
 unfoldable pub totals_json : Contents → List ℕ
-totals_json c = codes ",\"packets\":" ++ decimal c.packets ++ codes ",\"length\":" ++ decimal c.len ++ codes ",\"captured\":" ++ decimal c.captured
+totals_json c = number_of_packets_json c.packets ++ lengths_json c.len c.captured
 
 -- `,"first":{"seconds":S,"nanoseconds":N}`, if there is a packet
 abbrev pub moment_json : List ℕ → Option Moment → List ℕ

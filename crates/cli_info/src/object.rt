@@ -1,7 +1,7 @@
 //! The object of a capture, in JSON.
 
 ghost use Rattle.std.specs.Prelude.{◌≡◌, ◌++◌, OnOk, string_bytes};
-ghost use Rattle.cli_info.specs.Objects.{contents_json, end_json, header_json, kinds_json, moment_json, moments_json, object_json, totals_json};
+ghost use Rattle.cli_info.specs.Objects.{contents_json, end_json, header_json, kinds_json, lengths_json, moment_json, moments_json, number_of_packets_json, object_json, totals_json};
 
 use crate::line::{order_word, unit_word};
 use cli_json::put_string;
@@ -10,19 +10,27 @@ use pcap_info::survey::CaptureSurvey;
 use savefile::{Fault, Header};
 use std::alloc::AllocError;
 
+/// Appends how many packets there are.
+fn put_number(line: &mut String, packets: u64) -> Result<(), AllocError>
+    ensures { OnOk result (string_bytes line.new ≡ string_bytes line.old ++ number_of_packets_json packets) }
+{
+    write!(line, ",\"packets\":{packets}")
+}
+
+/// Appends how long all packets were on the wire, and how many bytes of them were captured.
+fn put_lengths(line: &mut String, len: u64, captured: u64) -> Result<(), AllocError>
+    ensures { OnOk result (string_bytes line.new ≡ string_bytes line.old ++ lengths_json len captured) }
+{
+    write!(line, ",\"length\":{len},\"captured\":{captured}")
+}
+
 /// Appends how many packets there are, and how many bytes of them.
 #[tactic(auto, unfolding(crate::specs::Objects::totals_json))]
 fn put_totals(line: &mut String, contents: &Contents) -> Result<(), AllocError>
     ensures { OnOk result (string_bytes line.new ≡ string_bytes line.old ++ totals_json contents.now) }
 {
-    let Contents {
-        packets,
-        len,
-        captured,
-        ..
-    } = *contents;
-    write!(line, ",\"packets\":{packets},\"length\":{len}")?;
-    write!(line, ",\"captured\":{captured}")
+    put_number(line, contents.packets)?;
+    put_lengths(line, contents.len, contents.captured)
 }
 
 /// Appends a moment after its name, if there is one.

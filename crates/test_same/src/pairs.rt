@@ -156,7 +156,11 @@ fn what_asks_for_thousands_of_bits_is_decided(rt: HostRuntime) {
 
 #[test]
 fn more_than_a_thousand_levels_are_over_the_budget(rt: HostRuntime) {
-    let deep = chain(&rt, 1001, 5);
+    let mut deep = String::new(rt.alloc());
+    for _ in 0..1000 {
+        deep.push_str("tcp or ").expect(&rt, "there is memory");
+    }
+    deep.push_str("tcp").expect(&rt, "there is memory");
     let over = Sameness::NotDecided(Cause::Budget);
     decided(&rt, &deep, &deep, 100_000, over);
 }
