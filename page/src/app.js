@@ -186,8 +186,10 @@ export class App {
     // Once a capture is read, it is explained.
     if (!capture) return;
     this.packetDesk.turnAway();
-    this.list.answer(NO_ANSWERS, true);
-    if (!filter) return;
+    if (!filter) {
+      this.list.answer(NO_ANSWERS, true);
+      return;
+    }
     const slow = setTimeout(() => (find("stop-packets").hidden = false), 200);
     try {
       // A worker that was stopped has forgotten the capture.

@@ -10,7 +10,7 @@ import { find, make, makeSvg, save } from "./dom.js";
 const MOST_DRAWN = 120;
 
 export class GraphView {
-  /** @param {() => void} onDrawn is called when there is a new drawing to light up */
+  /** @param {() => void} onDrawn is called when a drawing was asked for, which is to be lit up */
   constructor(onDrawn) {
     this.onDrawn = onDrawn;
     /** @type {Filter | null} */
@@ -19,7 +19,10 @@ export class GraphView {
     this.drawing = null;
     /** @type {HTMLInputElement} */
     this.hasLines = find("with-lines");
-    this.hasLines.addEventListener("change", () => this.show(this.filter));
+    this.hasLines.addEventListener("change", () => {
+      this.show(this.filter);
+      this.onDrawn();
+    });
     find("save-graph").addEventListener("click", () => this.save());
   }
 
@@ -30,7 +33,11 @@ export class GraphView {
     if (!filter) {
       find("graph").replaceChildren();
     } else if (filter.program.length > MOST_DRAWN) {
-      const button = make("button", { type: "button", click: () => this.draw(filter) }, `Draw ${filter.program.length} instructions`);
+      const click = () => {
+        this.draw(filter);
+        this.onDrawn();
+      };
+      const button = make("button", { type: "button", click }, `Draw ${filter.program.length} instructions`);
       find("graph").replaceChildren(button);
     } else {
       this.draw(filter);
@@ -41,7 +48,6 @@ export class GraphView {
   draw(filter) {
     this.drawing = draw(filter.program, filter.image, this.hasLines.checked);
     find("graph").replaceChildren(this.drawing.svg);
-    this.onDrawn();
   }
 
   /**

@@ -241,7 +241,7 @@ def type_filters(visit):
           field.value = text; const begun = performance.now(); field.dispatchEvent(new Event('input')); took.push(performance.now() - begun); spun.push(spin());
         }
         return [Math.min(...took), Math.min(...spun)]""")
-    visit.check(f"a keystroke's answer within 16 ms, not {took} where a loop takes {slow}", took <= 16 * max(1, slow / IDLE), True)
+    visit.check(f"a keystroke's answer within 100 ms, not {took} where a loop takes {slow}", took <= 100 * max(1, slow / IDLE), True)
 
 
 def use_keys_alone(visit):
