@@ -1,5 +1,5 @@
 use Rattle.filter_same.specs.Filters.{filter_accepts, filter_test}
-use Rattle.filter_same.proofs.Joins.{map-ok}
+use Rattle.filter_same.proofs.Builders.{map-ok}
 use Rattle.cli_compare.specs.Deciding.{asked_accepts, asked_test}
 use Rattle.cli_compare.proofs.Witnesses.{holds-as}
 use Rattle.cli_compare.proofs.sameness.decide_pair.Goals as goal
