@@ -1,4 +1,5 @@
 """`./install` and `./package`: what is put where, what is printed, and what is refused. A stand-in takes the program's place."""
+import os
 import json
 import pathlib
 import re
@@ -192,6 +193,24 @@ def what_an_older_version_put_is_removed(scene):
     page.unlink()
     scene.check("again", install(scene, source, str(prefix)).status, 0)
     scene.check("remove", (install(scene, source, "--remove", str(prefix)).status, prefix.exists()), (0, False))
+
+
+@case
+def a_list_leads_to_nothing_outside_of_the_prefix(scene):
+    """`--remove` takes nothing but what is below its prefix, whatever the list names; a copy's list is of the copy."""
+    source, prefix, copy = source_in(scene), scene.folder / "there", scene.folder / "copy"
+    outside = scene.folder / "outside"
+    outside.write_text("kept\n")
+    scene.check("install", install(scene, source, str(prefix)).status, 0)
+    subprocess.run(["cp", "-a", prefix, copy], check=True)
+    put = put_below(prefix)
+    with open(copy / "share" / "doc" / "bpftap" / ".installed", "ab") as names:
+        names.write(b"\0".join([b"../outside", os.fsencode(outside), b"share/../../outside", b""]))
+    scene.check("remove", install(scene, source, "--remove", str(copy)).status, 0)
+    scene.check("the copy", put_below(copy), set())
+    scene.check("what is outside", (outside.read_text(), put_below(prefix)), ("kept\n", put))
+    (prefix / "share" / "doc" / "bpftap" / ".installed").chmod(0o666)
+    scene.check("a list that others can write", (install(scene, source, "--remove", str(prefix)).status, put_below(prefix)), (0, set()))
 
 
 @case
