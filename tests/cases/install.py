@@ -108,6 +108,7 @@ def all_that_is_released_is_put(scene):
         (built / name).parent.mkdir(parents=True, exist_ok=True)
         (built / name).write_text(text)
     (built / "bin" / "bpftap").chmod(0o755)
+    built.with_name(f"{built.name}.sums").write_bytes(source.lib("contents", str(built)).out)
     scene.check("install", install(scene, source, str(prefix)).status, 0)
     scene.check("files", put_below(prefix), {*PUT, *made})
     scene.check("what they hold", {name: (prefix / name).read_text() for name in made}, made)
