@@ -301,7 +301,10 @@ def the_page_has_the_faults_of_the_sources(scene):
     named = {word for row in rows() for word in row.line.split()}
     for path in sorted((ROOT / "crates").glob("*/src/*.rt")):
         if "/crates/test_" not in str(path):
+            # A text by a derive, or a name that `name()` of a fault answers.
             names = set(re.findall(r'#\[error\("([A-Z]\w+)', path.read_text()))
+            if path.name == "fault.rt":
+                names |= set(re.findall(r'=> "([A-Z]\w+)"', path.read_text()))
             scene.check(f"faults of {path.relative_to(ROOT)}", names - named - UNREPORTED, set())
 
 

@@ -193,7 +193,7 @@ def progress_is_shown(scene):
     scene.start({"lines.txt": "0 out.pcap ip\n", "listeners.txt": "0 0 0 1048576 2 out.pcap ip\n"})
     long_capture(scene, "long.pcap", 20)
     for words, status in [(["cut", "-s", "0", "-e", "ip", "long.pcap", "out.pcap"], 0), (["split", "lines.txt", "long.pcap"], 0),
-                          (["cut", "-s", "0", "-e", "ip", "long.pcap", "long.pcap", "out.pcap"], 0),
+                          (["cut", "-s", "0", "-e", "ip", "-w", "out.pcap", "long.pcap", "long.pcap"], 0),
                           (["explain", "-q", "-e", "ip", "long.pcap"], 4), (["compare", "ip", "tcp", "long.pcap"], 0),
                           (["run", "listeners.txt", "long.pcap"], 0)]:
         shown, _, ended = watch(words, scene.folder, pauses=1)
