@@ -7,8 +7,8 @@ ghost use Rattle.cli_explain.specs.Telling.{printed_status, read_status, found_s
 
 use crate::each::{Explained, Unprinted};
 use crate::one::Found;
+use cli_text::Status;
 use cli_text::report::{fault_status, report_at, report_fault, report_unwritten};
-use cli_text::{CaptureFaultText, Status};
 use cli_walk::Stop;
 use savefile::Fault;
 use std::io::Write;
@@ -66,7 +66,7 @@ pub fn report_capture<E: Write>(paths: &[&str], number: usize, fault: Fault, err
     match paths.get(number) {
         Some(path) if paths.len() == 1 || fault == Fault::Device => report_at(fault, *path, err),
         _ => report_fault(
-            format_args!("Capture {number} {}", CaptureFaultText(fault)),
+            format_args!("Capture {number} {fault}"),
             fault_status(fault),
             err,
         ),

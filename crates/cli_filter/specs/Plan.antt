@@ -11,7 +11,8 @@ use Rattle.filtergen_facts.specs.declared.refusal.Refusal.TheVariants as uncompi
 use Rattle.filtergen.specs.declared.expression.ExpressionFault.{ExpressionFault}
 use Rattle.filtergen.specs.declared.expression.ExpressionFault.TheVariants.{Text, Tree}
 use Rattle.filtergen.specs.Expressions.{IsProgramOf, IsUncompiled}
-use Rattle.cli_filter_hints.specs.Faults.{expression_fault_text, compile_fault_text}
+use Rattle.filterlang.specs.Faults.{fault_text}
+use Rattle.filtergen_facts.specs.Faults.{refusal_text}
 use Rattle.cli_text.specs.Fields.{IsWord}
 use Rattle.cli_text.specs.Files.{Say, IsFileOf}
 use Rattle.cli_filter.specs.declared.plan.PlanFault.{PlanFault}
@@ -87,8 +88,8 @@ IsRefusedPlan Is output expression snap most text NoMemory = Unit {0}
 abbrev pub uncompiled_text : ℕ → ExpressionFault → List ℕ
 uncompiled_text n (Text misread.NoMemory) = codes "NoMemory"
 uncompiled_text n (Tree uncompiled.NoMemory) = codes "NoMemory"
-uncompiled_text n (Text fault) = codes "Expression " ++ decimal n ++ codes " " ++ expression_fault_text fault
-uncompiled_text n (Tree refusal) = codes "Compile " ++ decimal n ++ codes " " ++ compile_fault_text refusal
+uncompiled_text n (Text fault) = codes "Expression " ++ decimal n ++ codes " " ++ fault_text fault
+uncompiled_text n (Tree refusal) = codes "Compile " ++ decimal n ++ codes " " ++ refusal_text refusal
 
 -- how a fault is printed; that of a line begins with the name of the file
 abbrev pub plan_fault_text : List ℕ → PlanFault → List ℕ

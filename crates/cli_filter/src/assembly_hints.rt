@@ -2,7 +2,7 @@
 
 ghost use Rattle.std.specs.Prelude.{◌≡◌, false};
 
-use crate::listing_hints::{hint_invalid, place_of};
+use crate::listing_hints::{hint_invalid, insn_at_fault};
 use bpf_asm::{AssemblyFault, Cause};
 use bpfvm::Invalid;
 use cli_report::HintSink;
@@ -96,7 +96,7 @@ fn line_of_insn(text: &[u8], place: usize) -> usize {
 fn hint_program<E: HintSink>(text: &[u8], fault: Invalid, err: &mut E)
     ensures quiet { E.takes_hints err.old ≡ false → err.new ≡ err.old }
 {
-    if let Some(place) = place_of(fault, usize::MAX) {
+    if let Some(place) = insn_at_fault(fault, usize::MAX) {
         show_line(text, line_of_insn(text, place), err);
     }
     hint_invalid(fault, "program", err)

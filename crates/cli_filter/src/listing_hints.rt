@@ -52,14 +52,10 @@ fn hint_count<E: HintSink>(listing: &[u8], err: &mut E)
 }
 
 /// The place of the instruction that a program is refused for, of up to this many; none if their number is the fault.
-pub(crate) fn place_of(fault: Invalid, count: usize) -> Option<usize> {
+pub(crate) fn insn_at_fault(fault: Invalid, count: usize) -> Option<usize> {
     match fault {
-        Invalid::Empty | Invalid::TooMany => None,
-        Invalid::UnknownCode(place)
-        | Invalid::JumpOut(place)
-        | Invalid::Cell(place)
-        | Invalid::ZeroDivisor(place) => Some(place),
         Invalid::NoReturn => Some(count.saturating_sub(1)),
+        _ => fault.place(),
     }
 }
 
@@ -97,7 +93,7 @@ pub(crate) fn hint_invalid<E: HintSink>(fault: Invalid, text: &str, err: &mut E)
 fn hint_program<E: HintSink>(listing: &[u8], fault: Invalid, err: &mut E)
     ensures quiet { E.takes_hints err.old ≡ false → err.new ≡ err.old }
 {
-    if let Some(place) = place_of(fault, count_lines(listing).saturating_sub(1)) {
+    if let Some(place) = insn_at_fault(fault, count_lines(listing).saturating_sub(1)) {
         show_line(listing, place.saturating_add(FIRST_INSN), err);
     }
     hint_invalid(fault, "listing", err)

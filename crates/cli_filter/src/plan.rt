@@ -7,7 +7,6 @@ ghost use Rattle.cli_text.specs.Fields.{IsWord};
 ghost use Rattle.cli_filter.specs.declared.plan.PlanFault.TheVariants.{NoMemory};
 
 use bpfvm::Program;
-use cli_filter_hints::{CompileFaultText, ExpressionFaultText};
 use cli_text::fields::{first_line, split_once};
 use filtergen::{ExpressionFault, compile_text};
 use filtergen_facts::Refusal;
@@ -96,14 +95,8 @@ impl Display for UncompiledText {
         match self.1 {
             ExpressionFault::Text(filterlang::Fault::NoMemory)
             | ExpressionFault::Tree(Refusal::NoMemory) => f.write_str("NoMemory"),
-            ExpressionFault::Text(fault) => {
-                write!(f, "Expression {n} {}", ExpressionFaultText(fault))
-            }
-            ExpressionFault::Tree(refusal) => write!(
-                f,
-                "Compile {n} {}",
-                CompileFaultText(refusal)
-            ),
+            ExpressionFault::Text(fault) => write!(f, "Expression {n} {fault}"),
+            ExpressionFault::Tree(refusal) => write!(f, "Compile {n} {refusal}"),
         }
     }
 }

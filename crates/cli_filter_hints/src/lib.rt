@@ -1,4 +1,4 @@
-//! Faults of filter expressions as they are printed, and hints that help to fix them.
+//! Hints that help to fix the faults of filter expressions.
 #![tactic(auto)]
 
 mod addresses;
@@ -6,11 +6,8 @@ mod advice;
 mod display_filters;
 mod excerpt;
 pub mod expressions;
-mod fault_texts;
 mod nearest;
 mod other_words;
 pub mod quotes;
 mod spots;
 mod suggestions;
-
-pub use fault_texts::{CompileFaultText, ExpressionFaultText, OpenFaultText};

@@ -1,6 +1,7 @@
 -- What is printed of a replay, as text and as JSON Lines, and the lines that are reported of it.
 use Rattle.std.specs.Prelude.{ℕ, List, [], ◌++◌, codes}
 use Rattle.std.specs.Fmt.{decimal}
+use Rattle.savefile.specs.Faults.{fault_text}
 use Rattle.replay_types.specs.declared.report.InterfaceEnd.{InterfaceEnd}
 use Rattle.replay_types.specs.declared.report.InterfaceEnd.TheVariants as interface
 use Rattle.replay_types.specs.declared.report.InterfaceReport.{InterfaceReport}
@@ -9,7 +10,7 @@ use Rattle.replay_types.specs.declared.report.TaskEnd.{TaskEnd}
 use Rattle.replay_types.specs.declared.report.TaskEnd.TheVariants as task
 use Rattle.cli_json.specs.declared.form.LineForm.{LineForm}
 use Rattle.cli_json.specs.declared.form.LineForm.TheVariants.{Text, Json}
-use Rattle.cli_text.specs.Telling.{end_of_line, told_line, capture_fault_text}
+use Rattle.cli_text.specs.Telling.{end_of_line, told_line}
 use Rattle.cli_text.specs.Texts.{numbered}
 
 -- how the writing of a listener's packets ended
@@ -54,7 +55,7 @@ printed_replay form reports = numbered (interface_lines form) 0 reports
 abbrev pub interface_told : ℕ → InterfaceEnd → List ℕ
 interface_told i interface.Clean = []
 interface_told i (interface.Capture n fault) =
-    told_line (codes "Interface " ++ decimal i ++ codes " Capture " ++ decimal n ++ codes " " ++ capture_fault_text fault)
+    told_line (codes "Interface " ++ decimal i ++ codes " Capture " ++ decimal n ++ codes " " ++ fault_text fault)
 interface_told i interface.CountFull = told_line (codes "Interface " ++ decimal i ++ codes " CountFull")
 
 -- the lines that are reported of all interfaces

@@ -14,13 +14,14 @@ use Rattle.cli_text.specs.Sending.{Streams, Takes}
 use Rattle.cli_text.specs.Telling.{told_line}
 use Rattle.replay_types.specs.Refusals.{IsFirst, NoneStands}
 use Rattle.replay.specs.Replayed.{IsReplayed}
+use Rattle.replay_types.specs.Faults.{run_fault_text}
 use Rattle.replay_types.specs.declared.fault.RunFault.{RunFault}
 use Rattle.replay_types.specs.declared.fault.RunFault.TheVariants.{NoStart}
 use Rattle.replay_types.specs.declared.report.InterfaceReport.{InterfaceReport}
 use Rattle.replay_types.specs.declared.task.Interface.{Interface}
 use Rattle.cli_run.specs.declared.plan.RunLine.{RunLine}
 use Rattle.cli_filter.specs.declared.plan.PlanFault.{PlanFault}
-use Rattle.cli_run.specs.Faults.{listeners_fault_text, run_fault_text}
+use Rattle.cli_run.specs.Faults.{listeners_fault_text}
 use Rattle.cli_run.specs.Layout.{places_of, tasks_of, AreLaidOut, AreSinksOf}
 use Rattle.cli_run.specs.Listeners.{AreRunLines, IsCompiled, IsRefusedPlan}
 use Rattle.cli_run.specs.Replaying.{ReportsRun}

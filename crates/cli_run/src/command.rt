@@ -2,7 +2,6 @@
 
 ghost use Rattle.std.specs.Prelude.{◌≡◌, ◌<◌, All, IfOk, length};
 
-use crate::faults::RunFaultText;
 use crate::hints::{hint_refused, hint_run};
 use crate::paths::{LateFiles, capture_paths, check_paths, late_files};
 use crate::plan::{RunLine, fault_text, read_plan};
@@ -74,7 +73,7 @@ impl NamesFiles for HostRuntime {
         check_paths(self, alloc, words, plan.lines.as_slice(), err)?;
         match late_files(self, alloc, words, plan, watch) {
             Ok(late) => Ok(late),
-            Err(fault) => Err(refuse(RunFaultText(fault), err).status),
+            Err(fault) => Err(refuse(fault, err).status),
         }
     }
 }
@@ -109,7 +108,7 @@ fn replay_files<R: Threads + Wait + Sync + AllocGlobal, O: Write, E: HintSink>(
             Ok(outcome.status)
         }
         Err(fault) => {
-            let outcome = refuse(RunFaultText(fault), err);
+            let outcome = refuse(fault, err);
             hint_refused(alloc, listeners, words.inputs.len(), fault, err);
             Err(outcome.status)
         }

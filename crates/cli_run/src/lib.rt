@@ -2,7 +2,6 @@
 #![tactic(auto)]
 
 pub mod command;
-pub mod faults;
 mod hints;
 pub mod laws;
 pub mod layout;

@@ -12,7 +12,7 @@ use crate::object::put_listener_object;
 use cli_json::LineForm;
 use cli_text::report::{Outcome, fault_status, print_status, report_line, report_output};
 use cli_text::sending::send;
-use cli_text::{CaptureFaultText, Line, Status};
+use cli_text::{Line, Status};
 use replay_types::{InterfaceEnd, InterfaceReport, ListenerReport, TaskEnd};
 use std::fmt::{Display, Formatter};
 use std::io::Write;
@@ -172,10 +172,9 @@ fn report_end<E: Write>(i: usize, end: InterfaceEnd, err: &mut E) -> io::Result<
 {
     match end {
         InterfaceEnd::Clean => Ok(()),
-        InterfaceEnd::Capture(n, fault) => report_line(
-            format_args!("Interface {i} Capture {n} {}", CaptureFaultText(fault)),
-            err,
-        ),
+        InterfaceEnd::Capture(n, fault) => {
+            report_line(format_args!("Interface {i} Capture {n} {fault}"), err)
+        }
         InterfaceEnd::CountFull => report_line(format_args!("Interface {i} CountFull"), err),
     }
 }

@@ -11,7 +11,6 @@ ghost use Rattle.cli_run.specs.Bare.{HaveTheirListeners};
 ghost use Rattle.cli_run.specs.Layout.{AreSinksOf, places_of};
 ghost use Rattle.cli_run.specs.Replaying.{ReportsRun};
 
-use crate::faults::RunFaultText;
 use crate::layout::{interfaces_of, sinks_of};
 use crate::plan::{RunLine, fault_text, read_plan};
 use crate::report::report_run;
@@ -163,7 +162,7 @@ pub fn run_told<
     };
     match replay_lines(rt, alloc, plan, captures, make) {
         Ok(replayed) => end_run(replayed, out, err),
-        Err(fault) => (refuse(RunFaultText(fault), err), Vec::new(alloc)),
+        Err(fault) => (refuse(fault, err), Vec::new(alloc)),
     }
 }
 

@@ -12,9 +12,9 @@ use crate::part::PartEnd;
 use crate::plan::SplitLine;
 use crate::split::{SplitEnd, Stop};
 use cli_json::LineForm;
+use cli_text::Status;
 use cli_text::report::{fault_status, print_status, report_device, report_fault, report_output};
 use cli_text::sending::send;
-use cli_text::{CaptureFaultText, Status};
 use savefile::Fault;
 use std::io;
 use std::io::Write;
@@ -118,7 +118,7 @@ fn report_stop<E: Write>(end: Result<(), Stop>, err: &mut E) -> Status
     match end {
         Ok(()) => Status::Clean,
         Err(Stop::AtHeader(n, fault) | Stop::AtRecord(n, fault)) => report_fault(
-            format_args!("Capture {n} {}", CaptureFaultText(fault)),
+            format_args!("Capture {n} {fault}"),
             fault_status(fault),
             err,
         ),

@@ -6,7 +6,6 @@ pub mod Members
 pub mod Rejections
 pub mod Answers
 pub mod Printed
-pub mod Faults
 pub mod Playing
 pub mod Stepping
 pub mod Telling

@@ -11,6 +11,7 @@ use Rattle.tap_steps.specs.declared.playlist.PlacedPacket.{PlacedPacket}
 use Rattle.tap_steps.specs.declared.report.Report.{Report}
 use Rattle.tap_steps.specs.declared.report.Trace.{Trace}
 use Rattle.tap.specs.Answers.{Traces}
+use Rattle.tap.specs.Faults.{fault_text}
 use Rattle.tap.specs.Filters.{AreExpressionsOf}
 use Rattle.tap.specs.Headline.{Replays}
 use Rattle.tap.specs.Refusals.{IsFirst, NoneStands}
@@ -25,7 +26,6 @@ use Rattle.cli_steps.specs.declared.steps.Detail.{Detail}
 use Rattle.cli_steps.specs.declared.steps.Detail.TheVariants as detail
 use Rattle.cli_steps.specs.declared.steps.Replayed.{Replayed}
 use Rattle.cli_steps.specs.Answers.{cursors_of, answers_from, ArePrintedAnswers}
-use Rattle.cli_steps.specs.Faults.{fault_text}
 use Rattle.cli_steps.specs.Printed.{reports_in}
 
 -- How the printing of a text ended, as a status: the writer took the text, or it failed, and took a prefix of it.

@@ -7,7 +7,6 @@ ghost use Rattle.tap.specs.declared.fault.Fault.TheVariants as tap_fault;
 ghost use Rattle.cli_steps.specs.Playing.{is_explained, is_traced};
 ghost use Rattle.cli_steps.specs.Telling.{IsStillTold, TellsPlayed};
 
-use crate::faults::FaultText;
 use crate::hints::{hint_line, hint_replay};
 use crate::paths::{check_paths, read_captures};
 use crate::picture::draw;
@@ -98,7 +97,7 @@ fn refuse_memory<E: Write>(err: &mut E) -> (Outcome, Result<Replayed, tap::Fault
 {
     let outcome = Outcome {
         status: Status::Refused,
-        told: report_line(FaultText(tap::Fault::NoMemory), err),
+        told: report_line(tap::Fault::NoMemory, err),
     };
     (outcome, Err(tap::Fault::NoMemory))
 }

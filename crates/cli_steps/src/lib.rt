@@ -4,7 +4,6 @@
 pub mod answers;
 pub mod buffer;
 pub mod command;
-pub mod faults;
 mod hints;
 pub mod laws;
 pub mod listeners;

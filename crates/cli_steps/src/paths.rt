@@ -1,6 +1,5 @@
 //! The files of `bpftap steps`: which are compared, and the captures.
 
-use crate::faults::FaultText;
 use crate::hints::hint_too_many;
 use cli_args::steps::StepsWords;
 use cli_files::paths::{Opening, STANDARD_OUTPUT, refuse_shared_files};
@@ -28,7 +27,7 @@ pub fn check_paths<R: Files + AllocGlobal, E: HintSink>(
     err: &mut E,
 ) -> Result<(), Status> {
     if words.inputs.len() > MAX_CAPTURES {
-        let status = report_fault(FaultText(tap::Fault::TooMany), Status::Refused, err);
+        let status = report_fault(tap::Fault::TooMany, Status::Refused, err);
         hint_too_many(err);
         return Err(status);
     }

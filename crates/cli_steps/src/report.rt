@@ -6,12 +6,11 @@ ghost use Rattle.cli_text.specs.Status.{greater};
 ghost use Rattle.cli_text.specs.declared.status.Status.TheVariants.{Refused};
 ghost use Rattle.cli_text.specs.Telling.{told_line, print_status_of};
 ghost use Rattle.cli_text.specs.Texts.{numbered};
-ghost use Rattle.cli_steps.specs.Faults.{fault_text};
+ghost use Rattle.tap.specs.Faults.{fault_text};
 ghost use Rattle.cli_steps.specs.Playing.{record_fault_status, failed_output_line, record_fault_line};
 ghost use Rattle.cli_steps.specs.Printed.{message_line, message_in, messages_in, part_line, part_in, part_lines, batches_in, listener_line, listener_in, report_lines, reports_in, printed_reports};
 ghost use Rattle.cli_steps.specs.declared.objects.ReportPart.TheVariants.{Batch};
 
-use crate::faults::FaultText;
 use crate::objects::{ReportPart, put_listener_object, put_message_object, put_part_object};
 use cli_json::LineForm;
 use cli_text::report::{Outcome, print_status, report_line};
@@ -236,7 +235,7 @@ fn report_record_fault<E: Write>(
     ensures { Takes (E.contents err.old) (E.contents err.new) result (record_fault_line record_fault) }
 {
     match record_fault {
-        Some((n, fault)) => report_line(FaultText(Fault::Capture(n, fault)), err),
+        Some((n, fault)) => report_line(Fault::Capture(n, fault), err),
         None => Ok(()),
     }
 }
@@ -277,6 +276,6 @@ pub fn report_refusal<E: Write>(fault: Fault, err: &mut E) -> Outcome
 {
     Outcome {
         status: Status::Refused,
-        told: report_line(FaultText(fault), err),
+        told: report_line(fault, err),
     }
 }

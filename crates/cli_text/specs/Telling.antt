@@ -7,7 +7,6 @@ use Rattle.std.specs.declared.io.ErrorKind.{ErrorKind}
 use Rattle.std.specs.declared.io.ErrorKind.TheVariants.{BrokenPipe}
 use Rattle.savefile.specs.declared.fault.Fault.{Fault}
 use Rattle.savefile.specs.declared.fault.Fault.TheVariants.{TornRecord, BadFraction, TooLong, Device}
-use Rattle.savefile.specs.declared.fault.Fault.TheVariants as capture
 use Rattle.cli_text.specs.declared.fault.LineFault.{LineFault}
 use Rattle.cli_text.specs.declared.status.Status.{Status}
 use Rattle.cli_text.specs.declared.status.Status.TheVariants.{Clean, Refused, Damaged, Failed}
@@ -34,20 +33,6 @@ abbrev pub line_fault_text : LineFault → List ℕ
 line_fault_text (Listeners n) = codes "Listeners " ++ decimal n
 line_fault_text (Script n) = codes "Script " ++ decimal n
 line_fault_text NoMemory = codes "NoMemory"
-
--- how the fault of a capture reads: its name, a space and the place of its record
-abbrev pub capture_fault_text : Fault → List ℕ
-capture_fault_text capture.ShortHeader = codes "ShortHeader"
-capture_fault_text capture.NotSavefile = codes "NotSavefile"
-capture_fault_text capture.Version = codes "Version"
-capture_fault_text capture.LinkType = codes "LinkType"
-capture_fault_text (capture.TornRecord place) = codes "TornRecord " ++ decimal place
-capture_fault_text (capture.BadFraction place) = codes "BadFraction " ++ decimal place
-capture_fault_text (capture.TooLong place) = codes "TooLong " ++ decimal place
-capture_fault_text capture.NoMemory = codes "NoMemory"
-capture_fault_text capture.Device = codes "Device"
-capture_fault_text capture.Failed = codes "Failed"
-capture_fault_text capture.CountFull = codes "CountFull"
 
 -- whether it is that nobody reads any more
 abbrev pub is_unread : ErrorKind → Bool

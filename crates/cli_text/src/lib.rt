@@ -2,7 +2,6 @@
 //! the line of a fault on standard error, and the exit statuses.
 #![tactic(auto)]
 
-pub mod capture_fault;
 pub mod fault;
 pub mod fields;
 pub mod line;
@@ -12,7 +11,6 @@ pub mod snapshot;
 pub mod status;
 pub mod time;
 
-pub use capture_fault::CaptureFaultText;
 pub use fault::LineFault;
 pub use line::Line;
 pub use snapshot::{MAX_SNAP, effective_snaplen};

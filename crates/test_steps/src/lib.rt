@@ -1,13 +1,11 @@
-//! Tests of `tap`, `cli_steps` and `tap_picture` that the program does not show: what replays answer, the texts of faults, an output that
-//! sends nothing on, and the callers of the pages.
+//! Tests of `tap`, `cli_steps` and `tap_picture` that the program does not show: what replays answer, an output that sends nothing
+//! on, and the callers of the pages.
 #![tactic(auto)]
 
 #[cfg(test)]
 mod callers;
 #[cfg(test)]
 mod devices;
-#[cfg(test)]
-mod faults;
 #[cfg(test)]
 mod replays;
 #[cfg(test)]

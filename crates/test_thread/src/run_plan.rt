@@ -3,13 +3,11 @@
 use crate::same::same;
 use bpfvm::read_listing;
 use cli_json::LineForm;
-use cli_run::faults::RunFaultText;
 use cli_run::report::{report_run, report_run_in};
 use cli_run::run::run;
 use cli_text::Status;
 use handover::{Past, pair, settle};
-use listener::OpenFault;
-use replay::{InterfaceEnd, InterfaceReport, ListenerReport, RunFault, TaskEnd};
+use replay::{InterfaceEnd, InterfaceReport, ListenerReport, TaskEnd};
 use savefile::Counted;
 use std::io::{Read, Write};
 use std::process::Abort;
@@ -175,20 +173,4 @@ fn an_end_that_is_not_reached_is_an_object(rt: HostRuntime) {
     );
     let fault = b"bpftap: Interface 0 CountFull\n";
     same(&rt, err.as_slice(), fault.as_slice());
-}
-
-/// A refusal prints its own text.
-fn is_its_own(rt: &(impl Abort + AllocGlobal), fault: RunFault) {
-    let told = format!(in rt.alloc(); "{}", RunFaultText(fault)).expect(rt, "memory");
-    let own = format!(in rt.alloc(); "{fault}").expect(rt, "memory");
-    same(rt, told.as_str(), own.as_str());
-}
-
-#[test]
-fn refusals_are_reported_by_their_own_texts(rt: HostRuntime) {
-    is_its_own(&rt, RunFault::TooMany);
-    is_its_own(&rt, RunFault::Open(1, 23, OpenFault::BadSnap));
-    is_its_own(&rt, RunFault::Open(4, 0, OpenFault::BadCapacity));
-    is_its_own(&rt, RunFault::Open(0, 5, OpenFault::NoMemory));
-    is_its_own(&rt, RunFault::NoStart);
 }

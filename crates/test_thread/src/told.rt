@@ -1,7 +1,6 @@
 //! `Outcome::told` of `run_told` and of `refuse` is an error if standard error fails, and only then.
 
 use crate::same::same;
-use cli_run::faults::RunFaultText;
 use cli_run::run::{refuse, run_told};
 use replay_types::RunFault;
 use savefile::Counted;
@@ -94,7 +93,7 @@ fn a_run_reports_an_error_only_if_standard_error_fails(rt: HostRuntime) {
 /// Whether `refuse` reported all on a standard error with this much room.
 fn refuses(rt: &(impl Abort + AllocGlobal), fault: RunFault, reported: &str, room: usize) {
     let mut err = of_room(rt, room);
-    let outcome = refuse(RunFaultText(fault), &mut err);
+    let outcome = refuse(fault, &mut err);
     same(rt, outcome.told.is_ok(), room == reported.len());
     same(rt, err.taken.as_slice(), front(rt, reported, room));
 }
