@@ -94,8 +94,9 @@ def faults_end_a_comparison(scene):
     scene.expect("compare ip arp one.pcap none.pcap", 3, fault_lines("Device none.pcap"), line + counts)
     scene.expect("compare ip arp text.pcap one.pcap", 1, fault_lines("Capture 0 NotSavefile"))
     scene.expect("compare ip arp one.pcap", 3, fault_lines("Device standard output"), streams=">/dev/full")
-    scene.refuse("compare 'port http' arp in.pcap", 1, "BadWord 5")
-    scene.refuse("compare arp 'tcp port https' in.pcap", 1, "BadWord 9")
+    scene.expect("compare 'port http' arp in.pcap", 1, fault_lines("BadWord 5") + "  EXPR1:\n")
+    scene.expect("compare arp 'tcp port https' in.pcap", 1, fault_lines("BadWord 9") + "  EXPR2:\n")
+    scene.expect("compare -f ip.bpf 'port http' in.pcap", 1, fault_lines("BadWord 5"))
     for words, status, fault in [
         ("ip arp torn.pcap", 4, None), ("ip ip torn.pcap", 2, "TornRecord 1"), ("ip arp in.pcap none.pcap", 4, None),
         ("ip ip in.pcap none.pcap", 3, "Device none.pcap"), ("ip ip in.pcap one.pcap", 0, None), ("ip ip text.pcap", 1, "NotSavefile"),

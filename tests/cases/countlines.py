@@ -180,7 +180,7 @@ def a_fault_is_an_object(scene):
 def a_failed_output_is_an_object(scene):
     """Standard output takes each number of bytes in turn, and then fails: it has a prefix, and that is the fault."""
     scene.put({"lines.txt": "0 out-0\n0 out-1 tcp\n", "listeners.txt": "0 0 0 1048576 2 out-0\n", "in.pcap": HEADER + TCP_RECORD})
-    fault = {"fault": "Device", "numbers": [], "file": "standard output"}
+    fault = {"fault": "Device", "numbers": [], "stream": "standard output"}
     for words in ("split --json lines.txt in.pcap", "run --json listeners.txt in.pcap"):
         whole = scene.run(words).out
         scene.expect(words, 3, json.dumps(fault, separators=(",", ":")) + "\n", streams="> /dev/full")

@@ -189,11 +189,52 @@ def a_fault_is_an_object(scene):
         scene.check(f"hints of {words}", scene.run(f"--hints {words}").err, seen.err)
 
 
+# Names of files that a line shows with escapes, and JSON with others.
+NAMES = ["a\tb.pcap", "a\nb.pcap", 'a"b.pcap', "a\\b.pcap", "é日.pcap", "\x1b[1m.pcap", "\x7f.pcap", "standard output", "x" * 255]
+
+
+@case
+def a_file_is_named_by_its_own_text(scene):
+    """The key `file` is the path, whatever the fault and whatever bytes the path has: of a file that is torn, missing, or written by the
+    same call, by each command that names it."""
+    scene.start({})
+    for name in NAMES:
+        scene.put({name: TORN, "lines.txt": "0 out.pcap\n", "steps.txt": "0 1048576\n", "script.txt": "arrive\n",
+                   "run.txt": "0 0 0 1048576 2 out.pcap\n"})
+        torn = {"fault": "TornRecord", "numbers": [1], "file": name}
+        missing = {"fault": "Device", "numbers": [], "file": "none/" + name}
+        first = {"fault": "Capture TornRecord", "numbers": [0, 1], "file": name}
+        for words, status, fault in (
+            (["explain", "--json", "-e", "ip", name], 2, torn),
+            (["cut", "--json", "-s", "0", name, "out.pcap"], 2, torn),
+            (["split", "--json", "lines.txt", name], 2, first),
+            (["steps", "--json", "steps.txt", "script.txt", name], 2, first),
+            (["run", "--json", "run.txt", name], 2, {"fault": "Interface Capture TornRecord", "numbers": [0, 0, 1], "file": name}),
+            (["cut", "--json", "-s", "0", name, name], 1, {"fault": "SameFile", "numbers": [], "file": name}),
+            (["explain", "--json", "-e", "ip", "none/" + name], 3, missing),
+            (["info", "--json", "none/" + name], 3, missing),
+            (["steps", "--json", "steps.txt", "script.txt", "none/" + name], 3, missing),
+            (["check", "--json", "-f", "none/" + name], 3, missing),
+        ):
+            seen = scene.run(words)
+            scene.check(f"fault of {words}", (seen.err.count(b"\n"), json.loads(seen.err), seen.status), (1, fault, status))
+
+
+@case
+def a_stream_is_no_file(scene):
+    """Standard output that fails has a key of its own: no file of that name prints the same object."""
+    scene.start({})
+    stream = scene.run("check --json ip", streams=">/dev/full")
+    scene.check("a stream", (json.loads(stream.err), stream.status), ({"fault": "Device", "numbers": [], "stream": "standard output"}, 3))
+    named = scene.run(["explain", "--json", "-e", "ip", "standard output"])
+    scene.check("a file", (json.loads(named.err), named.status), ({"fault": "Device", "numbers": [], "file": "standard output"}, 3))
+
+
 @case
 def a_failed_output_is_an_object(scene):
     """What standard output does not take is reported so too."""
     scene.start(FILES)
-    fault = '{"fault":"Device","numbers":[],"file":"standard output"}\n'
+    fault = '{"fault":"Device","numbers":[],"stream":"standard output"}\n'
     scene.expect("explain --json -e ip whole.pcap", 3, fault, streams=">/dev/full")
     scene.expect("check --json ip", 3, fault, streams=">/dev/full")
     for room in (0, 1, 100, 120):

@@ -222,8 +222,8 @@ def what_is_not_decided_is_status_5(scene):
     scene.check("no packet", scene.files(), before)
     scene.expect("compare ip arp", 3, fault_lines("Device standard output"), streams=">/dev/full")
     scene.expect("compare -f ip.bpf ip", 3, fault_lines("Device standard output"), streams=">/dev/full")
-    scene.refuse("compare 'port http' arp", 1, "BadWord 5")
-    scene.refuse("compare arp 'port http'", 1, "BadWord 5")
+    scene.expect("compare 'port http' arp", 1, fault_lines("BadWord 5") + "  EXPR1:\n")
+    scene.expect("compare arp 'port http'", 1, fault_lines("BadWord 5") + "  EXPR2:\n")
     scene.refuse("compare -f none.bpf arp", 3, "Device none.bpf")
 
 

@@ -214,6 +214,6 @@ def random_scripts_have_the_same_facts(scene):
 def a_full_output_is_a_fault(scene):
     """Standard output fails, once with `-v` and once without."""
     scene.start({"l.txt": "32 64\n", "s.txt": "arrive\n", "whole.pcap": WHOLE})
-    fault = '{"fault":"Device","numbers":[],"file":"standard output"}\n'
+    fault = '{"fault":"Device","numbers":[],"stream":"standard output"}\n'
     for options in ("", "-v "):
         scene.expect(f"steps --json {options}l.txt s.txt whole.pcap", 3, fault, streams="> /dev/full")

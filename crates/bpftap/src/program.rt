@@ -8,15 +8,14 @@ use cli_args::report::{print_page, report_words_fault};
 use cli_compare::command::compare_command;
 use cli_cut::command::{check_command, cut_command};
 use cli_explain::command::explain_command;
-use cli_faults::FaultStream;
-use cli_faults::file::Inputs;
 use cli_files::late::reserve_std_fd;
 use cli_filter_hints::quotes::{hint_listing_word, hint_unquoted};
 use cli_info::command::info_command;
-use cli_report::HintSink;
+use cli_json::LineForm;
 use cli_report::commands::{
     hint_command, hint_dash_output, hint_failed_words, hint_missing, hint_option,
 };
+use cli_report::{ErrorStream, HintSink};
 use cli_run::command::{NamesFiles, run_command};
 use cli_split::command::split_command;
 use cli_steps::command::steps_command;
@@ -35,14 +34,13 @@ pub fn run<
     R: Files + AllocGlobal + NamesFiles + Screen + Threads + Wait + Sync,
     S: AsStr,
     O: Write,
-    E: HintSink,
->(rt: &R, words: &[S], out: &mut O, err: &mut E) -> Status {
+    W: Write,
+>(rt: &R, words: &[S], out: &mut O, err: &mut ErrorStream<W>) -> Status {
     let _input = reserve_std_fd(rt);
     let _output = reserve_std_fd(rt);
     let _error = reserve_std_fd(rt);
     let status = dispatch(rt, words, out, err);
-    let takes_hints = !words.iter().any(|word| word.as_str() == "--json");
-    if status == Status::Failed && takes_hints {
+    if status == Status::Failed {
         hint_failed_words(words, err);
         hint_listing_word(rt.alloc(), words, err);
     }
@@ -54,49 +52,42 @@ fn dispatch<
     R: Files + AllocGlobal + NamesFiles + Screen + Threads + Wait + Sync,
     S: AsStr,
     O: Write,
-    E: HintSink,
->(rt: &R, words: &[S], out: &mut O, err: &mut E) -> Status {
+    W: Write,
+>(rt: &R, words: &[S], out: &mut O, err: &mut ErrorStream<W>) -> Status {
     match read_words(rt.alloc(), words) {
         Ok(Request::Check(words)) => {
-            let inputs = Inputs::Captures(&[]);
-            let mut err = FaultStream::new(rt.alloc(), err, words.json, inputs);
-            check_command(rt, &words, out, &mut err)
+            err.set_form(LineForm::asked(words.json));
+            check_command(rt, &words, out, err)
         }
         Ok(Request::Explain(asked)) => {
-            let inputs = Inputs::Captures(asked.inputs.as_slice());
-            let mut err = FaultStream::new(rt.alloc(), err, asked.json, inputs);
-            let status = explain_command(rt, &asked, out, &mut err);
-            hint_several(rt.alloc(), words, asked.inputs.as_slice(), status, &mut err)
+            err.set_form(LineForm::asked(asked.json));
+            let status = explain_command(rt, &asked, out, err);
+            hint_several(rt.alloc(), words, asked.inputs.as_slice(), status, err)
         }
         Ok(Request::Compare(words)) => compare_command(rt, &words, out, err),
         Ok(Request::Cut(asked)) => {
-            let inputs = Inputs::Captures(asked.inputs.as_slice());
-            let mut err = FaultStream::new(rt.alloc(), err, asked.json, inputs);
-            let status = cut_command(rt, &asked, &mut err);
+            err.set_form(LineForm::asked(asked.json));
+            let status = cut_command(rt, &asked, err);
             if status == Status::Clean || status == Status::Damaged {
-                hint_dash_output(asked.output, &mut err);
+                hint_dash_output(asked.output, err);
             }
-            hint_several(rt.alloc(), words, asked.inputs.as_slice(), status, &mut err)
+            hint_several(rt.alloc(), words, asked.inputs.as_slice(), status, err)
         }
         Ok(Request::Info(words)) => {
-            let inputs = Inputs::Captures(words.inputs.as_slice());
-            let mut err = FaultStream::new(rt.alloc(), err, words.json, inputs);
-            info_command(rt, &words, out, &mut err)
+            err.set_form(LineForm::asked(words.json));
+            info_command(rt, &words, out, err)
         }
         Ok(Request::Steps(words)) => {
-            let inputs = Inputs::Captures(words.inputs.as_slice());
-            let mut err = FaultStream::new(rt.alloc(), err, words.json, inputs);
-            steps_command(rt, &words, out, &mut err)
+            err.set_form(LineForm::asked(words.json));
+            steps_command(rt, &words, out, err)
         }
         Ok(Request::Run(words)) => {
-            let inputs = Inputs::Interfaces(words.inputs.as_slice());
-            let mut err = FaultStream::new(rt.alloc(), err, words.json, inputs);
-            run_command(rt, &words, out, &mut err)
+            err.set_form(LineForm::asked(words.json));
+            run_command(rt, &words, out, err)
         }
         Ok(Request::Split(words)) => {
-            let inputs = Inputs::Captures(words.inputs.as_slice());
-            let mut err = FaultStream::new(rt.alloc(), err, words.json, inputs);
-            split_command(rt, &words, out, &mut err)
+            err.set_form(LineForm::asked(words.json));
+            split_command(rt, &words, out, err)
         }
         Ok(Request::Topic(page)) => print_page(page, out, err),
         Err(error) => report_usage(rt.alloc(), words, error, out, err),

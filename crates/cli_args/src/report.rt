@@ -3,8 +3,9 @@
 use clap::Error;
 use clap::error::ErrorKind;
 use cli_text::Status;
-use cli_text::report::{report_fault, report_unwritten};
+use cli_text::report::{print_status, report_fault, report_output};
 use savefile::Fault;
+use std::io;
 use std::io::Write;
 
 /// Help goes to `out` with status 0, what is wrong with the words to `err` with status 1.
@@ -15,17 +16,17 @@ pub fn report_words_fault<O: Write, E: Write>(error: &Error, out: &mut O, err: &
         let _ = write!(err, "{error}");
         Status::Refused
     } else {
-        match write!(out, "{error}") {
-            Ok(()) => Status::Clean,
-            Err(error) => report_unwritten(&error, err),
-        }
+        report_printed(write!(out, "{error}"), err)
     }
+}
+
+/// Reports that standard output failed, if it did, and returns the exit status.
+fn report_printed<E: Write>(printed: io::Result<()>, err: &mut E) -> Status {
+    let _ = report_output(&printed, err);
+    print_status(&printed)
 }
 
 /// Prints a page of help.
 pub fn print_page<O: Write, E: Write>(page: &str, out: &mut O, err: &mut E) -> Status {
-    match write!(out, "{page}") {
-        Ok(()) => Status::Clean,
-        Err(error) => report_unwritten(&error, err),
-    }
+    report_printed(write!(out, "{page}"), err)
 }

@@ -12,7 +12,7 @@ use cli_files::reading::report_io;
 use cli_report::failures::{hint_failure, hint_output};
 use cli_report::{FailureProbe, HintSink};
 use cli_text::Status;
-use cli_text::report::report_device;
+use fault_report::reporting::report_device;
 use filter_same::{Sameness, Witness};
 use std::alloc::Global;
 use std::fs::Files;

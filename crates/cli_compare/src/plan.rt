@@ -8,11 +8,11 @@ use cli_args::compare::CompareWords;
 use cli_explain::AskedFilter;
 use cli_explain::filter::{of_expression, of_program};
 use cli_explain::plan::read_expression;
-use cli_filter::{hint_expression, program_of_file};
+use cli_filter::{expression_report, hint_expression, program_of_file};
 use cli_report::HintSink;
-use cli_report::stream::give_hint;
+use cli_report::stream::print_below;
 use cli_text::Status;
-use cli_text::report::report_fault;
+use fault_report::reporting::report_fault;
 use std::fs::Files;
 
 /// The filter of one of two expressions; or reports why there is none, with a hint that names the expression.
@@ -28,8 +28,8 @@ fn read_one_of_two<R: AllocGlobal, E: HintSink>(
     match of_expression(rt.alloc(), expr, snap) {
         Ok(filter) => Ok(filter),
         Err(fault) => {
-            let status = report_fault(fault, Status::Refused, err);
-            give_hint(format_args!("{name}:"), err);
+            let status = report_fault(&expression_report(fault), Status::Refused, err);
+            let _ = print_below(format_args!("{name}:"), err);
             hint_expression(rt.alloc(), expr, fault, err);
             Err(status)
         }

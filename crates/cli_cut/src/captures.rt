@@ -17,13 +17,13 @@ use cli_split::command::split_flushed;
 use cli_split::hints::hint_split;
 use cli_split::part::{Part, PartEnd};
 use cli_split::plan::SplitLine;
-use cli_split::report::{report_faults, was_begun};
+use cli_split::report::{SplitFiles, report_faults, was_begun};
 use cli_split::split::SplitEnd;
 use cli_text::Status;
-use cli_text::report::report_fault;
 use cli_watch::captures::{WatchedInput, watched_inputs};
 use cli_watch::{Screen, Watch};
-use savefile::{Counted, Fault, Source};
+use fault_report::reporting::report_memory;
+use savefile::{Counted, Source};
 use std::alloc::Global;
 use std::fs::Files;
 use std::io;
@@ -106,8 +106,12 @@ fn report_captures<R: Files + Screen, E: HintSink>(
         output: words.output,
         expression: words.expr.unwrap_or(""),
     }];
-    let status = report_faults(&lines, end, err);
-    hint_split(words.inputs.as_slice(), &lines, end, err);
+    let files = SplitFiles {
+        captures: words.inputs.as_slice(),
+        lines: &lines,
+    };
+    let status = report_faults(files, end, err);
+    hint_split(files.captures, &lines, end, err);
     status
 }
 
@@ -124,10 +128,10 @@ pub(crate) fn cut_several<'r, R: Files + AllocGlobal + Screen, E: HintSink>(
     let sink = late_output(rt, words.output, err)?;
     let paths = words.inputs.as_slice();
     let Ok(captures) = watched_inputs(rt, rt.alloc(), paths, watch) else {
-        return Err(report_fault(Fault::NoMemory, Status::Refused, err));
+        return Err(report_memory(err));
     };
     let Ok(end) = cut_captures(rt.alloc(), words, program, captures, sink) else {
-        return Err(report_fault(Fault::NoMemory, Status::Refused, err));
+        return Err(report_memory(err));
     };
     watch.erase();
     let status = report_captures(rt, words, &end, err);

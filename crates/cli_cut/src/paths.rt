@@ -8,10 +8,9 @@ use cli_files::reading::report_io;
 use cli_report::probe::ProbedOutput;
 use cli_report::{FailureProbe, HintSink};
 use cli_text::Status;
-use cli_text::report::report_fault;
 use cli_watch::captures::{WatchedFile, open_watched};
 use cli_watch::{Screen, Watch};
-use savefile::Fault;
+use fault_report::reporting::report_memory;
 use std::alloc::{AllocError, Global};
 use std::fs;
 use std::fs::Files;
@@ -53,7 +52,7 @@ pub(crate) fn check_paths<R: Files + AllocGlobal, E: HintSink>(
     err: &mut E,
 ) -> Result<(), Status> {
     let Ok(read) = read_paths(rt.alloc(), words) else {
-        return Err(report_fault(Fault::NoMemory, Status::Refused, err));
+        return Err(report_memory(err));
     };
     refuse_shared_files(
         rt,

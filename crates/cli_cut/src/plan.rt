@@ -4,10 +4,9 @@ use crate::paths::check_listing;
 use bpfvm::Program;
 use cli_args::check::CheckWords;
 use cli_args::cut::CutWords;
-use cli_filter::{FilterFault, program_of_expression, program_of_file};
+use cli_filter::{FilterFault, program_of_expression, program_of_file, report_filter};
 use cli_report::HintSink;
 use cli_text::Status;
-use cli_text::report::report_fault;
 use std::fs::Files;
 
 /// The filter of a cut. It reads a listing's file, unless there is an expression too.
@@ -18,7 +17,7 @@ pub(crate) fn read_filter<R: Files + AllocGlobal, E: HintSink>(
 ) -> Result<Program, Status> {
     match words.listing {
         Some(path) if words.expr.is_none() => program_of_file(rt, path, err),
-        Some(_) => Err(report_fault(FilterFault::Twice, Status::Refused, err)),
+        Some(_) => report_filter(Err(FilterFault::Twice), err),
         None => program_of_expression(rt, words.expr, words.snap, err),
     }
 }

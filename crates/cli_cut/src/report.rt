@@ -6,31 +6,40 @@ ghost use Rattle.cli_text.specs.Status.{code};
 ghost use Rattle.cli_cut.specs.Telling.{count_told, is_counted, print_status, status_of, tally_json, tally_line, tally_text};
 
 use crate::print::PrintFault;
+use cli_filter::expression_report;
 use cli_json::LineForm;
-use cli_text::report::{fault_status, report_at, report_fault, report_unwritten};
+use cli_text::report::fault_status;
 use cli_text::sending::send;
 use cli_text::{Line, Status};
+use fault_report::captures::output_fault;
+use fault_report::reporting::{report_capture, report_fault, report_memory, report_unwritten};
+use fault_report::{FaultSink, TextSink};
 use pcap_cut::cut::{CutEnd, End, Tally};
 use savefile::Fault;
 use std::io;
 use std::io::Write;
 
 /// Reports how a cut from one path to another ended, and returns the exit status.
-pub fn report_cut<R, W, E: Write>(end: &CutEnd<R, W>, from: &str, to: &str, err: &mut E) -> Status
+pub fn report_cut<R, W, E: FaultSink>(
+    end: &CutEnd<R, W>,
+    from: &str,
+    to: &str,
+    err: &mut E,
+) -> Status
     ensures { result ≡ status_of end.now.end }
 {
     match end.end {
         End::Clean => Status::Clean,
-        End::Input(fault) => report_at(fault, from, err),
-        End::Output(fault) => report_at(fault, to, err),
+        End::Input(fault) => report_capture(fault, from, err),
+        End::Output(fault) => report_fault(&output_fault(fault, to), fault_status(fault), err),
     }
 }
 
-/// [`report_cut`], with the exit status as a number.
+/// [`report_cut`] as text, with the exit status as a number.
 pub fn tell<R, W, E: Write>(end: &CutEnd<R, W>, from: &str, to: &str, err: &mut E) -> u8
     ensures { result ≡ code (status_of end.now.end) }
 {
-    report_cut(end, from, to, err).code()
+    report_cut(end, from, to, &mut TextSink(err)).code()
 }
 
 /// Whether what OUT has is known by packets: the capture was read to its end or to a torn or bad record, and all was written.
@@ -102,12 +111,15 @@ pub fn report_count<R, W, E: Write>(
 }
 
 /// Reports why a program was not printed, if it was not, and returns the exit status.
-pub fn report_print<E: Write>(printed: &Result<(), PrintFault>, err: &mut E) -> Status
+pub fn report_print<E: FaultSink>(printed: &Result<(), PrintFault>, err: &mut E) -> Status
     ensures { result ≡ print_status printed.now }
 {
     match printed {
         Ok(()) => Status::Clean,
         Err(PrintFault::Output(error)) => report_unwritten(error, err),
-        Err(fault) => report_fault(fault, Status::Refused, err),
+        Err(PrintFault::NoMemory) => report_memory(err),
+        Err(PrintFault::Expression(fault)) => {
+            report_fault(&expression_report(*fault), Status::Refused, err)
+        }
     }
 }

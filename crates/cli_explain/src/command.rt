@@ -16,12 +16,11 @@ use cli_report::HintSink;
 use cli_report::failures::hint_output;
 use cli_report::probe::ProbedInput;
 use cli_text::Status;
-use cli_text::report::report_fault;
 use cli_watch::captures::watched_inputs;
 use cli_watch::hints::{hint_unseen, is_asked};
 use cli_watch::output::WatchedOutput;
 use cli_watch::{Screen, Watch};
-use savefile::Fault;
+use fault_report::reporting::report_memory;
 use std::alloc::Global;
 use std::fs::Files;
 use std::io::{Read, Write};
@@ -179,7 +178,7 @@ fn explain_job<'r, R: Files + Screen, O: Write, E: HintSink>(
 ) -> Status {
     let paths = job.words.inputs.as_slice();
     let Ok(captures) = watched_inputs(rt, job.alloc, paths, &job.watch) else {
-        return report_fault(Fault::NoMemory, Status::Refused, err);
+        return report_memory(err);
     };
     if job.words.quiet {
         ask_quietly(job, captures, err)

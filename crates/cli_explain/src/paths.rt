@@ -4,8 +4,7 @@ use cli_args::explain::ExplainWords;
 use cli_files::paths::{Opening, STANDARD_OUTPUT, refuse_shared_files};
 use cli_report::HintSink;
 use cli_text::Status;
-use cli_text::report::report_fault;
-use savefile::Fault;
+use fault_report::reporting::report_memory;
 use std::alloc::{AllocError, Global};
 use std::fs::Files;
 
@@ -26,7 +25,7 @@ pub(crate) fn check_paths<R: Files + AllocGlobal, E: HintSink>(
     err: &mut E,
 ) -> Result<(), Status> {
     let Ok(read) = read_paths(rt.alloc(), words) else {
-        return Err(report_fault(Fault::NoMemory, Status::Refused, err));
+        return Err(report_memory(err));
     };
     let output = Some(STANDARD_OUTPUT);
     refuse_shared_files(rt, Opening::First, output, read.as_slice(), &[], err)

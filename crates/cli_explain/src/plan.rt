@@ -6,10 +6,10 @@ ghost use Rattle.cli_explain.specs.Filter.{IsOfExpression};
 use crate::AskedFilter;
 use crate::filter::{of_expression, of_program};
 use cli_args::explain::ExplainWords;
-use cli_filter::{FilterFault, hint_expression, program_of_file};
+use cli_filter::{FilterFault, expression_report, filter_report, hint_expression, program_of_file};
 use cli_report::HintSink;
 use cli_text::Status;
-use cli_text::report::report_fault;
+use fault_report::reporting::report_fault;
 use std::fs::Files;
 
 /// The filter of an expression; or reports why there is none.
@@ -24,11 +24,17 @@ pub fn read_expression<R: AllocGlobal, E: HintSink>(
     match of_expression(rt.alloc(), expr, snap) {
         Ok(filter) => Ok(filter),
         Err(fault) => {
-            let status = report_fault(fault, Status::Refused, err);
+            let status = report_fault(&expression_report(fault), Status::Refused, err);
             hint_expression(rt.alloc(), expr, fault, err);
             Err(status)
         }
     }
+}
+
+/// Reports that both an expression and a listing are given.
+fn refuse_two<E: HintSink>(err: &mut E) -> Result<AskedFilter, Status> {
+    let fault = filter_report(FilterFault::Twice);
+    Err(report_fault(&fault, Status::Refused, err))
 }
 
 /// The filter of an expression or of a listing's file; without either that of the empty expression.
@@ -38,7 +44,7 @@ pub(crate) fn read_filter<R: Files + AllocGlobal, E: HintSink>(
     err: &mut E,
 ) -> Result<AskedFilter, Status> {
     match (words.expr, words.listing) {
-        (Some(_), Some(_)) => Err(report_fault(FilterFault::Twice, Status::Refused, err)),
+        (Some(_), Some(_)) => refuse_two(err),
         (None, Some(path)) => Ok(of_program(program_of_file(rt, path, err)?)),
         (expr, None) => read_expression(rt, expr.unwrap_or(""), words.snap, err),
     }

@@ -2,8 +2,8 @@
 
 use cli_report::{FailureProbe, HintSink};
 use cli_text::Status;
-use cli_text::report::report_fault;
-use savefile::{Counted, Fault};
+use fault_report::reporting::report_memory;
+use savefile::Counted;
 use std::alloc::Global;
 use std::io;
 use std::io::{BufWriter, Write};
@@ -28,6 +28,6 @@ pub fn output_buffer<W: Write + Drop, E: HintSink>(
 ) -> Result<BufWriter<FailureProbe<W>>, Status> {
     match BufWriter::with_capacity(alloc, OUTPUT_BUFFER, FailureProbe::new(out)) {
         Ok(out) => Ok(out),
-        Err(_) => Err(report_fault(Fault::NoMemory, Status::Refused, err)),
+        Err(_) => Err(report_memory(err)),
     }
 }

@@ -5,8 +5,8 @@ use crate::reading::report_io;
 use cli_report::HintSink;
 use cli_report::stream::give_hint;
 use cli_text::Status;
-use cli_text::report::{EscapedPath, report_fault};
-use savefile::Fault;
+use fault_report::reporting::{report_fault, report_memory};
+use fault_report::{Report, Subject};
 use std::alloc::{AllocError, AllocFailed, Global};
 use std::collections::{BTreeMap, BTreeSet};
 use std::fs::{Files, Metadata};
@@ -309,11 +309,8 @@ impl<'a> Taken<'a> {
 
 /// Reports that a path is the file of something else, and why that is refused.
 fn report_same<E: HintSink>(path: &str, objection: &str, err: &mut E) -> Status {
-    let status = report_fault(
-        format_args!("SameFile {}", EscapedPath(path)),
-        Status::Refused,
-        err,
-    );
+    let fault = Report::named("SameFile").about(Subject::File(path));
+    let status = report_fault(&fault, Status::Refused, err);
     give_hint(objection, err);
     status
 }
@@ -328,7 +325,7 @@ fn report_path<E: HintSink>(fault: &PathFault<'_>, err: &mut E) -> Status {
             err,
         ),
         PathFault::Untold(path, error) => report_io(error, path, err),
-        PathFault::NoMemory => report_fault(Fault::NoMemory, Status::Refused, err),
+        PathFault::NoMemory => report_memory(err),
     }
 }
 

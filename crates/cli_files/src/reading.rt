@@ -5,8 +5,9 @@ use cli_report::HintSink;
 use cli_report::files::hint_reason;
 use cli_report::stream::give_hint;
 use cli_text::Status;
-use cli_text::report::{EscapedPath, report_device, report_fault};
-use savefile::Fault;
+use cli_text::report::EscapedPath;
+use fault_report::Report;
+use fault_report::reporting::{report_device, report_fault, report_memory};
 use std::fs::Files;
 use std::io::{ErrorKind, Read};
 use std::{fs, io};
@@ -23,7 +24,7 @@ fn is_refused_memory(error: &io::Error) -> bool {
 /// Reports that a file could not be opened or read, or that memory was refused.
 pub fn report_io<E: HintSink>(error: &io::Error, path: &str, err: &mut E) -> Status {
     if is_refused_memory(error) {
-        report_fault(Fault::NoMemory, Status::Refused, err)
+        report_memory(err)
     } else {
         let status = report_device(path, err);
         hint_reason(error, err);
@@ -61,7 +62,7 @@ pub fn read_text<R: Files + AllocGlobal, E: HintSink>(
     match read_bounded(rt, path) {
         Ok(text) if text.len() <= MAX_TEXT => Ok(text),
         Ok(_) => {
-            let status = report_fault("TextTooLong", Status::Refused, err);
+            let status = report_fault(&Report::named("TextTooLong"), Status::Refused, err);
             give_hint(
                 format_args!("{} has more than {MAX_TEXT} bytes", EscapedPath(path)),
                 err,

@@ -13,4 +13,4 @@ mod report;
 
 pub use filters::{filter_or_report, hint_expression, program_of_expression, program_of_file};
 pub use program::{FilterFault, filter};
-pub use report::report_filter;
+pub use report::{expression_report, filter_report, report_filter};

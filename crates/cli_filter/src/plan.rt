@@ -6,8 +6,10 @@ ghost use Rattle.cli_filter.specs.Plan.{AreCut, AreLines, AreNoLines, AreLastFie
 ghost use Rattle.cli_text.specs.Fields.{IsWord};
 ghost use Rattle.cli_filter.specs.declared.plan.PlanFault.TheVariants.{NoMemory};
 
+use crate::report::expression_report;
 use bpfvm::Program;
 use cli_text::fields::{first_line, split_once};
+use fault_report::{Report, Word};
 use filtergen::{ExpressionFault, compile_text};
 use filtergen_facts::Refusal;
 use std::alloc::{AllocError, AllocFailed, Global};
@@ -112,6 +114,29 @@ impl Display for PlanFaultText {
             PlanFault::NoMemory => f.write_str("NoMemory"),
         }
     }
+}
+
+impl PlanFaultText {
+    /// The same fault as a value.
+    pub fn report(self) -> Report<'static> {
+        match self.fault {
+            PlanFault::Line(line) => Report::placed(self.file, Word::count(line)),
+            PlanFault::Expression(n, fault) => uncompiled_report(n, fault),
+            PlanFault::TooMany => Report::named("TooMany"),
+            PlanFault::NoMemory => Report::named("NoMemory"),
+        }
+    }
+}
+
+/// Why the expression of this line, from 0, has no program.
+fn uncompiled_report(n: usize, fault: ExpressionFault) -> Report<'static> {
+    let name = match fault {
+        ExpressionFault::Text(filterlang::Fault::NoMemory)
+        | ExpressionFault::Tree(Refusal::NoMemory) => return expression_report(fault),
+        ExpressionFault::Text(_) => "Expression",
+        ExpressionFault::Tree(_) => "Compile",
+    };
+    Report::of_part(name, n, fault.name(), Word::place(fault.place()))
 }
 
 /// What a file of lines asks for.

@@ -7,8 +7,7 @@ use crate::plan::PlanLine;
 use cli_files::paths::{Opening, STANDARD_OUTPUT, refuse_shared_files};
 use cli_report::HintSink;
 use cli_text::Status;
-use cli_text::report::report_fault;
-use savefile::Fault;
+use fault_report::reporting::report_memory;
 use std::alloc::{AllocError, Global};
 use std::fs::Files;
 
@@ -21,7 +20,7 @@ pub fn check_outputs<'a, R: Files + AllocGlobal, L: PlanLine<'a>, E: HintSink>(
     err: &mut E,
 ) -> Result<(), Status> {
     let Ok(outputs) = outputs_of(rt.alloc(), lines) else {
-        return Err(report_fault(Fault::NoMemory, Status::Refused, err));
+        return Err(report_memory(err));
     };
     refuse_shared_files(
         rt,

@@ -3,28 +3,34 @@
 ghost use Rattle.std.specs.Prelude.{IfOk, IfErr, option_copied};
 ghost use Rattle.cli_filter.specs.Filter.{IsFilter, IsNoFilter};
 
+use crate::report::filter_report;
 use bpf_asm::{AssemblyFault, ProgramTextFault, read_program};
 use bpfvm::{ListingFault, Program};
 use cli_text::effective_snaplen;
+use fault_report::printed::ReportText;
 use filtergen::{ExpressionFault, compile_text};
 use std::alloc::Global;
+use std::fmt;
+use std::fmt::{Display, Formatter};
 use thiserror::Error;
 
-/// Why a command has no filter. It prints as the inner fault does.
+/// Why a command has no filter. It prints as it is reported.
 #[derive(Clone, Copy, Debug, PartialEq, Eq, Error)]
 pub enum FilterFault {
     /// Both a listing and an expression are given.
-    #[error("FilterTwice")]
     Twice,
     /// The text is no listing of a valid program.
-    #[error("{0}")]
     Listing(ListingFault),
     /// The text is no assembly of a valid program.
-    #[error("{0}")]
     Assembly(AssemblyFault),
     /// The expression has no program.
-    #[error("{0}")]
     Expression(ExpressionFault),
+}
+
+impl Display for FilterFault {
+    fn fmt<W: fmt::Write>(&self, f: &mut Formatter<W>) -> fmt::Result {
+        write!(f, "{}", ReportText(&filter_report(*self)))
+    }
 }
 
 /// The filter of a program's text (a listing, assembly or an image) or of an expression. An expression's filter returns the

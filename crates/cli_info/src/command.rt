@@ -10,12 +10,12 @@ use cli_report::failures::{hint_input, hint_output};
 use cli_report::probe::ProbedInput;
 use cli_report::stream::give_hint;
 use cli_text::Status;
-use cli_text::report::{EscapedPath, report_fault, report_unwritten};
+use cli_text::report::EscapedPath;
 use cli_watch::captures::watched_inputs;
 use cli_watch::output::WatchedOutput;
 use cli_watch::{Screen, Watch};
+use fault_report::reporting::{report_memory, report_unwritten};
 use pcap_info::survey::survey_capture;
-use savefile::Fault;
 use std::alloc::Global;
 use std::fs::Files;
 use std::io;
@@ -46,7 +46,7 @@ fn inspect<R: Read + Drop, O: Write, E: HintSink>(
 /// Reports that memory for a line ran out, or that standard output failed.
 fn report_unprinted<E: HintSink>(error: &io::Error, err: &mut E) -> Status {
     if error.kind() == ErrorKind::OutOfMemory {
-        report_fault(Fault::NoMemory, Status::Refused, err)
+        report_memory(err)
     } else {
         report_unwritten(error, err)
     }
@@ -117,7 +117,7 @@ pub fn info_command<R: Files + AllocGlobal + Screen, O: Write, E: HintSink>(
     }
     let watch = Watch::new(rt, paths, err.takes_hints());
     let Ok(inputs) = watched_inputs(rt, rt.alloc(), paths, &watch) else {
-        return report_fault(Fault::NoMemory, Status::Refused, err);
+        return report_memory(err);
     };
     match inspect_buffered(rt.alloc(), words, &watch, inputs, out, err) {
         Ok(status) | Err(status) => status,

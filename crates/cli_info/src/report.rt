@@ -9,8 +9,10 @@ use crate::line::put_rest_of_line;
 use crate::object::put_object;
 use cli_json::LineForm;
 use cli_text::Status;
-use cli_text::report::{fault_status, report_device};
+use cli_text::report::fault_status;
 use cli_text::sending::send;
+use fault_report::FaultSink;
+use fault_report::reporting::report_device;
 use pcap_info::survey::CaptureSurvey;
 use savefile::Fault;
 use std::alloc::{AllocError, Global};
@@ -56,7 +58,7 @@ pub fn print_survey<R, O: Write>(
 }
 
 /// Reports a capture whose file failed, and returns the exit status of the survey. Any other fault is in the line that is printed.
-pub fn report_survey<R, E: Write>(survey: &CaptureSurvey<R>, path: &str, err: &mut E) -> Status
+pub fn report_survey<R, E: FaultSink>(survey: &CaptureSurvey<R>, path: &str, err: &mut E) -> Status
     ensures { result ≡ survey_status survey.now.read }
 {
     match survey.read {

@@ -1,6 +1,7 @@
 //! A text as a JSON string.
 
-ghost use Rattle.std.specs.Prelude.{◌≡◌, ◌<◌, ◌++◌, OnOk, string_bytes};
+ghost use Rattle.std.specs.Prelude.{◌≡◌, ◌<◌, ◌++◌, OnOk, Some, string_bytes};
+ghost use Rattle.std.specs.Fmt.{WritesOnOk};
 ghost use Rattle.cli_json.specs.Strings.{escaped, escape_text, json_string, needs_escape};
 
 use std::alloc::AllocError;
@@ -54,16 +55,34 @@ pub fn put_string(line: &mut String, text: &str) -> Result<(), AllocError>
     line.push_str("\"")
 }
 
-/// Writes a character of a JSON string.
-fn write_escaped<W: fmt::Write>(f: &mut Formatter<W>, one: char) -> fmt::Result {
-    match one {
-        '"' | '\\' => {
-            f.write_char('\\')?;
-            f.write_char(one)
-        }
-        '\0'..='\x1f' => write!(f, "\\u00{:02x}", u32::from(one)),
-        _ => f.write_char(one),
+/// Writes the escape of a byte.
+fn write_escape<W: fmt::Write>(f: &mut Formatter<W>, byte: u8) -> fmt::Result
+    requires { byte < 128 }
+    ensures { WritesOnOk W.write_str_gives f.old result (escape_text byte) f.new }
+{
+    if byte < 32 {
+        write!(f, "\\u00{byte:02x}")
+    } else {
+        f.write_str("\\")?;
+        f.write_char(char::from(byte))
     }
+}
+
+/// Writes a text, with an escape for each byte that needs one.
+fn write_escaped<W: fmt::Write>(f: &mut Formatter<W>, text: &str) -> fmt::Result
+    ensures { WritesOnOk W.write_str_gives f.old result (escaped text.now) f.new }
+{
+    let bytes = text.as_bytes();
+    let mut start = 0;
+    for at in 0..bytes.len() {
+        let byte = bytes[at];
+        if needs_escape(byte) {
+            f.write_str(&text[start..at])?;
+            write_escape(f, byte)?;
+            start = at + 1;
+        }
+    }
+    f.write_str(&text[start..])
 }
 
 /// A text as it stands in a JSON string, as [`put_string`] writes it, which takes no memory.
@@ -71,11 +90,10 @@ fn write_escaped<W: fmt::Write>(f: &mut Formatter<W>, one: char) -> fmt::Result 
 pub struct JsonEscaped<'a>(pub &'a str);
 
 impl Display for JsonEscaped<'_> {
+    ghost output = { λ text. Some (escaped text.0.now) };
+
     fn fmt<W: fmt::Write>(&self, f: &mut Formatter<W>) -> fmt::Result {
-        for one in self.0.chars() {
-            write_escaped(f, one)?;
-        }
-        Ok(())
+        write_escaped(f, self.0)
     }
 }
 
@@ -84,6 +102,9 @@ impl Display for JsonEscaped<'_> {
 pub struct JsonString<'a>(pub &'a str);
 
 impl Display for JsonString<'_> {
+    ghost output = { λ text. Some (json_string text.0.now) };
+
+    #[tactic(auto, unfolding(crate::specs::Strings::json_string))]
     fn fmt<W: fmt::Write>(&self, f: &mut Formatter<W>) -> fmt::Result {
         write!(f, "\"{}\"", JsonEscaped(self.0))
     }

@@ -1,7 +1,14 @@
--- The line of a hint.
-use Rattle.std.specs.Prelude.{ℕ, List, ◌++◌, codes}
+-- Where hints are wanted, and their lines.
+use Rattle.std.specs.Prelude.{ℕ, Bool, false, List, ◌++◌, codes}
+use Rattle.cli_json.specs.declared.form.LineForm.{LineForm}
+use Rattle.cli_json.specs.declared.form.LineForm.TheVariants.{Text, Json}
 use Rattle.cli_text.specs.Telling.{end_of_line}
 
 -- below the line of a fault, indented by two blanks
 abbrev pub hint_line : List ℕ → List ℕ
 hint_line text = codes "  " ++ text ++ end_of_line
+
+-- hints are wanted below lines of text only, and there if they are asked for
+abbrev pub wants_hints : LineForm → Bool → Bool
+wants_hints Text asked = asked
+wants_hints Json asked = false

@@ -1,20 +1,23 @@
 //! Standard error that may take hints, and the line of a hint.
 
 ghost use Rattle.std.specs.Prelude.{◌≡◌, ◌≢◌, Bool, true, false, OnOk, OnErr, IfErr, IfOk, IfSome};
+ghost use Rattle.cli_json.specs.declared.form.LineForm.TheVariants.{Json, Text};
 ghost use Rattle.std.specs.Io.{WritesAtMost};
 ghost use Rattle.std.specs.Io.KnownBytes.{WriteAppends};
 ghost use Rattle.std.specs.IoError.{error_kind};
 ghost use Rattle.cli_text.specs.Sending.{Takes};
-ghost use Rattle.cli_report.specs.Hints.{hint_line};
+ghost use Rattle.cli_report.specs.Hints.{hint_line, wants_hints};
 
+use cli_json::LineForm;
 use cli_text::Line;
 use cli_text::sending::send;
+use fault_report::FaultSink;
 use std::fmt::Display;
 use std::io;
 use std::io::{ErrorKind, Write};
 
 /// Where faults are reported, and whether hints are wanted below their lines.
-pub trait HintSink: Write {
+pub trait HintSink: FaultSink {
     /// Whether hints are wanted.
     ghost takes_hints: { Self → Bool };
 
@@ -24,19 +27,33 @@ pub trait HintSink: Write {
 }
 
 /// A writer that faults are reported to. Once a write has failed no hints are wanted: one without the line of its fault explains
-/// nothing.
+/// nothing. None are wanted below an object of JSON either.
 #[derive(Debug, Drop)]
 pub struct ErrorStream<W> {
     inner: W,
     takes_hints: bool,
+    form: LineForm,
 }
 
 impl<W> ErrorStream<W> {
-    /// Hints are wanted if standard error is a terminal, or if they are asked for.
+    /// Faults are reported as text. Hints are wanted if standard error is a terminal, or if they are asked for.
     pub fn new(inner: W, takes_hints: bool) -> ErrorStream<W>
-        ensures { result.takes_hints ≡ takes_hints }
+        ensures hints { result.takes_hints ≡ takes_hints }
+        ensures form { result.form ≡ Text }
     {
-        ErrorStream { inner, takes_hints }
+        ErrorStream {
+            inner,
+            takes_hints,
+            form: LineForm::Text,
+        }
+    }
+
+    /// From here on faults are reported in this form.
+    pub fn set_form(&mut self, form: LineForm)
+        ensures form { self.new.form ≡ form }
+        ensures hints { self.new.takes_hints ≡ self.old.takes_hints }
+    {
+        self.form = form;
     }
 }
 
@@ -47,6 +64,7 @@ impl<W: Write> Write for ErrorStream<W> {
         ensures bound { WritesAtMost result from.now }
         ensures bytes { WriteAppends (W.contents self.old.inner) (W.contents self.new.inner) result from.now }
         ensures silent { IfErr result (λ error. error_kind error ≢ ErrorKind.Interrupted → self.new.takes_hints ≡ false) }
+        ensures form { self.new.form ≡ self.old.form }
     {
         let written = self.inner.write(from);
         self.takes_hints = self.takes_hints && !has_failed(&written, from);
@@ -68,11 +86,22 @@ fn has_failed(written: &io::Result<usize>, from: &[u8]) -> bool
     }
 }
 
+impl<W: Write> FaultSink for ErrorStream<W> {
+    ghost fault_form = { λ stream. stream.form };
+
+    fn fault_form(&self) -> LineForm {
+        self.form
+    }
+}
+
 impl<W: Write> HintSink for ErrorStream<W> {
-    ghost takes_hints = { λ stream. stream.takes_hints };
+    ghost takes_hints = { λ stream. wants_hints stream.form stream.takes_hints };
 
     fn takes_hints(&self) -> bool {
-        self.takes_hints
+        match self.form {
+            LineForm::Text => self.takes_hints,
+            LineForm::Json => false,
+        }
     }
 }
 
@@ -110,5 +139,16 @@ pub fn give_hint<D: Display + Drop, E: HintSink>(hint: D, err: &mut E)
 {
     if err.takes_hints() {
         let _ = write_line(hint, err);
+    }
+}
+
+/// Prints a line below that of a fault, indented by two blanks, whether hints are wanted or not. Below an object of JSON it prints none.
+pub fn print_below<D: Display + Drop, E: FaultSink>(text: D, err: &mut E) -> io::Result<()>
+    ensures line { E.fault_form err.old ≡ Text → IfSome (D.output text) (λ text. Takes (E.contents err.old) (E.contents err.new) result (hint_line text)) }
+    ensures object { E.fault_form err.old ≡ Json → err.new ≡ err.old }
+{
+    match err.fault_form() {
+        LineForm::Text => write_line(text, err),
+        LineForm::Json => Ok(()),
     }
 }

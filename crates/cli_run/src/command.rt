@@ -5,8 +5,10 @@ ghost use Rattle.std.specs.Prelude.{◌≡◌, ◌<◌, All, IfOk, length};
 use crate::hints::{hint_refused, hint_run};
 use crate::paths::{LateFiles, capture_paths, check_paths, late_files};
 use crate::plan::{RunLine, fault_text, read_plan};
-use crate::run::{refuse, replay_plan};
-use crate::tally::report_flushed;
+use crate::report::{print_reports, run_status};
+use crate::reported::{replay_fault, report_ends};
+use crate::run::replay_plan;
+use crate::tally::flush_all;
 use cli_args::run::RunWords;
 use cli_files::captures::output_buffer;
 use cli_files::reading::read_text;
@@ -17,9 +19,8 @@ use cli_report::HintSink;
 use cli_report::failures::hint_printed;
 use cli_report::files::{LISTENERS_OF_RUN, hint_returns};
 use cli_text::Status;
-use cli_text::report::report_fault;
 use cli_watch::{Screen, Watch};
-use savefile::Fault;
+use fault_report::reporting::{report_fault, report_memory, report_output};
 use std::alloc::Global;
 use std::fs::Files;
 use std::io::Write;
@@ -39,9 +40,9 @@ fn plan_of<'p, E: HintSink>(
     match read_plan(alloc, listeners, interfaces) {
         Ok(plan) => Ok(plan),
         Err(fault) => {
-            let outcome = refuse(fault_text(fault), err);
+            let status = report_fault(&fault_text(fault).report(), Status::Refused, err);
             hint_plan::<RunLine<'_>, E>(alloc, listeners, interfaces, LISTENERS_OF_RUN, fault, err);
-            Err(outcome.status)
+            Err(status)
         }
     }
 }
@@ -73,7 +74,7 @@ impl NamesFiles for HostRuntime {
         check_paths(self, alloc, words, plan.lines.as_slice(), err)?;
         match late_files(self, alloc, words, plan, watch) {
             Ok(late) => Ok(late),
-            Err(fault) => Err(refuse(fault, err).status),
+            Err(fault) => Err(report_fault(&replay_fault(fault), Status::Refused, err)),
         }
     }
 }
@@ -98,19 +99,18 @@ fn replay_files<R: Threads + Wait + Sync + AllocGlobal, O: Write, E: HintSink>(
     watch.erase();
     match replayed {
         Ok(mut reports) => {
-            let outcome = report_flushed(
-                LineForm::asked(words.json),
-                reports.as_mut_slice(),
-                out,
-                err,
-            );
-            hint_run(words.inputs.as_slice(), reports.as_slice(), err);
-            Ok(outcome.status)
+            flush_all(reports.as_mut_slice());
+            let (form, inputs) = (LineForm::asked(words.json), words.inputs.as_slice());
+            let printed = print_reports(form, reports.as_slice(), out);
+            let status = report_output(&printed, err);
+            let _ = report_ends(inputs, reports.as_slice(), err);
+            hint_run(inputs, reports.as_slice(), err);
+            Ok(status.max(run_status(reports.as_slice())))
         }
         Err(fault) => {
-            let outcome = refuse(fault, err);
+            let status = report_fault(&replay_fault(fault), Status::Refused, err);
             hint_refused(alloc, listeners, words.inputs.len(), fault, err);
-            Err(outcome.status)
+            Err(status)
         }
     }
 }
@@ -124,7 +124,7 @@ fn watch_of<'r, R: Files + Screen, E: HintSink>(
 ) -> Result<Watch<'r, R>, Status> {
     match capture_paths(alloc, words) {
         Ok(paths) => Ok(Watch::new(rt, paths.as_slice(), err.takes_hints())),
-        Err(_) => Err(report_fault(Fault::NoMemory, Status::Refused, err)),
+        Err(_) => Err(report_memory(err)),
     }
 }
 

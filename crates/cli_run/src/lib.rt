@@ -9,5 +9,6 @@ mod object;
 pub mod paths;
 pub mod plan;
 pub mod report;
+mod reported;
 pub mod run;
 pub mod tally;

@@ -11,11 +11,10 @@ use cli_filter::plan::Plan;
 use cli_filter::plan_files::{check_outputs, outputs_of};
 use cli_report::{FailureProbe, HintSink};
 use cli_text::Status;
-use cli_text::report::report_fault;
 use cli_watch::Watch;
 use cli_watch::captures::{WatchedInput, watched_inputs};
+use fault_report::reporting::report_memory;
 use replay_types::RunFault;
-use savefile::Fault;
 use std::alloc::{AllocError, Global};
 use std::io;
 
@@ -86,7 +85,7 @@ pub(crate) fn check_paths<E: HintSink>(
     err: &mut E,
 ) -> Result<(), Status> {
     let Ok(read) = read_paths(alloc, words) else {
-        return Err(report_fault(Fault::NoMemory, Status::Refused, err));
+        return Err(report_memory(err));
     };
     check_outputs(files, read.as_slice(), lines, err)
 }

@@ -104,7 +104,7 @@ fn write_reports<R, W, O: Write>(
 }
 
 /// Prints the reports, and all that the writer has gathered of them.
-fn print_reports<R, W, O: Write>(
+pub fn print_reports<R, W, O: Write>(
     form: LineForm,
     reports: &[InterfaceReport<R, W>],
     out: &mut O,
@@ -156,7 +156,7 @@ fn report_status<R, W>(report: &InterfaceReport<R, W>) -> Status
 }
 
 /// The greatest status of all interfaces.
-fn run_status<R, W>(reports: &[InterfaceReport<R, W>]) -> Status
+pub fn run_status<R, W>(reports: &[InterfaceReport<R, W>]) -> Status
     ensures { result ≡ run_status reports.now }
 {
     let mut status = Status::Clean;

@@ -5,7 +5,7 @@ use crate::line::line_for;
 use crate::part::{Part, PartEnd};
 use crate::paths::{SplitOutput, check_paths, parts};
 use crate::plan::{MAX_LINES, SplitLine, fault_text, read_plan};
-use crate::report::report_split;
+use crate::report::{SplitFiles, report_split};
 use crate::split::{SplitEnd, split};
 use bpfvm::Program;
 use cli_args::split::SplitWords;
@@ -19,9 +19,9 @@ use cli_report::failures::hint_printed;
 use cli_report::files::{LINES, hint_returns};
 use cli_report::stream::give_hint;
 use cli_text::Status;
-use cli_text::report::report_fault;
 use cli_watch::captures::watched_inputs;
 use cli_watch::{Screen, Watch};
+use fault_report::reporting::{report_fault, report_memory};
 use savefile::{Counted, Fault, Order, Source, Unit};
 use std::alloc::Global;
 use std::fs::Files;
@@ -37,7 +37,7 @@ fn plan_of<'p, E: HintSink>(
     match read_plan(alloc, text) {
         Ok(plan) => Ok(plan),
         Err(fault) => {
-            let status = report_fault(fault_text(fault), Status::Refused, err);
+            let status = report_fault(&fault_text(fault).report(), Status::Refused, err);
             hint_plan::<SplitLine<'_>, E>(alloc, text, (), LINES, fault, err);
             if fault == PlanFault::TooMany {
                 give_hint(
@@ -99,16 +99,20 @@ fn split_plan<'r, R: Files + AllocGlobal + Screen, O: Write, E: HintSink>(
     let mut out = output_buffer(alloc, &mut *out, err)?;
     let paths = words.inputs.as_slice();
     let Ok(mut line) = line_for(alloc, form, lines.as_slice()) else {
-        return Err(report_fault(Fault::NoMemory, Status::Refused, err));
+        return Err(report_memory(err));
     };
     let Ok(captures) = watched_inputs(rt, alloc, paths, watch) else {
-        return Err(report_fault(Fault::NoMemory, Status::Refused, err));
+        return Err(report_memory(err));
     };
     let Ok(end) = split_lines(rt, words, lines.as_slice(), programs, captures) else {
-        return Err(report_fault(Fault::NoMemory, Status::Refused, err));
+        return Err(report_memory(err));
     };
     watch.erase();
-    let status = report_split(form, lines.as_slice(), &end, &mut line, &mut out, err);
+    let files = SplitFiles {
+        captures: paths,
+        lines: lines.as_slice(),
+    };
+    let status = report_split(form, files, &end, &mut line, &mut out, err);
     hint_split(paths, lines.as_slice(), &end, err);
     hint_printed(out.get_ref(), err);
     hint_frames(lines.as_slice(), watch.frames(), status, err);

@@ -10,8 +10,7 @@ use cli_filter::plan_files::check_outputs;
 use cli_report::probe::ProbedOutput;
 use cli_report::{FailureProbe, HintSink};
 use cli_text::Status;
-use cli_text::report::report_fault;
-use savefile::Fault;
+use fault_report::reporting::report_memory;
 use std::alloc::{AllocError, Global};
 use std::fs::Files;
 use std::io;
@@ -28,7 +27,7 @@ pub(crate) fn check_paths<R: Files + AllocGlobal, E: HintSink>(
     err: &mut E,
 ) -> Result<(), Status> {
     let Ok(read) = read_paths(rt.alloc(), words) else {
-        return Err(report_fault(Fault::NoMemory, Status::Refused, err));
+        return Err(report_memory(err));
     };
     check_outputs(rt, read.as_slice(), lines, err)
 }

@@ -13,11 +13,20 @@ use crate::plan::SplitLine;
 use crate::split::{SplitEnd, Stop};
 use cli_json::LineForm;
 use cli_text::Status;
-use cli_text::report::{fault_status, print_status, report_device, report_fault, report_output};
+use cli_text::report::fault_status;
 use cli_text::sending::send;
-use savefile::Fault;
+use fault_report::FaultSink;
+use fault_report::captures::output_fault;
+use fault_report::reporting::{report_fault, report_nth_capture, report_output};
 use std::io;
 use std::io::Write;
+
+/// The files of a split, in order: the captures that are read, and the lines whose OUT is written.
+#[derive(Clone, Copy)]
+pub struct SplitFiles<'s, 'a> {
+    pub captures: &'s [&'s str],
+    pub lines: &'s [SplitLine<'a>],
+}
 
 /// The line of a part that was written whole; no line of another one.
 fn write_part<W, O: Write>(
@@ -90,18 +99,21 @@ fn print_split<R, W, O: Write>(
 }
 
 /// Reports why a part was not written whole, if it was not, and returns the exit status.
-fn report_part<W, E: Write>(output: &str, part: &PartEnd<W>, err: &mut E) -> Status
+fn report_part<W, E: FaultSink>(output: &str, part: &PartEnd<W>, err: &mut E) -> Status
     ensures { result ≡ written_status part.now.written }
 {
     match part.written {
         Ok(()) => Status::Clean,
-        Err(Fault::Device) => report_device(output, err),
-        Err(fault) => report_fault(fault, fault_status(fault), err),
+        Err(fault) => report_fault(&output_fault(fault, output), fault_status(fault), err),
     }
 }
 
 /// Reports each part that was not written whole, and returns the greatest status.
-fn report_parts<W, E: Write>(lines: &[SplitLine<'_>], parts: &[PartEnd<W>], err: &mut E) -> Status
+fn report_parts<W, E: FaultSink>(
+    lines: &[SplitLine<'_>],
+    parts: &[PartEnd<W>],
+    err: &mut E,
+) -> Status
     ensures { result ≡ parts_status parts.now }
 {
     let mut status = Status::Clean;
@@ -112,30 +124,28 @@ fn report_parts<W, E: Write>(lines: &[SplitLine<'_>], parts: &[PartEnd<W>], err:
 }
 
 /// Reports what ended the reading, if something did, and returns the exit status.
-fn report_stop<E: Write>(end: Result<(), Stop>, err: &mut E) -> Status
+fn report_stop<E: FaultSink>(end: Result<(), Stop>, paths: &[&str], err: &mut E) -> Status
     ensures { result ≡ stop_status end }
 {
     match end {
         Ok(()) => Status::Clean,
-        Err(Stop::AtHeader(n, fault) | Stop::AtRecord(n, fault)) => report_fault(
-            format_args!("Capture {n} {fault}"),
-            fault_status(fault),
-            err,
-        ),
+        Err(Stop::AtHeader(n, fault) | Stop::AtRecord(n, fault)) => {
+            report_nth_capture(fault, n, paths, err)
+        }
     }
 }
 
 /// Reports the OUT of each part that was not written whole, and what ended the reading, and returns the greatest of their statuses, as
 /// [`report_split`] does.
-pub fn report_faults<R, W, E: Write>(
-    lines: &[SplitLine<'_>],
+pub fn report_faults<R, W, E: FaultSink>(
+    files: SplitFiles<'_, '_>,
     end: &SplitEnd<R, W>,
     err: &mut E,
 ) -> Status
     ensures { result ≡ split_status end.now }
 {
-    let parts = report_parts(lines, end.parts.as_slice(), err);
-    parts.max(report_stop(end.end, err))
+    let parts = report_parts(files.lines, end.parts.as_slice(), err);
+    parts.max(report_stop(end.end, files.captures, err))
 }
 
 /// Prints a line `OUT 67 of 253` for each part that was written whole, in the order of the lines: how many of how many packets; as JSON an
@@ -149,17 +159,17 @@ pub fn report_faults<R, W, E: Write>(
 /// `out` took exactly these lines, or a prefix of them if it failed; then the status is [`Status::Failed`]. The status of a part is that of
 /// its fault, [`Status::Failed`] if its sink failed. So is that of a capture: [`Status::Failed`] if its source failed, and
 /// [`Status::Damaged`] for the fault of a record.
-pub fn report_split<R, W, O: Write, E: Write>(
+pub fn report_split<R, W, O: Write, E: FaultSink>(
     form: LineForm,
-    lines: &[SplitLine<'_>],
+    files: SplitFiles<'_, '_>,
     end: &SplitEnd<R, W>,
     line: &mut String,
     out: &mut O,
     err: &mut E,
 ) -> Status
-    ensures { ReportsSplit form lines.now end.now (O.contents out.old) (O.contents out.new) result }
+    ensures { ReportsSplit form files.lines.now end.now (O.contents out.old) (O.contents out.new) result }
 {
-    let printed = print_split(form, lines, end, line, out);
-    let _ = report_output(&printed, err);
-    print_status(&printed).max(report_faults(lines, end, err))
+    let printed = print_split(form, files.lines, end, line, out);
+    let status = report_output(&printed, err);
+    status.max(report_faults(files, end, err))
 }

@@ -8,5 +8,4 @@ mod Rejecting
 mod Putting
 mod Beyond
 mod Ending
-mod Told
 mod Agreeing

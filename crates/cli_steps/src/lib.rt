@@ -15,5 +15,6 @@ pub mod plan;
 pub mod reasons;
 pub mod rejections;
 pub mod report;
+mod reported;
 pub mod script;
 pub mod steps;

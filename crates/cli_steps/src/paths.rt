@@ -1,13 +1,13 @@
 //! The files of `bpftap steps`: which are compared, and the captures.
 
 use crate::hints::hint_too_many;
+use crate::reported::replay_fault;
 use cli_args::steps::StepsWords;
 use cli_files::paths::{Opening, STANDARD_OUTPUT, refuse_shared_files};
 use cli_files::reading::read_file;
 use cli_report::HintSink;
 use cli_text::Status;
-use cli_text::report::report_fault;
-use savefile::Fault;
+use fault_report::reporting::{report_fault, report_memory};
 use std::alloc::{AllocError, Global};
 use std::fs::Files;
 use tap::MAX_CAPTURES;
@@ -27,12 +27,16 @@ pub fn check_paths<R: Files + AllocGlobal, E: HintSink>(
     err: &mut E,
 ) -> Result<(), Status> {
     if words.inputs.len() > MAX_CAPTURES {
-        let status = report_fault(tap::Fault::TooMany, Status::Refused, err);
+        let status = report_fault(
+            &replay_fault(tap::Fault::TooMany, &[]),
+            Status::Refused,
+            err,
+        );
         hint_too_many(err);
         return Err(status);
     }
     let Ok(read) = read_paths(rt.alloc(), words) else {
-        return Err(report_fault(Fault::NoMemory, Status::Refused, err));
+        return Err(report_memory(err));
     };
     let picture = words.picture.as_slice();
     refuse_shared_files(
@@ -55,7 +59,7 @@ pub fn read_captures<R: Files + AllocGlobal, E: HintSink>(
     for path in paths {
         let text = read_file(rt, path, err)?;
         if texts.push(text).is_err() {
-            return Err(report_fault(Fault::NoMemory, Status::Refused, err));
+            return Err(report_memory(err));
         }
     }
     Ok(texts)

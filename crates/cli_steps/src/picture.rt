@@ -4,8 +4,7 @@ use crate::plan::StepsPlan;
 use cli_files::reading::report_io;
 use cli_report::HintSink;
 use cli_text::Status;
-use cli_text::report::report_fault;
-use savefile::Fault;
+use fault_report::reporting::report_memory;
 use std::fs;
 use std::fs::Files;
 use tap::Trace;
@@ -22,7 +21,7 @@ pub fn draw<R: Files + AllocGlobal, E: HintSink>(
     let (specs, steps) = (plan.specs.as_slice(), plan.steps.as_slice());
     let mut picture = Vec::new(rt.alloc());
     if write_picture(specs, steps, trace, &mut picture).is_err() {
-        return report_fault(Fault::NoMemory, Status::Refused, err);
+        return report_memory(err);
     }
     match fs::write(rt, path, picture) {
         Ok(()) => Status::Clean,

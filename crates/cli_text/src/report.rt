@@ -2,7 +2,7 @@
 
 ghost use Rattle.std.specs.Prelude.{◌≡◌, IfOk, IfSome};
 ghost use Rattle.cli_text.specs.Sending.{Takes};
-ghost use Rattle.cli_text.specs.declared.status.Status.TheVariants.{Failed, Refused};
+ghost use Rattle.cli_text.specs.declared.status.Status.TheVariants.{Refused};
 ghost use Rattle.cli_text.specs.Telling.{fault_status, is_unread, output_line, print_status_of, told_line};
 
 use crate::line::Line;
@@ -84,29 +84,6 @@ impl Display for EscapedPath<'_> {
     }
 }
 
-/// Reports that the file or device of a path failed.
-pub fn report_device<E: Write>(path: &str, err: &mut E) -> Status
-    ensures { result ≡ Failed }
-{
-    report_fault(
-        format_args!("Device {}", EscapedPath(path)),
-        Status::Failed,
-        err,
-    )
-}
-
-/// Reports that standard output failed, and returns the exit status. If nobody reads what is printed any more, as after `| head`,
-/// nothing is reported.
-pub fn report_unwritten<E: Write>(error: &io::Error, err: &mut E) -> Status
-    ensures { result ≡ Failed }
-{
-    if is_unread(error.kind()) {
-        Status::Failed
-    } else {
-        report_device("standard output", err)
-    }
-}
-
 /// The exit status of a fault.
 pub fn fault_status(fault: Fault) -> Status
     ensures { result ≡ fault_status fault }
@@ -115,16 +92,6 @@ pub fn fault_status(fault: Fault) -> Status
         Fault::Device => Status::Failed,
         Fault::TornRecord(_) | Fault::BadFraction(_) | Fault::TooLong(_) => Status::Damaged,
         _ => Status::Refused,
-    }
-}
-
-/// Reports the fault of the capture at a path: a failed device by the path, any other fault by its name. Returns the exit status.
-pub fn report_at<E: Write>(fault: Fault, path: &str, err: &mut E) -> Status
-    ensures { result ≡ fault_status fault }
-{
-    match fault {
-        Fault::Device => report_device(path, err),
-        _ => report_fault(fault, fault_status(fault), err),
     }
 }
 

@@ -1,10 +1,15 @@
 //! How lines go out, and what is reported of arguments that cannot be taken.
 
+ghost use Rattle.cli_json.specs.declared.form.LineForm.TheVariants.{Text};
+
 use crate::same::same;
 use cli_cut::print::check;
 use cli_cut::report::report_print;
+use cli_json::LineForm;
 use cli_text::Status;
-use cli_text::report::{report_device, report_fault, report_words};
+use cli_text::report::report_words;
+use fault_report::reporting::{report_device, report_fault};
+use fault_report::{FaultSink, Report, Word};
 use std::io;
 use std::io::{ErrorKind, Write};
 use std::process::Abort;
@@ -29,6 +34,14 @@ impl Write for BreakingCounter {
 
     fn flush(&mut self) -> io::Result<()> {
         Ok(())
+    }
+}
+
+impl FaultSink for BreakingCounter {
+    ghost fault_form = { λ _. Text };
+
+    fn fault_form(&self) -> LineForm {
+        LineForm::Text
     }
 }
 
@@ -57,9 +70,10 @@ fn go_out(rt: &impl Abort, path: &str) {
         room: 1024,
         calls: 0,
     };
+    let torn = Report::placed("TornRecord", Word::Number(1));
     same(
         rt,
-        report_fault("TornRecord 1", Status::Damaged, &mut err),
+        report_fault(&torn, Status::Damaged, &mut err),
         Status::Damaged,
     );
     same(rt, report_device("in.pcap", &mut err), Status::Failed);

@@ -8,7 +8,7 @@ use cli_json::LineForm;
 use cli_split::line::line_for;
 use cli_split::part::{Part, PartEnd};
 use cli_split::plan::{SplitLine, read_plan};
-use cli_split::report::report_split;
+use cli_split::report::{SplitFiles, report_split};
 use cli_split::split::split;
 use cli_text::Status;
 use savefile::{Counted, Order, Unit};
@@ -62,14 +62,11 @@ fn split_texts(
     let captures = Vec::from_slice(alloc, texts).expect(rt, "memory");
     let end = split(alloc, captures, parts, Order::Little, Unit::Micro).expect(rt, "memory");
     let (mut out, mut err) = (Vec::new(alloc), Vec::new(alloc));
-    let status = report_split(
-        LineForm::Text,
-        lines.as_slice(),
-        &end,
-        &mut line,
-        &mut out,
-        &mut err,
-    );
+    let files = SplitFiles {
+        captures: &[],
+        lines: lines.as_slice(),
+    };
+    let status = report_split(LineForm::Text, files, &end, &mut line, &mut out, &mut err);
     assert_eq!(rt; status, Status::Clean);
     (out, written_of(rt, end.parts))
 }

@@ -5,7 +5,7 @@ use cli_json::LineForm;
 use cli_split::line::line_for;
 use cli_split::part::PartEnd;
 use cli_split::plan::read_plan;
-use cli_split::report::report_split;
+use cli_split::report::{SplitFiles, report_split};
 use cli_split::split::{SplitEnd, Stop};
 use cli_text::Status;
 use pcap_cut::cut::Tally;
@@ -57,7 +57,11 @@ fn told<O: Write>(
     let plan = read_plan(alloc, LINES).expect(rt, "each line has its form");
     let lines = plan.lines.as_slice();
     let mut line = line_for(alloc, form, lines).expect(rt, "memory");
-    let status = report_split(form, lines, &end, &mut line, out, &mut err);
+    let files = SplitFiles {
+        captures: &[],
+        lines,
+    };
+    let status = report_split(form, files, &end, &mut line, out, &mut err);
     (status, err)
 }
 

@@ -1,0 +1,61 @@
+//! The faults of a replay, as values that are reported.
+
+use crate::steps::Replayed;
+use cli_text::LineFault;
+use fault_report::captures::{device, nth_capture_fault};
+use fault_report::reporting::report;
+use fault_report::{FaultSink, Report, Subject, Word};
+use std::io;
+use tap::Fault;
+
+/// The first bad line of LISTENERS or of SCRIPT.
+pub(crate) fn line_fault(fault: LineFault) -> Report<'static> {
+    match fault {
+        LineFault::Listeners(line) => Report::placed("Listeners", Word::count(line)),
+        LineFault::Script(line) => Report::placed("Script", Word::count(line)),
+        LineFault::NoMemory => Report::named("NoMemory"),
+    }
+}
+
+/// Why there is no replay of the captures at these paths.
+pub(crate) fn replay_fault<'a>(fault: Fault, paths: &[&'a str]) -> Report<'a> {
+    let name = fault.name();
+    match fault {
+        Fault::TooMany | Fault::NoMemory => Report::named(name),
+        Fault::NoListener(step) => Report::placed(name, Word::count(step)),
+        Fault::Capture(capture, fault) => nth_capture_fault(fault, capture as usize, paths),
+        Fault::Expression(listener, fault) => {
+            let place = Word::place(fault.place());
+            Report::of_part(name, listener as usize, fault.name(), place)
+        }
+        Fault::Compile(listener, refusal) => {
+            Report::of_part(name, listener as usize, refusal.name(), Word::Nothing)
+        }
+        Fault::Open(listener, fault) => {
+            Report::of_part(name, listener as usize, fault.name(), Word::Nothing)
+        }
+    }
+}
+
+/// Reports what became of a replay of the captures at these paths: that standard output failed, and then the capture that ended with a
+/// record fault; or why there is no replay. If the first line is not taken, the second is not sent.
+pub(crate) fn report_played<E: FaultSink>(
+    paths: &[&str],
+    output_failed: bool,
+    replayed: &Result<Replayed, Fault>,
+    err: &mut E,
+) -> io::Result<()> {
+    let replayed = match replayed {
+        Ok(replayed) => replayed,
+        Err(fault) => return report(&replay_fault(*fault, paths), err),
+    };
+    if output_failed {
+        report(&device(Subject::StandardOutput), err)?;
+    }
+    match replayed.record_fault {
+        Some((capture, fault)) => {
+            report(&nth_capture_fault(fault, capture as usize, paths), err)
+        }
+        None => Ok(()),
+    }
+}

@@ -1,0 +1,3 @@
+pub mod Words
+pub mod Reports
+pub mod Captures
