@@ -1,5 +1,9 @@
-"""The examples: the commands of the pages in `examples/` print what these pages say."""
-from .common import ROOT, VETH, case
+"""The examples: the commands of the pages in `examples/` print what these pages say, and files of lessons are what makes them."""
+import re
+import subprocess
+import sys
+
+from .common import LIMIT, ROOT, VETH, case
 
 EXAMPLES = ROOT / "examples"
 
@@ -38,3 +42,30 @@ def the_example_of_steps(scene):
     scene.check("reports after -v", explained.endswith(reports), True)
     answers = [line.split()[1:3] for line in explained.splitlines() if line.startswith("  listener")]
     scene.check("answers", " ".join(" ".join(answer) for answer in answers), ANSWERS)
+
+
+@case
+def the_frames_of_the_lesson_on_options(scene):
+    """The capture is what the script beside it writes: the bytes that the lesson shows are those that it names."""
+    lessons = EXAMPLES / "lessons"
+    made = subprocess.run([sys.executable, lessons / "options.py"], stdout=subprocess.PIPE, timeout=LIMIT).stdout
+    scene.check("options.pcap", made, (lessons / "options.pcap").read_bytes())
+
+
+@case
+def the_programs_of_the_lesson_on_libpcap(scene):
+    """Both listings are what the lesson's commands print, where tcpdump has the libpcap that the lesson names."""
+    lessons = EXAMPLES / "lessons"
+    page = (lessons / "libpcap.md").read_text()
+    text = re.search(r"\$ text='(.*)'", page)[1]
+    commands = re.findall(r"^    tcpdump (-y EN10MB .*)\"\$text\" > examples/lessons/(.*)$", page, re.M)
+    scene.check("commands", len(commands), 2)
+    if not scene.has("tcpdump"):
+        return
+    version = subprocess.run(["tcpdump", "--version"], stdout=subprocess.PIPE, stderr=subprocess.STDOUT, text=True, timeout=LIMIT).stdout
+    if f"libpcap version {re.search(r'libpcap ([0-9.]+[0-9])', page)[1]} " not in version:
+        scene.leave("tcpdump has another libpcap than the lesson's")
+        return
+    for options, name in commands:
+        printed = subprocess.run(["tcpdump", *options.split(), text], stdout=subprocess.PIPE, timeout=LIMIT).stdout
+        scene.check(name, printed, (lessons / name).read_bytes())
