@@ -2,8 +2,8 @@
 """Measures the library for C beside libpcap, and the batches of the Python package.
 
   bench/library.py           nanoseconds a packet, of 10 million of 100 bytes: libpcap's program by bpf_filter, and ours by it and by each call
-                             of the library; bpftap_next beside a plain loop in C; then run_each of Python on 100,000 packets, and what of
-                             it is joining them and gathering their sizes
+                             of the library, batches of 1 and of 256 also as a multiple of bpftap_program_run; bpftap_next beside a plain loop in C;
+                             then run_each of Python on 100,000 packets, and what of it is joining them and gathering their sizes
   bench/library.py --stacks  KiB of stack that each call of the library touches at most: random expressions of bench/meaning.py, and deep
                              ones of 1,000 and of 8,192 bytes
 

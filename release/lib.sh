@@ -160,9 +160,16 @@ choose_released() {
 # The checksums of a folder's files. A link is none.
 contents() (cd -- "$1" && find . -type f -printf '%P\0' | LC_ALL=C sort -z | xargs -0 sha256sum)
 
-# Chooses again, for those who copy what is beside the program: sets `made` to its folder, of which every file is compared with its checksum.
+# Compares a file of release/ with its checksum.
+is_undamaged() { # NAME
+  [ "$(checksum <"$root/release/$1")" = "$(sum_of "$1")" ] || refuse "release/$1 is damaged: its SHA-256 is not the one in $sums"
+}
+
+# Chooses again, for those who copy what is beside the program: sets `made` to its folder, of which every file, and the page, is compared with its
+# checksum.
 choose_all() {
   choose_program
+  [ ! -f "$root/release/$page" ] || is_undamaged "$page"
   made=${program%/bin/bpftap}
   case $made in "$place"/built/*) ;; *) return 0 ;; esac
   are_ours "$made" && contents "$made" | cmp -s - "$made.sums" || refuse "$made is not what ./build left: remove it, and run ./build"
@@ -175,8 +182,8 @@ program_path() { find_program && printf '%s\n' "$program"; }
 # right.
 unpack() { # ARCHIVE
   archive=$1
-  sum=$(checksum <"$root/release/$archive")
-  [ "$sum" = "$(sum_of "$archive")" ] || refuse "release/$archive is damaged: its SHA-256 is not the one in $sums"
+  is_undamaged "$archive"
+  sum=$(sum_of "$archive")
   { may_make "$root/out" && unpack_in "$root/out"; } || unpack_in "$cache" || unpack_in "$root/out" ||
     refuse "no program can be put in $root/out or ${cache:-a cache}: set XDG_CACHE_HOME to a folder that only you can write to"
   [ "$(contents "$unpacked")" = "$(listed "$archive")" ] || refuse "$unpacked is not what $sums says: remove it"

@@ -83,6 +83,34 @@ static void by_joined(void) {
         sum += bpftap_run_joined(ours, size, memory, sizeof memory, sizes, KINDS, answers, KINDS).size + answers[i % KINDS];
 }
 
+/* The same over the prepared program, one packet or 256 a call. */
+static void by_program_each(int batch) {
+    for (int i = 0; i < PACKETS; i += batch) {
+        sum += bpftap_program_run_each(program, packets + i % KINDS, (size_t)batch, answers, (size_t)batch).size + answers[0];
+    }
+}
+
+static void by_program_spans(int batch) {
+    for (int i = 0; i < PACKETS; i += batch) {
+        sum += bpftap_program_run_spans(program, memory, sizeof memory, spans + i % KINDS, (size_t)batch, answers, (size_t)batch).size + answers[0];
+    }
+}
+
+static void by_program_joined(int batch) {
+    for (int i = 0; i < PACKETS; i += batch) {
+        const uint8_t *first = memory + i % KINDS * SIZE;
+        size_t size = (size_t)batch * SIZE;
+        sum += bpftap_program_run_joined(program, first, size, sizes, (size_t)batch, answers, (size_t)batch).size + answers[0];
+    }
+}
+
+static void by_one_each(void) { by_program_each(1); }
+static void by_one_span(void) { by_program_spans(1); }
+static void by_one_joined(void) { by_program_joined(1); }
+static void by_many_each(void) { by_program_each(256); }
+static void by_many_spans(void) { by_program_spans(256); }
+static void by_many_joined(void) { by_program_joined(256); }
+
 static void by_next(void) {
     for (int i = 0; i < ROUNDS / 100; i++) {
         struct bpftap_reader reader = bpftap_open(capture, capture_size);
@@ -128,14 +156,34 @@ static void by_plain_loop(void) {
     }
 }
 
+static double time_of(void (*run)(void)) {
+    double began = now();
+    run();
+    return (now() - began) * 1e9 / PACKETS;
+}
+
 static void measure(const char *what, void (*run)(void)) {
     double best = 1e9;
     for (int i = 0; i < 3; i++) {
-        double began = now();
-        run();
-        if (now() - began < best) best = now() - began;
+        double time = time_of(run);
+        if (time < best) best = time;
     }
-    printf("  %-36s %7.2f\n", what, best * 1e9 / PACKETS);
+    printf("  %-38s %7.2f\n", what, best);
+}
+
+static int by_size(const void *one, const void *other) { return (*(const double *)one > *(const double *)other) - (*(const double *)one < *(const double *)other); }
+
+/* Also how many times that of `bpftap_program_run` it is: the median of 9, each beside the other, since other work on the machine slows both. */
+static void measure_beside_run(const char *what, void (*run)(void)) {
+    enum { TIMES = 9 };
+    double best = 1e9, ratios[TIMES];
+    for (int i = 0; i < TIMES; i++) {
+        double other = time_of(by_run), time = time_of(run);
+        if (time < best) best = time;
+        ratios[i] = time / other;
+    }
+    qsort(ratios, TIMES, sizeof *ratios, by_size);
+    printf("  %-38s %7.2f, %.2f of a run\n", what, best, ratios[TIMES / 2]);
 }
 
 int main(int argc, char **argv) {
@@ -162,6 +210,12 @@ int main(int argc, char **argv) {
     measure("our program, bpftap_run_each", by_each);
     measure("our program, bpftap_run_spans", by_spans);
     measure("our program, bpftap_run_joined", by_joined);
+    measure_beside_run("bpftap_program_run_each, 1 a call", by_one_each);
+    measure_beside_run("bpftap_program_run_spans, 1 a call", by_one_span);
+    measure_beside_run("bpftap_program_run_joined, 1 a call", by_one_joined);
+    measure_beside_run("bpftap_program_run_each, 256 a call", by_many_each);
+    measure_beside_run("bpftap_program_run_spans, 256 a call", by_many_spans);
+    measure_beside_run("bpftap_program_run_joined, 256 a call", by_many_joined);
     measure("bpftap_next", by_next);
     measure("a listener, each message read", by_listener);
     measure("a plain loop over records", by_plain_loop);

@@ -49,10 +49,10 @@ def _package():
 
 
 def _metadata():
-    rows = [("Metadata-Version", "2.4"), ("Name", NAME), ("Version", _field("version")), ("Summary", _field("description")),
+    # Of 2.1, which each index and Debian's twine take; the licences themselves are beside it.
+    rows = [("Metadata-Version", "2.1"), ("Name", NAME), ("Version", _field("version")), ("Summary", _field("description")),
             ("Keywords", ",".join(_field("keywords"))), *(("Classifier", line) for line in _field("classifiers")),
-            ("License-Expression", _field("license")), *(("License-File", name) for name in _licences()),
-            ("Requires-Python", _field("requires-python")), ("Description-Content-Type", "text/markdown")]
+            ("License", _field("license")), ("Requires-Python", _field("requires-python")), ("Description-Content-Type", "text/markdown")]
     page = (HERE / _field("readme")).read_text()
     return ("".join(f"{name}: {value}\n" for name, value in rows) + f"\n{page}").encode()
 

@@ -132,7 +132,7 @@ export class App {
     this.graph.show(filter);
     this.comparison.follow(filter && filter.expression);
     this.explain();
-    this.show(this.list.chosen);
+    this.showPacket(this.list.chosen);
     this.write();
   }
 
@@ -212,15 +212,31 @@ export class App {
     this.write();
   }
 
-  /** @param {number} place */
+  /**
+   * Shows a packet, in the list too.
+   * @param {number} place
+   */
   show(place) {
-    const { capture } = this, isThere = capture !== null && place >= 0 && place < capture.records.count;
-    if (!isThere) {
+    if (this.hasPacket(place)) this.list.show(place);
+    this.showPacket(place);
+  }
+
+  /** @param {number} place */
+  hasPacket(place) {
+    return this.capture !== null && place >= 0 && place < this.capture.records.count;
+  }
+
+  /**
+   * Shows a packet beside the list. The list stays as it is, since to scroll it the browser has to lay out the page.
+   * @param {number} place
+   */
+  showPacket(place) {
+    const { capture } = this;
+    if (capture === null || !this.hasPacket(place)) {
       this.packet.show(this.library, this.filter, null);
       return;
     }
     const { offsets, captured, wire } = capture.records, begin = offsets[place];
-    this.list.show(place);
     this.packet.show(this.library, this.filter, { place, bytes: capture.file.subarray(begin, begin + captured[place]), wire: wire[place] });
   }
 

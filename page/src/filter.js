@@ -44,6 +44,7 @@ export class FilterView {
      * @type {HTMLElement[]}
      */
     this.lines = [];
+    this.frame = 0;
     this.input.addEventListener("input", () => this.read());
   }
 
@@ -98,10 +99,21 @@ export class FilterView {
       line.classList.toggle("way", found !== undefined);
       line.classList.toggle("here", found !== undefined && found.number === at);
     });
-    const here = lines[steps.length ? steps[at].place : -1], box = find("listing");
-    if (here && (here.offsetTop < box.scrollTop || here.offsetTop + here.offsetHeight > box.scrollTop + box.clientHeight)) {
-      box.scrollTop = here.offsetTop - box.clientHeight / 2;
-    }
+    this.reveal(lines[steps.length ? steps[at].place : -1]);
+  }
+
+  /**
+   * Scrolls to a row, when the page is laid out anyway.
+   * @param {HTMLElement | undefined} row
+   */
+  reveal(row) {
+    cancelAnimationFrame(this.frame);
+    this.frame = requestAnimationFrame(() => {
+      const box = find("listing");
+      if (row && (row.offsetTop < box.scrollTop || row.offsetTop + row.offsetHeight > box.scrollTop + box.clientHeight)) {
+        box.scrollTop = row.offsetTop - box.clientHeight / 2;
+      }
+    });
   }
 }
 

@@ -22,6 +22,7 @@ async function start() {
     const script = URL.createObjectURL(new Blob([find("script").textContent || ""], { type: "text/javascript" }));
     new App(new Library(module), () => new Worker(script), example).start();
     document.body.dataset.ready = "yes";
+    performance.mark("ready");
   } catch (why) {
     find("about").textContent = `This browser cannot run the library: ${why instanceof Error ? why.message : why}.`;
     throw why;

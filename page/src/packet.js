@@ -43,6 +43,21 @@ function dumpRow(bytes, marked, begin) {
 }
 
 /**
+ * Texts that follow each other as one, since a browser takes a node for each.
+ * @param {(Node | string)[]} parts
+ */
+function joined(parts) {
+  /** @type {(Node | string)[]} */
+  const made = [];
+  for (const part of parts) {
+    const last = made[made.length - 1];
+    if (typeof part === "string" && typeof last === "string") made[made.length - 1] = last + part;
+    else made.push(part);
+  }
+  return made;
+}
+
+/**
  * What a look finds, in words.
  * @param {Packet} packet
  * @param {Look} look
@@ -124,7 +139,7 @@ export class PacketView {
   showBytes(packet, marked, most) {
     const { bytes } = packet, shown = Math.min(bytes.length, most), rows = [];
     for (let begin = 0; begin < shown; begin += ROW_BYTES) rows.push(...dumpRow(bytes.subarray(0, shown), marked, begin));
-    find("bytes").replaceChildren(...rows);
+    find("bytes").replaceChildren(...joined(rows));
     if (shown < bytes.length) {
       const all = () => this.showBytes(packet, marked, bytes.length);
       find("bytes").append(make("button", { type: "button", click: all }, `Show all ${bytes.length} bytes`));

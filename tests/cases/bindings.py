@@ -42,12 +42,16 @@ def pip_installs_it(scene):
     if done(scene, [sys.executable, "-m", "pip", "--version"])[1]:
         scene.leave("pip can't be found")
         return
-    sums, sdist = set(), "import backend, sys; print(backend.build_sdist(sys.argv[1]))"
+    sums, sdist = set(), "import backend, sys; print(backend.build_sdist(sys.argv[1]), backend.build_wheel(sys.argv[1]))"
     name = f"bpftap-{version()}.tar.gz"
     for _ in range(2):
-        scene.check("sdist", done(scene, [sys.executable, "-Bc", sdist, scene.folder], env=environment_of_python()), (f"{name}\n", 0))
-        sums.add(scene.read(name))
-    scene.check("the same sdist", len(sums), 1)
+        said, status = done(scene, [sys.executable, "-Bc", sdist, scene.folder], env=environment_of_python())
+        scene.check("sdist and wheel", (said.split()[:1], status), ([name], 0))
+        sums.add((scene.read(name), scene.read(said.split()[1])))
+    scene.check("the same files", len(sums), 1)
+    if scene.has("twine"):
+        said, status = done(scene, ["twine", "check", "--strict", name, *said.split()[1:]])
+        scene.check("twine check", (said.count("PASSED"), status), (2, 0))
     shown = "import bpftap; print(bpftap.__version__, bpftap.Filter('ip').matches(bytes(12) + b'\\x08\\x00'))"
     for number, what in enumerate(([PYTHON], [name], ["-e", PYTHON])):
         into, environment = scene.folder / f"site{number}", {**bare(), "PIP_DISABLE_PIP_VERSION_CHECK": "1"}
@@ -237,3 +241,5 @@ def crate_of_rust_passes_its_tests(scene):
     scene.check("ship", done(scene, [crate.parent / "ship"]), ("", 0))
     listed, _ = cargo("package", "--list", "--allow-dirty")
     scene.check("what is packed", {"native/libbpftap.a", "native/bpftap.h", "src/lib.rs", "build.rs"} <= {*listed.split()}, True)
+    said, status = cargo("package", "--allow-dirty")
+    scene.check("cargo package", (said if status else "", status), ("", 0))

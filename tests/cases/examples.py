@@ -1,5 +1,9 @@
-"""The examples: the commands of the pages in `examples/` print what these pages say."""
-from .common import ROOT, VETH, case
+"""The examples: the commands of the pages in `examples/` print what these pages say, and files of lessons are what makes them."""
+import re
+import subprocess
+import sys
+
+from .common import LIMIT, ROOT, VETH, case, records
 
 EXAMPLES = ROOT / "examples"
 
@@ -38,3 +42,63 @@ def the_example_of_steps(scene):
     scene.check("reports after -v", explained.endswith(reports), True)
     answers = [line.split()[1:3] for line in explained.splitlines() if line.startswith("  listener")]
     scene.check("answers", " ".join(" ".join(answer) for answer in answers), ANSWERS)
+
+
+@case
+def the_frames_of_the_lesson_on_options(scene):
+    """The capture is what the script beside it writes: the bytes that the lesson shows are those that it names."""
+    lessons = EXAMPLES / "lessons"
+    made = subprocess.run([sys.executable, lessons / "options.py"], stdout=subprocess.PIPE, timeout=LIMIT).stdout
+    scene.check("options.pcap", made, (lessons / "options.pcap").read_bytes())
+
+
+@case
+def the_programs_of_the_lesson_on_libpcap(scene):
+    """Both listings are what the lesson's commands print, where tcpdump has the libpcap that the lesson names."""
+    lessons = EXAMPLES / "lessons"
+    page = (lessons / "libpcap.md").read_text()
+    text = re.search(r"\$ text='(.*)'", page)[1]
+    commands = re.findall(r"^    tcpdump (-y EN10MB .*)\"\$text\" > examples/lessons/(.*)$", page, re.M)
+    scene.check("commands", len(commands), 2)
+    if not scene.has("tcpdump"):
+        return
+    version = subprocess.run(["tcpdump", "--version"], stdout=subprocess.PIPE, stderr=subprocess.STDOUT, text=True, timeout=LIMIT).stdout
+    if f"libpcap version {re.search(r'libpcap ([0-9.]+[0-9])', page)[1]} " not in version:
+        scene.leave("tcpdump has another libpcap than the lesson's")
+        return
+    for options, name in commands:
+        printed = subprocess.run(["tcpdump", *options.split(), text], stdout=subprocess.PIPE, timeout=LIMIT).stdout
+        scene.check(name, printed, (lessons / name).read_bytes())
+
+
+def cooked(link, head, order):
+    """The real capture as one of the interface `any`: each Ethernet header is replaced by what `head` makes of it."""
+    def number(value, size=4):
+        return value.to_bytes(size, order)
+    parts = [number(0xA1B2C3D4), number(2, 2), number(4, 2), bytes(8), number(262144), number(link)]
+    for record in records(VETH.read_bytes()):
+        times = [int.from_bytes(record[place : place + 4], "little") for place in (0, 4)]
+        frame = head(record[16:30]) + record[30:]
+        parts += [*map(number, times), number(len(frame)) * 2, frame]
+    return b"".join(parts)
+
+
+# The link types LINUX_SLL and LINUX_SLL2, and their headers, of a sent packet with an address of six bytes.
+COOKED = {
+    113: lambda head: bytes.fromhex("0004 0001 0006") + head[6:12] + bytes(2) + head[12:14],
+    276: lambda head: head[12:14] + bytes.fromhex("0000 00000002 0001 04 06") + head[6:12] + bytes(2),
+}
+
+
+@case
+def a_cooked_capture_becomes_one_of_ethernet(scene):
+    """What the script writes of a capture of either form, in both byte orders, is the capture with 0 for the receiver's address."""
+    wanted = [record[:16] + bytes(6) + record[22:] for record in records(VETH.read_bytes())]
+    for link, head in COOKED.items():
+        for order in ("little", "big"):
+            scene.start({"any.pcap": cooked(link, head, order)})
+            words = [sys.executable, EXAMPLES / "python" / "cooked.py", "any.pcap", "out.pcap"]
+            done = subprocess.run(words, cwd=scene.folder, stdout=subprocess.PIPE, stderr=subprocess.STDOUT, timeout=LIMIT)
+            scene.check(f"{link}, {order}", (done.stdout, done.returncode), (b"", 0))
+            scene.expect("cut -s 0 out.pcap again.pcap")
+            scene.check(f"frames of {link}, {order}", records(scene.read("again.pcap")), wanted)

@@ -1,6 +1,7 @@
 """`./install` and `./package`: what is put where, what is printed, and what is refused. A stand-in takes the program's place."""
-import os
+import hashlib
 import json
+import os
 import pathlib
 import re
 import shutil
@@ -243,6 +244,23 @@ def what_was_changed_is_not_installed(scene):
     seen = install(scene, source, str(scene.folder / "there"))
     scene.check("install", seen, Seen(b"", f"{line}install: nothing was put under {scene.folder}/there\n".encode(), 1))
     scene.check("put", put_below(scene.folder / "there"), set())
+    seen = install(scene, source, str(scene.folder / "packages"), program="package")
+    scene.check("package", (line.encode() in seen.err, seen.out, seen.status), (True, b"", 1))
+
+
+@case
+def a_page_that_was_changed_is_not_installed(scene):
+    """The released page is put beside the documents if it has its checksum; else nothing is installed or packaged."""
+    source = source_in(scene)
+    page, sums = source.folder / "release" / "bpftap.html", source.folder / "release" / "SHA256SUMS"
+    page.write_text("<p>a page\n")
+    sums.write_text(f"{sums.read_text()}{hashlib.sha256(page.read_bytes()).hexdigest()}  bpftap.html\n")
+    scene.check("as released", install(scene, source, str(scene.folder / "here")).status, 0)
+    scene.check("put", "share/doc/bpftap/bpftap.html" in put_below(scene.folder / "here"), True)
+    page.write_text("<p>another page\n")
+    line = "bpftap: release/bpftap.html is damaged: its SHA-256 is not the one in release/SHA256SUMS\n"
+    seen = install(scene, source, str(scene.folder / "there"))
+    scene.check("install", seen, Seen(b"", f"{line}install: nothing was put under {scene.folder}/there\n".encode(), 1))
     seen = install(scene, source, str(scene.folder / "packages"), program="package")
     scene.check("package", (line.encode() in seen.err, seen.out, seen.status), (True, b"", 1))
 

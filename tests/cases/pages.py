@@ -100,6 +100,25 @@ def the_version_stands_once(scene):
 
 
 @case
+def pages_state_the_bounds_and_statuses_of_the_program(scene):
+    """The bound of a text, the status of a difference and the rule on OUT read on the pages as they are in the code or as the program has them."""
+    shift = re.search(r"^pub const MAX_TEXT: usize = 1 << (\d+);", (ROOT / "crates/cli_files/src/reading.rt").read_text(), re.M)
+    bound = f"| `bpftap: TextTooLong` | 1 | LISTING, LINES, LISTENERS or SCRIPT has more than {1 << int(shift[1]):,} bytes"
+    scene.check("bound on FAULTS", bound in (ROOT / "docs/FAULTS.md").read_text(), True)
+    apart = ["ip", "ip and (ip[40] = 0 or ip[40] != 0)"]
+    for pair, line in [(apart, "differ only where one aborts"), (["tcp", "udp"], "differ")]:
+        done = subprocess.run([PROGRAM, "compare", *pair], capture_output=True, text=True, timeout=LIMIT)
+        page = (ROOT / "man/bpftap-compare.1").read_text()
+        item = re.search(rf"^\.It {done.returncode}\n(.*?)^\.(?:It|El)", page[page.index(".Sh EXIT STATUS"):], re.M | re.S)
+        scene.check(f"line of {pair}", done.stdout.splitlines()[0], line)
+        scene.check(f"status of {line}", bool(item) and re.search(rf"^\.Li {line}( \.)?$", item[1], re.M) is not None, True)
+    (scene.folder / "in.pcap").write_bytes(b"")
+    done = subprocess.run([PROGRAM, "cut", "-s", "0", "in.pcap", "in.pcap", "out.pcap"], cwd=scene.folder, capture_output=True, timeout=LIMIT)
+    refused = "three words or more without it are refused before a file is opened." in (ROOT / "man/bpftap-cut.1").read_text()
+    scene.check("three words", (done.returncode, (scene.folder / "out.pcap").exists(), refused), (1, False, True))
+
+
+@case
 def what_is_linked_in_has_its_notice(scene):
     """NOTICES names each library of the toolchain that a crate uses; a file that is given away alone names the licence."""
     lines = [line.partition(":") for line in (ROOT / "crates.txt").read_text().splitlines() if re.match(r"[a-z]", line)]

@@ -371,8 +371,10 @@ def what_others_noted_is_not_run(scene):
             shutil.rmtree(cache, ignore_errors=True)
             plant(clone, place)
             mode = (place / what).stat().st_mode
-            (place / what).chmod(mode | 0o002)
-            scene.check(f"others can write to {place.name}/{what}", (clone.call("--version").out, has_run(clone)), (RELEASED, False))
+            for others in [0o002, 0o020]:
+                (place / what).chmod(mode | others)
+                seen = clone.call("--version").out, has_run(clone)
+                scene.check(f"{others:o} can write to {place.name}/{what}", seen, (RELEASED, False))
     for name in ["../planted", "released/../../planted"]:
         shutil.rmtree(out, ignore_errors=True)
         shutil.rmtree(cache)

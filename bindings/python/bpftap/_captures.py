@@ -143,9 +143,11 @@ class Capture:
     def _packets(self, offsets):
         """The packets whose bytes begin at these offsets."""
         content, fields, unit = self.content, self._fields, 1 if self.nanoseconds else 1000
+        is_view = type(content) is not bytes
         for offset in offsets:
             seconds, part, captured, wire = fields(content, offset - 16)
-            yield _new(Packet, (bytes(content[offset : offset + captured]), wire, seconds, part * unit))
+            data = content[offset : offset + captured]
+            yield _new(Packet, (bytes(data) if is_view else data, wire, seconds, part * unit))
 
     def _offsets(self):
         """Where the bytes of each packet begin."""

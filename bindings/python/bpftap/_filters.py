@@ -11,7 +11,7 @@ from typing import TYPE_CHECKING, Any, NamedTuple
 
 from . import _library
 from ._errors import Fault, raise_fault
-from ._library import MAX_INSNS, MAX_SNAP, Insn, buffer_of, in_range, int_of, lib, program_run, text, utf8
+from ._library import MAX_INSNS, MAX_SNAP, Insn, buffer_of, in_range, int_of, lib, program_run, quick_run, text, utf8
 from ._packets import Packet, parts_of
 from ._stacks import reading
 
@@ -56,6 +56,8 @@ class Look(NamedTuple):
 
 # How many packets are handed over at once: what they take stays in the processor's cache.
 BATCH = 1024
+# Numbers below this one are a digit of Python, which it compares the fastest.
+QUICK = 2**30
 
 
 def _row(place: int, insn: Sequence[int]) -> tuple[int, ...]:
@@ -111,8 +113,9 @@ class Filter:
         self.expression = expression
         self._insns, self._size = insns, size
         self._program = ctypes.create_string_buffer(lib.bpftap_program_size() + 16)
-        # A buffer of ctypes is aligned to 16 bytes already; the room beside it costs nothing and makes sure.
-        self._at = ctypes.c_void_p((ctypes.addressof(self._program) + 15) & ~15)
+        # A buffer of ctypes is aligned to 16 bytes already; the room beside it costs nothing and makes sure. ctypes passes what `byref` makes
+        # without another object.
+        self._at = ctypes.byref(self._program, -ctypes.addressof(self._program) % 16)
         raise_fault(FilterError, lib.bpftap_program_init(self._at, insns, size), 0)
 
     def __reduce__(self):
@@ -125,11 +128,20 @@ class Filter:
     def run(self, packet: Packet | bytes, wire: int | None = None) -> int:
         """How many bytes of a packet the filter keeps, 0 if it rejects it. `wire` is the packet's length on the wire; without it that is the one
         of a `Packet`, and the number of captured bytes of anything else."""
+        if type(packet) is Packet:
+            if wire is None:
+                wire = packet[1]
+            packet = packet[0]
+        elif wire is None and type(packet) is bytes:
+            wire = len(packet)
+        # What most packets are: two thirds of the time that the calls below take.
+        if type(packet) is bytes and type(wire) is int and 0 <= wire < QUICK and len(packet) < QUICK:
+            return quick_run(self._at, packet, len(packet), wire)
         return program_run(self._at, *parts_of(packet, wire))
 
     def matches(self, packet: Packet | bytes, wire: int | None = None) -> bool:
         """Whether the filter accepts a packet."""
-        return program_run(self._at, *parts_of(packet, wire)) != 0
+        return self.run(packet, wire) != 0
 
     def run_each(self, packets: Iterable[Packet | bytes], wire: Iterable[int] | None = None) -> array[int]:
         """What the filter answers to each of many packets. `wire` are their lengths on the wire; without it they are as `run` says."""

@@ -139,17 +139,17 @@ for _name, (_returns, _takes) in _FUNCTIONS.items():
     _function = getattr(lib, f"bpftap_{_name}")
     _function.restype, _function.argtypes = _returns, _takes
 
-_run = _short.bpftap_program_run
-_run.restype = c_uint32
+quick_run = _short.bpftap_program_run
+quick_run.restype = c_uint32
 
 
 def program_run(program, packet, wire):
-    """`bpftap_program_run` of a program, which is a `c_void_p`, over `bytes`. Without types for its arguments ctypes takes half the time: it
-    passes each number as an `int`, of which C takes all 32 bits for `wire`, and for the size as many as a packet may have here."""
+    """`bpftap_program_run` of a program, which is a pointer that `byref` made, over `bytes`. Without types for its arguments ctypes takes half the
+    time: it passes each number as an `int`, of which C takes all 32 bits for `wire`, and for the size as many as a packet may have here."""
     size = len(packet)
     if size >= 2**31:
         raise ValueError(f"packet has {size} bytes, which are 2 GiB or more")
-    return _run(program, packet, size, wire)
+    return quick_run(program, packet, size, wire)
 
 
 def text(call, room=4096):

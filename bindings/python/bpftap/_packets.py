@@ -34,8 +34,8 @@ class Message(NamedTuple):
 def parts_of(packet: Packet | Message | bytes, wire: int | None = None) -> tuple[bytes, int]:
     """The captured bytes of a packet and its length on the wire: the one that is passed, else that of the packet, else all bytes."""
     if isinstance(packet, (Packet, Message)):
-        wire = packet.wire if wire is None else wire
-        packet = packet.data
+        wire = packet[1] if wire is None else wire
+        packet = packet[0]
     if type(packet) is not bytes:
         packet = bytes_of("packet", packet)
     if wire is None:

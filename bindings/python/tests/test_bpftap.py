@@ -2,6 +2,7 @@
 """The package, by Python's own unittest: what its page says, and every error."""
 import array
 import copy
+import ctypes
 import dataclasses
 import mmap
 import os
@@ -96,7 +97,7 @@ class Filters(unittest.TestCase):
             del found
             for other in copies:
                 self.assertEqual(([other.run(UDP), other.run(TCP)], (other.expression, other.program)), (answers, wanted))
-            self.assertEqual(len({other._at.value for other in copies}), len(copies))
+            self.assertEqual(len({ctypes.addressof(other._program) for other in copies}), len(copies))
 
     def test_the_canonical_form(self):
         self.assertEqual(Filter("tcp dst port 80 or 443").canonical, "tcp dst port 80 or tcp dst port 443")

@@ -45,7 +45,8 @@ the reading. An expression that begins with - is written in parentheses. EXPR1 i
 Without IN both filters are decided for every packet. compare prints one of these:
   same                                      on every packet, of every length
   same as captured                          if no more bytes were captured than were on the wire
-  differ only where one aborts              one is Yes where the frame is too short for the other
+  differ only where one aborts              one is Yes where the frame is too short for the other,
+                                            if no more bytes were captured than were on the wire
   differ                                    one is Yes and the other No
   not decided: CAUSE                        nothing is claimed
 If they differ, a packet that shows it follows: its lengths, both answers, and its bytes. -w writes

@@ -39,7 +39,7 @@ const CUT_EXAMPLES: &str = "Examples:
   bpftap cut -s 64 examples/veth.pcap headers.pcap     # the first 64 bytes of every packet
   bpftap cut -s 0 -e arp -w arp.pcap examples/veth.pcap examples/veth-big-nano.pcap
 
-OUT is the word after IN, or that of -w. Several IN take -w, so that none of them is overwritten.
+OUT is the word after IN, or that of -w. Several IN take -w: three words without it are refused.
 They are read in order, up to the first fault; -c counts the packets of all. -u micro cuts
 nanoseconds off, and -u nano keeps them. -e and -f exclude each other. Write an expression that
 begins with - in parentheses, or after -e=, as in -e='-1 + len > 60'.

@@ -1,0 +1,4 @@
+pub mod Numbers
+pub mod Shifts
+pub mod Nodes
+pub mod Values

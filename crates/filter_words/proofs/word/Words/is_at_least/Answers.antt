@@ -1,0 +1,4 @@
+use Rattle.filter_words.proofs.word.Words.is_at_least.Goals as goal
+
+pub returns-clause-says : goal.returns-clause-says
+returns-clause-says c = c.order.ensures.says
