@@ -9,9 +9,9 @@ use Rattle.bpftap_c.specs.Spans.{span_of, GivesAll}
 -- a further record is the last one
 pub further : (memory : List ℕ) (given : List BpftapRecord) (old middle new : BpftapReader) (last : BpftapRecord)
     → GivesAll memory given old middle → last.fault ≡ 0 → GivesNext memory middle new last → GivesAll memory (given ++ last ∷ []) old new
-further memory [] old middle new last same fine gives = (fine, new, subst (λ (r : BpftapReader). GivesNext memory r new last) same gives, refl)
-further memory (first ∷ later) old middle new last (ok, next, gave, rest) fine gives =
-    (ok, next, gave, further memory later next middle new last rest fine gives)
+further memory [] old middle new last same fine gives = (fine, (new, subst (λ (r : BpftapReader). GivesNext memory r new last) same gives, refl))
+further memory (first ∷ later) old middle new last (ok, (next, gave, rest)) fine gives =
+    (ok, (next, gave, further memory later next middle new last rest fine gives))
 
 pub lengthened : (given : List BpftapRecord) (last : BpftapRecord) → length (given ++ last ∷ []) ≡ length given + 1
 lengthened [] last = refl

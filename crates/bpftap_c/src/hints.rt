@@ -1,8 +1,8 @@
 //! What helps to fix an expression that is refused.
 
-ghost use Rattle.std.specs.Prelude.{◌≡◌, ◌↔◌, IfErr, IfNone, IfOk, IfSome, IsSome, Result, List, string_bytes, ℕ};
+ghost use Rattle.std.specs.Prelude.{◌≡◌, IfErr, IfNone, IfOk, IfSome, Result, List, [], false, string_bytes, ℕ};
 ghost use Rattle.bpftap_c.specs.declared.outcome.Failure.{Failure};
-ghost use Rattle.bpftap_c.specs.Hints.{HasHint, IsAdviceOn, IsHinted, IsNoRefusal, IsNoTextFault, IsPlaced, Says};
+ghost use Rattle.bpftap_c.specs.Hints.{has_hint, IsHinted, IsNoRefusal, IsNoTextFault, IsPlaced, Says};
 ghost use Rattle.bpftap_c.specs.Memory.{DeliversText};
 ghost use Rattle.bpftap_c.specs.Outcome.{text_code, tree_code};
 
@@ -55,10 +55,7 @@ fn advice_on<'a>(
     text: &'a str,
     code: u32,
     place: usize,
-) -> Result<Option<Advice<'a>>, AllocError>
-    ensures some { IfOk result (λ found. IsSome found ↔ HasHint code) }
-    ensures stated { IfOk result (λ found. IfSome found (IsAdviceOn code)) }
-{
+) -> Result<Option<Advice<'a>>, AllocError> {
     match (text_fault(code, place), refusal_of(code)) {
         (Some(fault), _) => advise(alloc, text, fault),
         (None, Some(refusal)) => Ok(advise_refusal(refusal)),
@@ -76,7 +73,28 @@ fn hint_of(alloc: Global, advice: Advice<'_>) -> Result<String, AllocError>
     }
 }
 
+/// Whether something helps at a fault with this number.
+fn has_hint(code: u32) -> bool
+    ensures { result ≡ has_hint code }
+{
+    (32 <= code && code <= 43) || code == 48 || code == 49
+}
+
 /// What helps at a fault, as a text that is empty if nothing does.
+fn hint_on(alloc: Global, text: &str, code: u32, place: usize) -> Result<String, AllocError>
+    ensures { has_hint code ≡ false → IfOk result (λ line. string_bytes line ≡ []) }
+{
+    if !has_hint(code) {
+        return Ok(String::new(alloc));
+    }
+    match advice_on(alloc, text, code, place) {
+        Ok(Some(advice)) => hint_of(alloc, advice),
+        Ok(None) => Ok(String::new(alloc)),
+        Err(AllocError) => Err(AllocError),
+    }
+}
+
+/// What helps at a fault, or that the bytes are no text.
 fn hint(alloc: Global, text: &[u8], code: u32, place: usize) -> Result<String, Failure>
     ensures ok { IfOk result (λ line. IsHinted text.now code (Result.Ok (string_bytes line))) }
     ensures err { IfErr result (λ failure. IsHinted text.now code (Result.Err failure)) }
@@ -85,12 +103,7 @@ fn hint(alloc: Global, text: &[u8], code: u32, place: usize) -> Result<String, F
         Ok(text) => text,
         Err(failure) => return Err(failure),
     };
-    let made = match advice_on(alloc, text, code, place) {
-        Ok(Some(advice)) => hint_of(alloc, advice),
-        Ok(None) => Ok(String::new(alloc)),
-        Err(AllocError) => Err(AllocError),
-    };
-    match made {
+    match hint_on(alloc, text, code, place) {
         Ok(line) => Ok(line),
         Err(AllocError) => Err(Failure::NoMemory),
     }

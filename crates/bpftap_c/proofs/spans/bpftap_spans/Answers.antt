@@ -1,4 +1,4 @@
-use Rattle.std.proofs.Common.{◌≡◌, ◌+◌, ◌<◌, ◌≢◌, inr, ℕ, List, [], ◌∷◌, ◌++◌, length, sym, subst, arith}
+use Rattle.std.proofs.Common.{◌≡◌, ◌<◌, ◌≢◌, inr, ℕ, [], ◌∷◌, ◌++◌, length, sym, subst, arith}
 use Rattle.bpftap_c.specs.declared.captures.BpftapReader.{BpftapReader}
 use Rattle.bpftap_c.specs.Captures.{GivesNext}
 use Rattle.bpftap_c.specs.Spans.{stopped, GivesAll}
@@ -20,10 +20,12 @@ returns-then-record-ne0 c =
       spans,
       inr (
         short,
-        last,
-        differ,
-        subst (λ (r : BpftapReader). GivesNext memory r new last) (sym same) gives,
-        subst (λ (n : ℕ). c.stopped.result ≡ stopped n last) (sym size) c.stopped.ensures,
+        (
+          last,
+          differ,
+          subst (λ (r : BpftapReader). GivesNext memory r new last) (sym same) gives,
+          subst (λ (n : ℕ). c.stopped.result ≡ stopped n last) (sym size) c.stopped.ensures,
+        ),
       ),
     )
 
