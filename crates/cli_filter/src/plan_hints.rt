@@ -4,9 +4,9 @@ use crate::filters::hint_expression;
 use crate::plan::{PlanFault, PlanLine, read_lines};
 use cli_report::HintSink;
 use cli_report::files::hint_bad_line;
-use cli_report::shown::Shown;
 use cli_report::stream::give_hint;
 use std::alloc::Global;
+use visible_text::Shown;
 
 /// A hint on an expression that begins with the end of a path: the path has a blank, at which OUT ends.
 fn hint_blank<E: HintSink>(output: &str, expression: &str, err: &mut E) {

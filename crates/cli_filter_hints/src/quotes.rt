@@ -2,9 +2,8 @@
 
 ghost use Rattle.std.specs.Prelude.{◌≡◌, false};
 
-use crate::nearest::is_word;
-use crate::suggestions::{is_whole, reads_on};
 use cli_report::stream::{HintSink, give_hint};
+use filter_hints::{is_expression, is_word, reads_on};
 use filterlang::{Fault, lex};
 use std::alloc::{AllocError, Global};
 use std::convert::AsStr;
@@ -135,7 +134,7 @@ fn is_suggested<S: AsStr>(alloc: Global, words: &[S], text: &str) -> Result<bool
     } else if is_check(words) {
         reads_on(alloc, text, 0)
     } else {
-        is_whole(alloc, text)
+        is_expression(alloc, text)
     }
 }
 
@@ -201,7 +200,7 @@ pub fn hint_listing_word<S: AsStr, E: HintSink>(alloc: Global, words: &[S], err:
     let Some(text) = listing_of(words) else {
         return;
     };
-    if begins_with_word(text) && can_be_quoted(text) && is_whole(alloc, text) == Ok(true) {
+    if begins_with_word(text) && can_be_quoted(text) && is_expression(alloc, text) == Ok(true) {
         give_hint(
             format_args!("this is an expression, which goes after -e: -e '{text}'"),
             err,

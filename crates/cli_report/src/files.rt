@@ -4,10 +4,10 @@ ghost use Rattle.std.specs.Prelude.{◌≡◌, false};
 ghost use Rattle.listener.specs.Messages.{size};
 
 use crate::captures::is_capture;
-use crate::shown::Shown;
 use crate::stream::{HintSink, give_hint};
 use cli_text::fields::first_line;
 use std::io;
+use visible_text::Shown;
 
 /// The form of a line of LINES, and what else it needs.
 pub const LINES: &str = "SNAP OUT EXPRESSION, with SNAP up to 262144 and an OUT of its own";

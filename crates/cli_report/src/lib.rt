@@ -7,7 +7,6 @@ pub mod commands;
 pub mod failures;
 pub mod files;
 pub mod probe;
-pub mod shown;
 pub mod stream;
 
 pub use probe::FailureProbe;

@@ -2,9 +2,9 @@
 
 ghost use Rattle.std.specs.Prelude.{◌≤◌, ◌+◌, length};
 
-use cli_report::shown::visible;
 use std::fmt;
 use std::fmt::{Display, Formatter};
+use visible_text::visible;
 
 /// At most this many bytes of a text are shown before a place, and as many after it.
 const AROUND: usize = 36;
@@ -12,9 +12,9 @@ const AROUND: usize = 36;
 /// What is shown in place of the text before or after the part that is shown.
 const CUT: &str = "..";
 
-/// The part of a text that is shown: bytes `start` to `end`, and a place among them or at their end.
+/// The part of a text around a place, as it is shown: at most 36 bytes before the place and 36 from there on, with `..` for what is left out.
 #[derive(Clone, Copy)]
-pub(crate) struct Excerpt<'a> {
+pub struct Excerpt<'a> {
     text: &'a str,
     start: usize,
     place: usize,
@@ -25,7 +25,7 @@ pub(crate) struct Excerpt<'a> {
 
 impl<'a> Excerpt<'a> {
     /// The part of a text around a place; around its end for a place past it.
-    pub(crate) fn new(text: &'a str, place: usize) -> Excerpt<'a>
+    pub fn new(text: &'a str, place: usize) -> Excerpt<'a>
         ensures before { result.place ≤ result.start + AROUND }
         ensures behind { result.end ≤ result.place + AROUND }
         ensures within { result.end ≤ length text.now }
@@ -58,9 +58,9 @@ impl Display for Excerpt<'_> {
     }
 }
 
-/// A caret below the place of an excerpt.
+/// A caret, below the place of an excerpt.
 #[derive(Clone, Copy)]
-pub(crate) struct Caret<'a>(pub Excerpt<'a>);
+pub struct Caret<'a>(pub Excerpt<'a>);
 
 /// A blank for each character that the excerpt shows before its place, and then the caret.
 impl Display for Caret<'_> {

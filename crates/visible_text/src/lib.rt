@@ -1,4 +1,5 @@
-//! Texts of files and of the command line, as they are shown.
+//! Texts of files, of the command line and of expressions, as a terminal shows them.
+#![tactic(auto)]
 
 ghost use Rattle.std.specs.Prelude.{◌≡◌, false};
 ghost use Rattle.std.specs.Char.{is_control};

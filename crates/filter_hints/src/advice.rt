@@ -1,16 +1,22 @@
 //! What helps to fix an expression.
 
+ghost use Rattle.std.specs.Prelude.{◌≡◌, ◌↔◌, ◌⊎◌, IfNone, IfOk, IfSome, IsNone, IsSome, None, Some};
+ghost use Rattle.filter_hints.specs.Advising.{IsSaying, deep_relation, long_text, second_line, sentence, way_line};
+ghost use Rattle.filter_hints.specs.declared.advice.Advice.TheVariants.{LongProgram};
+ghost use Rattle.filtergen_facts.specs.declared.refusal.Refusal.TheVariants as Refusal;
+ghost use Rattle.filterlang.specs.declared.fault.Fault.TheVariants as Fault;
+
 use crate::addresses::{AsGroup, WithColons, of_comma, of_ethernet, of_ipv6, of_net, of_range};
 use crate::display_filters::{of_dots, of_service, of_text};
 use crate::nearest::in_small_letters;
 use crate::other_words::{of_ip_broadcast, of_left_out, of_other_word, of_value};
 use crate::spots::{PROTO, Spot, first_word, without_blanks, without_last_word};
-use crate::suggestions::place_of;
-use cli_report::shown::Shown;
+use filtergen_facts::Refusal;
 use filterlang::Fault;
 use std::alloc::{AllocError, Global};
 use std::fmt;
 use std::fmt::{Display, Formatter};
+use visible_text::Shown;
 
 /// The word that the number of a port follows.
 const PORT: &[u8] = b"port";
@@ -25,14 +31,22 @@ const ETHERNET_TYPE: &str =
 /// The word that two ports follow.
 const PORTRANGE: &[u8] = b"portrange";
 
-/// What helps to fix an expression.
+/// What is said of an expression whose program is too long.
+const LONG_PROGRAM: &str =
+    "its program may have more than 512 instructions: cut it into parts, with a `bpftap cut` for each,";
+
+/// What is said of an expression with a relation that is too deep.
+const DEEP_RELATION: &str =
+    "write long sums from the left, `a + b + c`, not `a + (b + c)`: a relation has 16 words of memory";
+
+/// What helps to fix an expression: it prints as a sentence.
 #[derive(Clone, Copy)]
-pub(crate) enum Advice<'a> {
+pub enum Advice<'a> {
     /// A sentence that is the same for each such fault.
     Said(&'static str),
     /// A sentence around a word in backquotes.
     Round(&'static str, &'a [u8], &'static str),
-    /// A sentence around a word that libpcap may read.
+    /// A sentence around a word that libpcap's compiler may read.
     Elsewhere(&'static str, &'a [u8], &'static str),
     /// What is written here for a word, and what stands right before that, as a backslash.
     Written(&'static str, &'static str, &'a [u8]),
@@ -46,6 +60,8 @@ pub(crate) enum Advice<'a> {
     Service(&'static str, &'a [u8]),
     /// What is written for a field of a display filter, and that field.
     Field(&'static str, &'a [u8]),
+    /// An expression whose program is too long; libpcap's compiler may find a shorter one.
+    LongProgram,
 }
 
 impl<'a> Advice<'a> {
@@ -68,9 +84,16 @@ impl<'a> Advice<'a> {
         )
     }
 
-    /// Whether libpcap's compiler may read what is not read here.
-    pub(crate) fn may_be_read_elsewhere(&self) -> bool {
-        matches!(self, Advice::Elsewhere(..))
+    /// The way over libpcap's compiler, if that may make a program where this one does not: a second line below the sentence.
+    pub fn by_libpcap(&self) -> Option<ByLibpcap>
+        ensures some { IfSome result (λ way. second_line self.now ≡ Some (way_line way)) }
+        ensures none { IfNone result (second_line self.now ≡ None) }
+    {
+        match self {
+            Advice::Elsewhere(_, _, _) => Some(ByLibpcap("libpcap may read that")),
+            Advice::LongProgram => Some(ByLibpcap("or try whether libpcap finds a shorter one")),
+            _ => None,
+        }
     }
 
     /// The word that may be meant.
@@ -84,10 +107,29 @@ impl<'a> Advice<'a> {
     }
 }
 
+/// The way to a program that this compiler does not make: it prints as a line.
+#[derive(Clone, Copy)]
+pub struct ByLibpcap(&'static str);
+
+impl Display for ByLibpcap {
+    ghost output = { λ way. Some (way_line way) };
+
+    fn fmt<W: fmt::Write>(&self, f: &mut Formatter<W>) -> fmt::Result {
+        write!(
+            f,
+            "{}: tcpdump -y EN10MB -ddd EXPR > f.bpf, then -f f.bpf with cut, check or explain",
+            self.0
+        )
+    }
+}
+
 impl Display for Advice<'_> {
+    ghost output = { λ advice. sentence advice };
+
     fn fmt<W: fmt::Write>(&self, f: &mut Formatter<W>) -> fmt::Result {
         match self {
             Advice::Said(sentence) => f.write_str(*sentence),
+            Advice::LongProgram => f.write_str(LONG_PROGRAM),
             Advice::Round(before, word, after) | Advice::Elsewhere(before, word, after) => {
                 write!(f, "{before}{}{after}", Shown(*word))
             }
@@ -383,35 +425,55 @@ fn of_place<'a>(alloc: Global, spot: Spot<'a>) -> Found<'a> {
     of_dots(alloc, spot)
 }
 
-/// What helps to fix a text that is refused. The error is that memory was refused, without which a suggestion cannot be tried.
-pub(crate) fn advice_on<'a>(alloc: Global, text: &'a str, fault: Fault) -> Found<'a> {
-    let Some(place) = place_of(fault) else {
-        return Ok(sentence(fault));
+/// What helps to fix a text that is refused with this fault, as `parse` returns it. A word is suggested only if the text with it put in is
+/// an expression, or reads on past it. There is an advice for each fault but `NoMemory`. The error is that memory was refused, without which
+/// a suggestion cannot be tried.
+pub fn advise<'a>(
+    alloc: Global,
+    text: &'a str,
+    fault: Fault,
+) -> Result<Option<Advice<'a>>, AllocError>
+    ensures none { IfOk result (λ found. IsNone found ↔ (fault ≡ Fault.NoMemory)) }
+    ensures long { fault ≡ Fault.TextTooLong → IfOk result (λ found. IfSome found (IsSaying long_text)) }
+{
+    let Some(place) = fault.place() else {
+        return Ok(without_place(fault));
     };
     let spot = Spot::new(text, place);
     match of_place(alloc, spot)? {
         Some(advice) => Ok(Some(advice)),
-        None => of_fault(alloc, spot, fault),
+        None => Ok(Some(of_fault(alloc, spot, fault)?)),
+    }
+}
+
+/// What helps at a fault that has no place.
+fn without_place(fault: Fault) -> Option<Advice<'static>>
+    ensures none { IsNone result ↔ (fault ≡ Fault.NoMemory) }
+    ensures long { fault ≡ Fault.TextTooLong → IfSome result (IsSaying long_text) }
+{
+    match fault {
+        Fault::NoMemory => None,
+        _ => Some(Advice::Said(sentence(fault))),
     }
 }
 
 /// What helps at the place of a fault.
-fn of_fault<'a>(alloc: Global, spot: Spot<'a>, fault: Fault) -> Found<'a> {
+fn of_fault<'a>(alloc: Global, spot: Spot<'a>, fault: Fault) -> Result<Advice<'a>, AllocError> {
     match fault {
-        Fault::BadByte(_) => Ok(Some(of_byte(alloc, spot)?)),
-        Fault::BadWord(_) => Ok(Some(of_word(alloc, spot)?)),
-        Fault::BadNumber(_) => Ok(Some(of_number(first_word(spot.rest())))),
-        Fault::Syntax(_) => Ok(Some(of_syntax(alloc, spot)?)),
-        Fault::NoQualifier(_) => Ok(Some(of_no_qualifier(spot.before()))),
-        _ => Ok(sentence(fault)),
+        Fault::BadByte(_) => of_byte(alloc, spot),
+        Fault::BadWord(_) => of_word(alloc, spot),
+        Fault::BadNumber(_) => Ok(of_number(first_word(spot.rest()))),
+        Fault::Syntax(_) => of_syntax(alloc, spot),
+        Fault::NoQualifier(_) => Ok(of_no_qualifier(spot.before())),
+        _ => Ok(Advice::Said(sentence(fault))),
     }
 }
 
-/// The sentence of a fault for which it is always the same.
-fn sentence(fault: Fault) -> Option<Advice<'static>> {
-    let said = match fault {
-        Fault::TextTooLong =>
-            "an expression has at most 8192 bytes: cut it into parts, with a `bpftap cut` for each",
+/// The sentence of a fault for which it is always the same: these, and a text that is too long.
+fn sentence(fault: Fault) -> &'static str
+    ensures { fault ≡ Fault.TextTooLong → result.now ≡ long_text }
+{
+    match fault {
         Fault::BadQualifier(_) =>
             "these words do not go together: `host 192.0.2.1 and tcp`, not `tcp host 192.0.2.1`",
         Fault::BadIdentifier(_) =>
@@ -423,7 +485,20 @@ fn sentence(fault: Fault) -> Option<Advice<'static>> {
         Fault::DivideByZero(_) => "division by zero",
         Fault::TooNested(_) =>
             "at most 64 of `(`, `[`, `not` and `-` may be open at once: remove parentheses",
-        _ => return None,
-    };
-    Some(Advice::Said(said))
+        _ =>
+            "an expression has at most 8192 bytes: cut it into parts, with a `bpftap cut` for each",
+    }
+}
+
+/// What helps to fix an expression that has no program: nothing at a bad snapshot length or refused memory.
+pub fn advise_refusal(refusal: Refusal) -> Option<Advice<'static>>
+    ensures some { IsSome result ↔ ((refusal ≡ Refusal.TooLong) ⊎ (refusal ≡ Refusal.TooDeep)) }
+    ensures long { refusal ≡ Refusal.TooLong → result ≡ Some LongProgram }
+    ensures deep { refusal ≡ Refusal.TooDeep → IfSome result (IsSaying deep_relation) }
+{
+    match refusal {
+        Refusal::TooLong => Some(Advice::LongProgram),
+        Refusal::TooDeep => Some(Advice::Said(DEEP_RELATION)),
+        Refusal::BadSnap | Refusal::NoMemory => None,
+    }
 }

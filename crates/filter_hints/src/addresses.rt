@@ -2,10 +2,10 @@
 
 use crate::advice::{Advice, Found};
 use crate::spots::{Run, Spot, after_blanks, without_blanks};
-use cli_report::shown::Shown;
 use std::alloc::Global;
 use std::fmt;
 use std::fmt::{Display, Formatter};
+use visible_text::Shown;
 
 /// How many groups of 16 bits an IPv6 address has.
 const IPV6_GROUPS: usize = 8;

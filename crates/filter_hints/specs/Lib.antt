@@ -1,0 +1,3 @@
+pub mod Advising
+pub mod Edits
+pub mod Suggestions

@@ -1,0 +1,16 @@
+//! What is wrong with a filter expression that is refused, as sentences, and what to write instead.
+#![tactic(auto)]
+
+mod addresses;
+mod advice;
+mod display_filters;
+mod excerpt;
+mod nearest;
+mod other_words;
+mod spots;
+mod suggestions;
+
+pub use advice::{Advice, ByLibpcap, advise, advise_refusal};
+pub use excerpt::{Caret, Excerpt};
+pub use nearest::is_word;
+pub use suggestions::{is_expression, reads_on};
