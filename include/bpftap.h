@@ -4,21 +4,21 @@
  *     cc tool.c $(pkg-config --cflags --libs bpftap)
  *
  * The library is for 64-bit Linux on x86-64-v2 (any processor since about 2009: SSE4.2, POPCNT). On an older one the loader refuses the
- * shared library: *CPU ISA level is lower than required*; a program with the archive ends by SIGILL. The archive takes malloc, realloc,
- * free, memcpy, memmove and memset from the program's C library, and the shared library needs no library by name, so that one file serves
- * glibc and musl.
+ * shared library: *CPU ISA level is lower than required*; a program with the archive ends by SIGILL. bpftap_version names the processor.
+ * The archive takes malloc, realloc, free, memcpy, memmove and memset from the program's C library, and the shared library needs no library
+ * by name, so that one file serves glibc and musl.
  *
  * What every call has in common
  *
  *   - A text, a capture or an array is a pointer and the number of its items. A text need not end with a zero byte.
  *   - What a call writes goes into memory of the caller. It takes that memory as a pointer and the number of items that it has room
- *     for, and writes nothing past those. A call that fails writes nothing there, but for these: bpftap_cut, bpftap_picture and the calls
- *     bpftap_steps.. write what comes before a record that cannot be read; bpftap_program_init a program that rejects every packet;
+ *     for, and writes nothing past those. A call that fails writes nothing there, but for these: bpftap_cut, bpftap_spans, bpftap_picture and
+ *     the calls bpftap_steps.. write what comes before a record that cannot be read; bpftap_program_init a program that rejects every packet;
  *     bpftap_listener_open a closed listener.
  *   - A text that a call writes is followed by a zero byte. `size` does not count that byte, but there has to be room for it.
  *   - Nothing is kept between calls, and nothing that is allocated is handed out. There is no global state, and nothing is printed.
  *     Calls may run at the same time in different threads.
- *   - 128 KiB of stack are enough for a call that reads no expression. bpftap_compile, bpftap_print, bpftap_why, bpftap_looks,
+ *   - 128 KiB of stack are enough for a call that reads no expression. bpftap_compile, bpftap_print, bpftap_hint, bpftap_why, bpftap_looks,
  *     bpftap_compare, bpftap_picture and the calls bpftap_steps.. need 512 KiB for expressions of up to 1,000 bytes, and 2 MiB for any:
  *     give 2 MiB to a thread that takes expressions from outside. If both expressions of bpftap_compare ask for many bytes, it needs
  *     2 MiB for expressions of up to 1,000 bytes each, and 16 MiB for any. This is measured, not proved.
@@ -51,7 +51,7 @@ enum bpftap_fault {
     BPFTAP_NO_MEMORY = 1, /* malloc or realloc returned NULL */
     BPFTAP_NO_ROOM = 2,   /* `size` items do not fit into the caller's memory */
     BPFTAP_NOT_TEXT = 3,  /* the text is not UTF-8 from byte `place` on */
-    BPFTAP_END = 4,       /* bpftap_next, bpftap_listener_next: there is no further record */
+    BPFTAP_END = 4,       /* bpftap_next, bpftap_spans, bpftap_listener_next: there is no further record */
 
     /* The instructions are no program; `place` counts instructions from 0. */
     BPFTAP_EMPTY = 16,        /* there is no instruction */
@@ -344,6 +344,14 @@ struct bpftap_reader bpftap_open(const uint8_t *memory, size_t size);
  * reader.offset to 0, and call again. */
 struct bpftap_record bpftap_next(const uint8_t *memory, size_t size, struct bpftap_reader *reader);
 
+/* Reads many records at once: reads on as that many calls of bpftap_next do, and writes where the bytes of each record lie and its length on
+ * the wire, until there are `room` spans or a call would return a fault. `size` is the number of spans that were written. The reader is where
+ * those calls leave it, so the next call reads on. bpftap_run_spans and bpftap_program_run_spans take the spans as they are.
+ * Faults: those of bpftap_next, END too, with the same `place`: the number of records before it. The spans before it are written all the same.
+ * If there are `room` spans, the fault is BPFTAP_OK, whatever comes after them. */
+struct bpftap_result bpftap_spans(const uint8_t *memory, size_t memory_size, struct bpftap_reader *reader, struct bpftap_span *spans,
+                                  size_t room);
+
 /* Write the header of a capture, 24 bytes, and the record of a packet: 16 bytes and then `bytes`. The record has the time and the
  * wire length of `packet`, whose other members are not used but for `place` as the place of a fault. `order` and `unit` are those of a
  * reader, and any number but 0 is taken as 1; `snap` is written as it is. With microseconds the nanoseconds are divided by 1,000 and the
@@ -513,7 +521,15 @@ struct bpftap_replay bpftap_picture(const char *listeners, size_t listeners_size
  * prints `TooMany`. For a number that is no fault the text is `Unknown`. 64 bytes are always room enough. Faults: NO_ROOM, NO_MEMORY. */
 struct bpftap_result bpftap_fault_text(uint32_t fault, size_t place, char *to, size_t room);
 
-/* Writes the version of the library, as `2.0.0`. 64 bytes are always room enough. Faults: NO_ROOM. */
+/* Writes what helps to fix an expression that is refused: the sentence that the program prints below the line of such a fault. `fault` and
+ * `place` are those that bpftap_compile, or another call that reads expressions, returned for this text. If libpcap's compiler may make a
+ * program where this one makes none, a second line says how, after byte 10. If there is nothing to say, as of BPFTAP_BAD_SNAP and of a number
+ * that is no fault of an expression, `size` is 0. The words of the text that a sentence has are printable. 1,024 bytes are always room enough.
+ * Faults: NOT_TEXT, NO_ROOM, NO_MEMORY. */
+struct bpftap_result bpftap_hint(const char *text, size_t text_size, uint32_t fault, size_t place, char *to, size_t room);
+
+/* Writes the version of the library, as `2.0.0 x86-64-v2`: after a blank the processor that it is made for. 64 bytes are always room enough.
+ * Faults: NO_ROOM. */
 struct bpftap_result bpftap_version(char *to, size_t room);
 
 #ifdef __cplusplus

@@ -6,6 +6,7 @@ import re
 import subprocess
 import sys
 
+from . import hints
 from .common import LIMIT, ROOT, TORN, VETH, WHOLE, as_bytes, case, records
 
 sys.path.insert(0, str(ROOT / "bench"))
@@ -200,6 +201,29 @@ def answers_as_the_program_does(scene):
     for place in refused[:300]:
         scene.check(f"check {texts[place]}", scene.run(["check", texts[place]]).err, as_bytes(f"bpftap: {answers[place]}\n"))
     scene.check("some are accepted and some refused", (len(good) > 5000, len(refused) > 100), (True, True))
+
+
+@case
+def hints_are_those_of_the_program(scene):
+    """Expressions that are refused, by hand and random ones with a word changed: `bpftap_hint` writes the sentence that `bpftap check` prints below the
+    fault, and the line below it if there is one."""
+    if not is_there(scene) or not scene.has("gcc"):
+        return
+    scene.start({})
+    program, chance = compiled(scene, ["gcc", "-std=c11", "-O1", "-g", "-fsanitize=address,undefined"], "hints"), random.Random(19)
+    texts = [text for text, _, _ in hints.EXPRESSIONS if "\n" not in text and "\0" not in text] + ["ip", "x" * 9000]
+    for _ in range(300):
+        words = expression(chance).split()
+        place = chance.randrange(len(words))
+        words[place] = chance.choice([words[place][1:], words[place].upper(), words[place] + "x", "", "http", "1.2.3", "ip6"])
+        texts.append(" ".join(words))
+    ended = subprocess.run([program], input="\n".join(texts).encode() + b"\n", stdout=subprocess.PIPE, timeout=LIMIT) if program else None
+    seen = ended.stdout.decode().split("\n") if ended else []
+    scene.check("status and lines", (ended and ended.returncode, len(seen)), (0, len(texts) + 1))
+    for text, line in zip(texts, seen):
+        fault, *below = scene.run(["--hints", "check", text]).err.decode().splitlines() or [""]
+        has_place = fault.rpartition(" ")[2].isdigit()
+        scene.check(text[:100], line.split("\t") if line else [], [said[2:] for said in below[2 if has_place else 0 :]])
 
 
 # The first line that `bpftap compare` prints of two expressions without a capture.

@@ -22,6 +22,11 @@ def version():
     return re.search(r"^Version: (.+)$", (INCLUDE / "bpftap.pc").read_text(), re.M)[1]
 
 
+def version_line():
+    """What the library says of itself: its version, and the processor that it is made for."""
+    return f"{version()} x86-64-v2\n"
+
+
 def installed(scene):
     """A prefix with the header, both libraries, and the files for pkg-config and CMake, as ./install puts them."""
     prefix = scene.folder / "prefix"
@@ -79,7 +84,7 @@ def it_says_which_processor_it_needs(scene):
     if scene.has("qemu-x86_64"):
         said, status = done(scene, ["qemu-x86_64", "-cpu", "qemu64", "./tool"])
         scene.check("an old processor", ("CPU ISA level is lower than required" in said, status), (True, 127))
-        scene.check("one that will do", done(scene, ["qemu-x86_64", "-cpu", "Nehalem", "./tool"]), (f"{version()}\n", 0))
+        scene.check("one that will do", done(scene, ["qemu-x86_64", "-cpu", "Nehalem", "./tool"]), (version_line(), 0))
 
 
 @case
@@ -92,7 +97,7 @@ def links_as_its_page_says(scene):
     words = ["gcc", "tool.c", f"-I{INCLUDE}", f"-L{folder}", "-o", "tool"]
     for flags, shared in ((["-lbpftap", f"-Wl,-rpath,{folder}"], True), (["-l:libbpftap.a"], False), (["-static", "-lbpftap"], False)):
         passes(scene, [*words, *flags])
-        scene.check(f"{flags[0]}: the version", done(scene, ["./tool"]), (f"{version()}\n", 0))
+        scene.check(f"{flags[0]}: the version", done(scene, ["./tool"]), (version_line(), 0))
         needed, _ = done(scene, ["readelf", "-d", "tool"])
         scene.check(f"{flags[0]}: needs the shared library", "[libbpftap.so.1]" in needed, shared)
     for flags, exported in (([], True), (["-Wl,--exclude-libs,ALL"], False)):
@@ -109,7 +114,7 @@ def serves_each_c_library(scene):
         passes(scene, ["musl-gcc", "tool.c", f"-I{INCLUDE}", LIBRARY, f"-Wl,-rpath,{LIBRARY.parent}", "-o", "shared"])
         passes(scene, ["musl-gcc", "-static", "tool.c", f"-I{INCLUDE}", ARCHIVE, "-o", "static"])
         for program in ("./shared", "./static"):
-            scene.check(f"{program} with musl", done(scene, [program]), (f"{version()}\n", 0))
+            scene.check(f"{program} with musl", done(scene, [program]), (version_line(), 0))
 
 
 @case
@@ -129,14 +134,14 @@ target_link_libraries(static bpftap::static)
     if scene.has("pkg-config"):
         environment = {"PATH": "/usr/bin:/bin", "PKG_CONFIG_PATH": str(prefix / "lib" / "pkgconfig")}
         line = "cc tool.c $(pkg-config --cflags --libs bpftap) -Wl,-rpath,prefix/lib -o tool && ./tool"
-        scene.check("pkg-config", done(scene, ["sh", "-c", line], env=environment), (f"{version()}\n", 0))
+        scene.check("pkg-config", done(scene, ["sh", "-c", line], env=environment), (version_line(), 0))
     if scene.has("cmake"):
         for wanted, found in (("", True), (version(), True), (version().split(".")[0], True), ("99.0", False)):
             said, status = done(scene, ["cmake", "-B", f"made{wanted}", f"-DCMAKE_PREFIX_PATH={prefix}", f"-DWANTED={wanted}"])
             scene.check(f"find_package(bpftap {wanted})", (status == 0, "considered but not accepted" in said), (found, not found))
         scene.check("cmake --build", done(scene, ["cmake", "--build", "made"])[1], 0)
         for program in ("made/shared", "made/static"):
-            scene.check(program, done(scene, [program]), (f"{version()}\n", 0))
+            scene.check(program, done(scene, [program]), (version_line(), 0))
 
 
 @case
@@ -146,7 +151,7 @@ def versions_agree(scene):
         return
     scene.start({"tool.c": TOOL})
     passes(scene, ["gcc", "tool.c", f"-I{INCLUDE}", ARCHIVE, "-o", "tool"])
-    scene.check("the library", done(scene, ["./tool"]), (f"{version()}\n", 0))
+    scene.check("the library", done(scene, ["./tool"]), (version_line(), 0))
     major, minor, patch = map(int, version().split("."))
     number = re.search(r"^#define BPFTAP_VERSION_NUMBER (\d+)", (INCLUDE / "bpftap.h").read_text(), re.M)
     scene.check("the header", number and int(number[1]), major * 10000 + minor * 100 + patch)

@@ -311,8 +311,53 @@ static void prints(void) {
     CHECK(bpftap_fault_text(BPFTAP_LINK_TYPE, 4, line, sizeof line).size == 8 && !strcmp(line, "LinkType"));
     CHECK(bpftap_fault_text(BPFTAP_BAD_WORD, 4, line, 9).fault == BPFTAP_NO_ROOM);
     CHECK(bpftap_fault_text(12345, 4, line, sizeof line).fault == BPFTAP_OK && !strcmp(line, "Unknown"));
-    CHECK(bpftap_version(line, sizeof line).fault == BPFTAP_OK && strlen(line) >= 5);
+    CHECK(bpftap_version(line, sizeof line).fault == BPFTAP_OK && strlen(line) >= 5 && !strcmp(strchr(line, ' '), " x86-64-v2"));
     CHECK(bpftap_version(line, 0).fault == BPFTAP_NO_ROOM);
+}
+
+/* What helps at each kind of fault, and at none. */
+static void hints(void) {
+    static const char LONG[] = "its program may have more than 512 instructions: cut it into parts, with a `bpftap cut` for each,\n"
+                               "or try whether libpcap finds a shorter one: tcpdump -y EN10MB -ddd EXPR > f.bpf, then -f f.bpf with cut, check or explain";
+    static const char OTHER[] = "service names are not supported: write a number, as in `port 80`, for `http`\n"
+                                "libpcap may read that: tcpdump -y EN10MB -ddd EXPR > f.bpf, then -f f.bpf with cut, check or explain";
+    struct {
+        const char *text;
+        uint32_t fault;
+        size_t place;
+        const char *hint;
+    } const wanted[] = {
+        {"src prot 17", BPFTAP_BAD_WORD, 4, "did you mean `port`?"},
+        {"tcp and host", BPFTAP_SYNTAX, 12, "write an address after `host`, as in `host 192.0.2.1`"},
+        {"port http", BPFTAP_BAD_WORD, 5, OTHER},
+        {"ip[0] / 0 = 1", BPFTAP_DIVIDE_BY_ZERO, 8, "division by zero"},
+        {"", BPFTAP_TEXT_TOO_LONG, 0, "an expression has at most 8192 bytes: cut it into parts, with a `bpftap cut` for each"},
+        {"ip", BPFTAP_TOO_LONG, 0, LONG},
+        {"ip", BPFTAP_TOO_DEEP, 0, "write long sums from the left, `a + b + c`, not `a + (b + c)`: a relation has 16 words of memory"},
+        {"ip", BPFTAP_BAD_SNAP, 0, ""},
+        {"ip", BPFTAP_OK, 0, ""},
+        {"ip", BPFTAP_NO_MEMORY, 0, ""},
+        {"ip", BPFTAP_LINK_TYPE, 0, ""},
+        {"ip", UINT32_MAX, 0, ""},
+    };
+    for (size_t i = 0; i < sizeof wanted / sizeof *wanted; i++) {
+        size_t size = strlen(wanted[i].hint), text_size = strlen(wanted[i].text);
+        char *text = text_block(wanted[i].text), *to = block(size + 1);
+        struct bpftap_result result = bpftap_hint(text, text_size, wanted[i].fault, wanted[i].place, to, size + 1);
+        CHECK(result.fault == BPFTAP_OK && result.size == size && result.place == 0);
+        if (strcmp(to, wanted[i].hint)) printf("%s, wanted %s\n", to, wanted[i].hint), failures++;
+        memset(to, 0xa5, size + 1);
+        result = bpftap_hint(text, text_size, wanted[i].fault, wanted[i].place, to, size);
+        CHECK(result.fault == BPFTAP_NO_ROOM && result.size == size && untouched(to, size + 1));
+        free(text);
+        free(to);
+    }
+    /* A place past the text is its end, and one inside of a character does no harm. */
+    char to[1024];
+    CHECK(bpftap_hint("tcp and", 7, BPFTAP_SYNTAX, SIZE_MAX, to, sizeof to).fault == BPFTAP_OK);
+    CHECK(bpftap_hint("host \xc3\xa9", 7, BPFTAP_BAD_BYTE, 6, to, sizeof to).fault == BPFTAP_OK);
+    struct bpftap_result result = bpftap_hint("host \xff", 6, BPFTAP_BAD_BYTE, 5, to, sizeof to);
+    CHECK(result.fault == BPFTAP_NOT_TEXT && result.place == 5 && result.size == 0);
 }
 
 /* A capture of two packets, little-endian with microseconds, of 24 + 54 + 54 bytes. */
@@ -384,6 +429,38 @@ static void reads(void) {
     CHECK(bpftap_open(memory, 132).fault == BPFTAP_VERSION);
     memory[0] = 0x0a;
     CHECK(bpftap_open(memory, 132).fault == BPFTAP_NOT_SAVEFILE);
+    free(memory);
+}
+
+/* The spans of many records at once: as many as there is room for, and up to what is none. */
+static void reads_spans(void) {
+    uint8_t *memory = capture();
+    struct bpftap_span *spans = block(3 * sizeof *spans);
+    struct bpftap_reader reader = bpftap_open(memory, 132);
+    struct bpftap_result result = bpftap_spans(memory, 132, &reader, spans, 0);
+    CHECK(result.fault == BPFTAP_OK && result.size == 0 && reader.offset == 24 && reader.place == 0);
+    result = bpftap_spans(memory, 132, &reader, spans, 1);
+    CHECK(result.fault == BPFTAP_OK && result.size == 1 && result.place == 0 && reader.offset == 78 && reader.place == 1);
+    CHECK(spans[0].offset == 40 && spans[0].captured == 38 && spans[0].wire == 60 && untouched(spans + 1, 2 * sizeof *spans));
+    result = bpftap_spans(memory, 132, &reader, spans + 1, 1);
+    CHECK(result.fault == BPFTAP_OK && result.size == 1 && reader.offset == 132 && reader.place == 2);
+    CHECK(spans[1].offset == 94 && spans[1].captured == 38 && spans[1].wire == 38);
+    for (int i = 0; i < 2; i++) {
+        result = bpftap_spans(memory, 132, &reader, spans + 2, 1);
+        CHECK(result.fault == BPFTAP_END && result.size == 0 && result.place == 2 && reader.offset == 132 && untouched(spans + 2, sizeof *spans));
+    }
+    memset(spans, 0xa5, 3 * sizeof *spans);
+    reader = bpftap_open(memory, 131);
+    result = bpftap_spans(memory, 131, &reader, spans, 3);
+    CHECK(result.fault == BPFTAP_TORN_RECORD && result.size == 1 && result.place == 1 && reader.offset == 78 && reader.place == 1);
+    CHECK(spans[0].offset == 40 && untouched(spans + 1, 2 * sizeof *spans));
+    reader = bpftap_open(memory, 23);
+    result = bpftap_spans(memory, 132, &reader, spans, 3);
+    CHECK(result.fault == BPFTAP_SHORT_HEADER && result.size == 0 && result.place == 0 && reader.offset == 0);
+    reader = bpftap_open(memory, 132), reader.place = UINT64_MAX - 1;
+    result = bpftap_spans(memory, 132, &reader, spans, 3);
+    CHECK(result.fault == BPFTAP_COUNT_FULL && result.size == 1 && result.place == UINT64_MAX && reader.offset == 78);
+    free(spans);
     free(memory);
 }
 
@@ -611,7 +688,9 @@ int main(void) {
     runs_joined();
     says_why();
     prints();
+    hints();
     reads();
+    reads_spans();
     writes();
     cuts();
     plays_steps();

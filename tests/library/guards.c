@@ -79,7 +79,12 @@ static void read_texts(const struct input *in) {
     }
     /* A text that ends anywhere is refused or compiled, and read no further. */
     size_t cut = below(in->text_size + 1);
-    bpftap_compile(copied(0, in->text, cut), cut, SNAP, beside(2, BPFTAP_MAX_INSNS * 8), BPFTAP_MAX_INSNS);
+    text = copied(0, in->text, cut);
+    struct bpftap_result made = bpftap_compile(text, cut, SNAP, beside(2, BPFTAP_MAX_INSNS * 8), BPFTAP_MAX_INSNS);
+    WITH_ROOM(2, char, 1, bpftap_hint(text, cut, made.fault, made.place, to, room));
+    uint32_t fault = below(60);
+    size_t place = below(cut + 2);
+    WITH_ROOM(2, char, 1, bpftap_hint(text, cut, fault, place, to, room));
 }
 
 static void run_batches(const struct bpftap_program *program, const struct bpftap_insn *insns, size_t size, const struct input *in) {
@@ -132,12 +137,33 @@ static void run_programs(const struct input *in) {
     run_batches(program, insns, size, in);
 }
 
+/* A capture is read many records at a time: the spans are those of the records that are read one by one. */
+static void read_spans(const uint8_t *memory, size_t end) {
+    struct bpftap_reader *each = beside(1, sizeof *each), *many = beside(3, sizeof *many);
+    *each = *many = bpftap_open(memory, end);
+    struct bpftap_result found;
+    do {
+        size_t room = below(20);
+        struct bpftap_span *spans = beside(2, room * sizeof *spans);
+        found = bpftap_spans(memory, end, many, spans, room);
+        for (size_t i = 0; i < found.size; i++) {
+            struct bpftap_record record = bpftap_next(memory, end, each);
+            CHECK(record.fault == BPFTAP_OK && spans[i].offset == record.offset && spans[i].captured == record.captured && spans[i].wire == record.wire);
+        }
+        CHECK(found.size == room || found.fault != BPFTAP_OK);
+        CHECK(untouched(spans + found.size, (room - found.size) * sizeof *spans));
+    } while (found.fault == BPFTAP_OK);
+    struct bpftap_record last = bpftap_next(memory, end, each);
+    CHECK(last.fault == found.fault && last.place == found.place && each->offset == many->offset && each->place == many->place);
+}
+
 /* A capture that ends anywhere: it is read, and cut into room for exactly what is kept. */
 static void read_captures(const uint8_t *whole, size_t size) {
     size_t end = below(size + 1);
     end = end > PAGES * PAGE ? PAGES * PAGE : end;
     const uint8_t *memory = copied(0, whole, end);
     struct bpftap_reader *reader = beside(1, sizeof *reader);
+    read_spans(memory, end);
     *reader = bpftap_open(memory, end);
     if (reader->fault) return;
     struct bpftap_record record;

@@ -65,6 +65,7 @@ static struct seen call(int which) {
             result.fault = traced.fault, result.size = traced.size;
             break;
         case 11: result = bpftap_looks(TEXT, strlen(TEXT), packet, sizeof packet, sizeof packet, (void *)seen.written, ROOM / sizeof(struct bpftap_look)); break;
+        case 14: result = bpftap_hint("ip.src == 10.0.0.1 and tcp", 26, BPFTAP_BAD_WORD, 3, text, ROOM); break;
         case 13:
             replay = bpftap_steps_answers(listeners, strlen(listeners), script, strlen(script), captures, 2, text, ROOM);
             result.fault = replay.fault, result.size = replay.size;
@@ -89,7 +90,7 @@ int main(void) {
     static const uint8_t header[24] = {0xd4, 0xc3, 0xb2, 0xa1, 2, 0, 4, 0, 0, 0, 0, 0, 0, 0, 0, 0, 0, 0, 4, 0, 1, 0, 0, 0};
     memcpy(capture, header, 24);
     capture[32] = capture[36] = 60;
-    for (int which = 0; which < 14; which++) {
+    for (int which = 0; which < 15; which++) {
         static struct seen whole;
         whole = call(which);
         CHECK(whole.fault == BPFTAP_OK && whole.size > 0);

@@ -36,6 +36,13 @@ static void *print(void *unused) {
     return unused;
 }
 
+/* At its end, and at a word in the middle. */
+static void *hint(void *unused) {
+    bpftap_hint(first, strlen(first), BPFTAP_SYNTAX, strlen(first), to, ROOM);
+    bpftap_hint(first, strlen(first), BPFTAP_BAD_WORD, strlen(first) / 2, to, ROOM);
+    return unused;
+}
+
 static void *why(void *unused) {
     for (size_t captured = 0; captured <= sizeof UDP; captured += sizeof UDP)
         bpftap_why(first, strlen(first), UDP, captured, sizeof UDP, to, ROOM);
@@ -98,10 +105,12 @@ static void *others(void *unused) {
     free(program);
     bpftap_run_spans(insns, size_of_program, UDP, sizeof UDP, &(struct bpftap_span){0, sizeof UDP, sizeof UDP}, 1, &answer, 1);
     bpftap_fault_text(BPFTAP_BAD_WORD, SIZE_MAX, to, ROOM);
+    struct bpftap_reader reader = bpftap_open(capture.bytes, capture.size);
+    bpftap_spans(capture.bytes, capture.size, &reader, &(struct bpftap_span){0, 0, 0}, 1);
     return unused;
 }
 
-static void *(*const CALLS[])(void *) = {compile, print, why, looks, compare, steps, steps_json, answers, picture, others};
+static void *(*const CALLS[])(void *) = {compile, print, hint, why, looks, compare, steps, steps_json, answers, picture, others};
 
 /* How much of a stack of this size a call touches. */
 static size_t touched(void *(*call)(void *), uint8_t *stack, size_t size) {

@@ -8,3 +8,4 @@ pub mod Rejecting
 pub mod UnreadText
 pub mod Stepping
 pub mod Joined
+pub mod SpanReading

@@ -9,6 +9,7 @@ pub mod Reasons
 pub mod Texts
 pub mod Comparisons
 pub mod Captures
+pub mod Spans
 pub mod Cuts
 pub mod Buffers
 pub mod Messages
@@ -16,3 +17,4 @@ pub mod Listeners
 pub mod Steps
 pub mod Traces
 pub mod Looks
+pub mod Hints

@@ -30,9 +30,9 @@ abbrev pub IsPrinted : List ℕ → Result (List ℕ) Failure → Type 0
 IsPrinted text (Ok line) = (tree : Tree) × IsRead text tree × (line ≡ canonical tree)
 IsPrinted text (Err failure) = IsUnread text failure
 
--- the version of the library
+-- the version of the library, and the processor that it is made for
 abbrev pub version : List ℕ
-version = codes "2.0.0"
+version = codes "2.0.0 x86-64-v2"
 
 -- some text, or memory was refused
 abbrev pub MayLackMemory : Result (List ℕ) Failure → Type 0

@@ -38,10 +38,10 @@ pub extern "C" fn bpftap_print(alloc: Global, text: &[u8], to: &mut [u8]) -> Bpf
     }
 }
 
-/// The version of the library.
-const VERSION: &str = "2.0.0";
+/// The version of the library, and the processor that it is made for.
+const VERSION: &str = "2.0.0 x86-64-v2";
 
-/// Writes the version.
+/// Writes the version, and after a blank the processor that the library is made for.
 #[unsafe(no_mangle)]
 pub extern "C" fn bpftap_version(to: &mut [u8]) -> BpftapResult
     ensures { PutsText version to.old to.new result }
