@@ -56,11 +56,17 @@ export class ListView {
   }
 
   /**
-   * @param {Answers} answers of a filter to the first packets, or to all
+   * @param {Answers} answers of a filter to the first packets, or to all; without a filter the same packets stay
    * @param {boolean} isLast
    */
   answer(answers, isLast) {
     this.answers = answers;
+    this.only.disabled = answers === NO_ANSWERS;
+    if (this.only.disabled) {
+      find("counts").textContent = "";
+      this.drawRows();
+      return;
+    }
     if (isLast) this.offerReasons();
     if (isLast || this.only.value === "") this.choose();
   }

@@ -228,6 +228,17 @@ def see_marked_bytes(visit):
     visit.check("bytes that are marked", visit.run("return document.querySelectorAll('#bytes b').length") // 2, count)
 
 
+def get_ready(visit):
+    """From the end of the page's text on it takes 100 ms until it can be used."""
+    took, spun = [], []
+    for _ in range(5):
+        visit.open("#e=ip")
+        took.append(visit.run("return performance.getEntriesByName('ready')[0].startTime - performance.getEntriesByType('navigation')[0].domInteractive"))
+        spun.append(visit.run(f"{SPIN} return spin()"))
+    took, slow = statistics.median(took), statistics.median(spun)
+    visit.check(f"ready within 100 ms, not {took} where a loop takes {slow}", took <= 100 * max(1, slow / IDLE), True)
+
+
 def type_filters(visit):
     """Typing, a fault with its caret, and how long an answer takes."""
     visit.open()
@@ -236,6 +247,13 @@ def type_filters(visit):
     visit.filter("udp port 5353")
     visit.check_has("another filter", "counts", "253 packets: 67 Yes, 186 No, 0 Abort")
     visit.check("no fault is left", visit.text("fault"), "")
+    visit.run("const only = document.getElementById('only'); only.value = 'Yes'; only.dispatchEvent(new Event('change'))")
+    places = "return [...document.querySelectorAll('.row')].map((row) => row.dataset.place).join(' ')"
+    shown = visit.run(places)
+    visit.run("const field = document.getElementById('filter'); field.value = 'udp prot 5353'; field.dispatchEvent(new Event('input'))")
+    visit.check("while a filter has a fault, the list has the packets of the one before", (visit.text("fault") != "", visit.run(places)), (True, shown))
+    visit.filter("udp port 5353")
+    visit.check_has("the filter again", "counts", "253 packets: 67 Yes, 186 No, 0 Abort")
     took, spun = visit.run(SPIN + """
         const field = document.getElementById('filter'), took = [], spun = [];
         for (let n = 0; n < 50; n++) {
@@ -373,7 +391,7 @@ def stay_quiet(visit):
     visit.check("requests", {url.partition("#")[0] for url in asked} - {f"file://{PAGE}", "about:blank"}, set())
 
 
-VISITS = [look_at_packet, see_marked_bytes, type_filters, use_keys_alone, see_difference, give_files, give_many_packets, play_steps, follow_lesson,
+VISITS = [get_ready, look_at_packet, see_marked_bytes, type_filters, use_keys_alone, see_difference, give_files, give_many_packets, play_steps, follow_lesson,
           stay_quiet, survive_trap]
 
 
