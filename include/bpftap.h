@@ -105,7 +105,7 @@ enum bpftap_fault {
     BPFTAP_NO_LISTENER = 91     /* step `place`, from 0, names a listener that does not exist */
 };
 
-#define BPFTAP_VERSION_NUMBER 20100 /* 2.0.0: major * 10,000 + minor * 100 + patch */
+#define BPFTAP_VERSION_NUMBER 20100 /* major * 10,000 + minor * 100 + patch */
 
 #define BPFTAP_MAX_INSNS 512        /* instructions of a program */
 #define BPFTAP_MAX_SNAP 262144      /* captured bytes of a packet */
