@@ -2,3 +2,4 @@ pub mod Numbers
 pub mod Shifts
 pub mod Nodes
 pub mod Values
+pub mod Loads

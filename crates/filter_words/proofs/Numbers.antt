@@ -125,7 +125,7 @@ number-sum a b first (suc k) =
     ap (λ q. number s (suc k) + q * digit (carries a b first (suc k))) (pow-suc 2 k)
     ∙ full-step (2 ^ k) (number a k) (number b k) (number s k) (digit first) (a k) (b k) (carries a b first k) (number-sum a b first k)
 
-low-of : (x p d m : ℕ) → x < p → x + p * d ≡ m → x ≡ m % p
+pub low-of : (x p d m : ℕ) → x < p → x + p * d ≡ m → x ≡ m % p
 low-of x p d m less e = sym (mod-mul-add d p x less) ∙ ap (λ z. z % p) (let f : d * p + x ≡ m = omega arith in f)
 
 pub sum-value : (a b : ℕ → Bool) (first : Bool) (n : ℕ)

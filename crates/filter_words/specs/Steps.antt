@@ -67,3 +67,11 @@ shifted Right n count = n / 2 ^ count
 abbrev pub moved : {A : Type 0} → Shift → (ℕ → A) → (none : A) → (count k : ℕ) → A
 moved Left items none count k = if nat_lt k count then none else items (k - count)
 moved Right items none count k = if nat_lt (k + count) 32 then items (k + count) else none
+
+-- the items of so many places, and the same above them
+abbrev pub padded : {A : Type 0} → (ℕ → A) → (none : A) → (width k : ℕ) → A
+padded items none width k = if nat_lt k width then items k else none
+
+-- the eight items of a byte, and those of a word above them
+abbrev pub after_byte : {A : Type 0} → (byte word : ℕ → A) → (k : ℕ) → A
+after_byte byte word k = if nat_lt k 8 then byte k else word (k - 8)

@@ -5,6 +5,7 @@
 
 mod bits;
 mod bitwise;
+mod bytes;
 mod order;
 mod product;
 mod shift;
