@@ -221,6 +221,15 @@ def a_file_is_named_by_its_own_text(scene):
 
 
 @case
+def a_long_path_is_named_whole(scene):
+    """An object of more than 512 bytes is whole too."""
+    scene.start({})
+    path = "/".join(["x" * 200] * 4)
+    seen = scene.run(["explain", "--json", "-e", "ip", path])
+    scene.check("a long path", (json.loads(seen.err), seen.status), ({"fault": "Device", "numbers": [], "file": path}, 3))
+
+
+@case
 def a_stream_is_no_file(scene):
     """Standard output that fails has a key of its own: no file of that name prints the same object."""
     scene.start({})

@@ -213,7 +213,9 @@ def random_scripts_have_the_same_facts(scene):
 @case
 def a_full_output_is_a_fault(scene):
     """Standard output fails, once with `-v` and once without."""
-    scene.start({"l.txt": "32 64\n", "s.txt": "arrive\n", "whole.pcap": WHOLE})
+    scene.start({"l.txt": "32 64\n", "s.txt": "arrive\n", "whole.pcap": WHOLE, "torn.pcap": TORN})
     fault = '{"fault":"Device","numbers":[],"stream":"standard output"}\n'
     for options in ("", "-v "):
         scene.expect(f"steps --json {options}l.txt s.txt whole.pcap", 3, fault, streams="> /dev/full")
+        torn = '{"fault":"Capture TornRecord","numbers":[0,1],"file":"torn.pcap"}\n'
+        scene.expect(f"steps --json {options}l.txt s.txt torn.pcap", 3, fault + torn, streams="> /dev/full")

@@ -70,11 +70,10 @@ pub(crate) fn report_ends<R, W, E: FaultSink>(
     err: &mut E,
 ) -> io::Result<()> {
     for (i, report) in reports.iter().enumerate() {
-        let paths = match inputs.get(i) {
-            Some(paths) => paths.as_slice(),
-            None => &[],
-        };
-        report_end(i, report.end, paths, err)?;
+        match inputs.get(i) {
+            Some(paths) => report_end(i, report.end, paths.as_slice(), err)?,
+            None => report_end(i, report.end, &[], err)?,
+        }
     }
     Ok(())
 }

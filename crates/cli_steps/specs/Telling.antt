@@ -15,4 +15,4 @@ pub record PrintsPlayed (form : LineForm) (explained traced : Bool) (captures : 
     (status : Status) (replayed : Result Replayed Fault) : Type 0 where
   pub played : Outcome
   pub plays : PlaysAs form explained traced captures specs steps (streams before None) (streams after None) played replayed
-  pub status : status ≡ played.status
+  pub ends : status ≡ played.status

@@ -5,5 +5,5 @@ pub returns : goal.returns
 returns g c = record {
   played = c.play_plan_in-replayed.result.0;
   plays = c.play_plan_in-replayed.ensures;
-  status = refl;
+  ends = refl;
 }
