@@ -3,3 +3,5 @@ pub mod Shifts
 pub mod Nodes
 pub mod Values
 pub mod Loads
+pub mod Quotients
+pub mod Divisions

@@ -75,3 +75,7 @@ padded items none width k = if nat_lt k width then items k else none
 -- the eight items of a byte, and those of a word above them
 abbrev pub after_byte : {A : Type 0} → (byte word : ℕ → A) → (k : ℕ) → A
 after_byte byte word k = if nat_lt k 8 then byte k else word (k - 8)
+
+-- an item, and those of a word above it
+abbrev pub pushed : {A : Type 0} → (item : A) → (word : ℕ → A) → (k : ℕ) → A
+pushed item word k = if nat_lt k 1 then item else word (k - 1)

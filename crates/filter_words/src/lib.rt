@@ -8,6 +8,7 @@ mod bitwise;
 mod bytes;
 mod order;
 mod product;
+mod quotient;
 mod shift;
 mod sum;
 mod word;
