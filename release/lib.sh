@@ -32,12 +32,20 @@ archives() {
 # The SHA-256 of standard input. A file is not named, since sha256sum marks the line of a name with a newline or a backslash.
 checksum() { sha256sum | cut -c 1-64; }
 
-# What `find` prints of the crates' files in this form, and of MORE. Tests and proofs are left out: they change neither what the program
-# does nor what is promised of it.
-texts() ( # FORM [MORE..]
-  form=$1
+# Prints the names of the files that words of `find` name, or what shows that none was changed: their paths, inodes, sizes and times. busybox's `find`
+# does not print those, and `by_stat` says so. This shell ends with them.
+by_stat=
+names() { exec find -L "$@" -print 2>/dev/null; }
+looks() {
+  [ -n "$by_stat" ] || exec find -L "$@" -printf '%p %i %s %T@ %C@\n' 2>/dev/null
+  exec find -L "$@" -exec stat -L -c '%n %i %s %y %z' -- {} + 2>/dev/null
+}
+
+# What is printed of the crates' files, and of MORE. Tests and proofs are left out: they change neither what the program does nor what is promised of it.
+texts() ( # names | looks [MORE..]
+  of=$1
   shift
-  cd -- "$root" && exec find -L "$@" crates/*/src crates/*/specs -type f -not -path 'crates/test_*' -printf "$form" 2>/dev/null
+  cd -- "$root" && "$of" "$@" crates/*/src crates/*/specs -type f ! -path 'crates/test_*'
 )
 
 # The released files that a build makes, and those that no build makes, such as a header.
@@ -50,17 +58,15 @@ sources_key() (
   cd -- "$root" || exit
   { cat release/files
     grep '^[a-z]' crates.txt | grep -v '^test_'
-    texts '%p\n' | grep -E '/[^.#/][^/]*\.(rt|antt)$' | sort | xargs -d '\n' sha256sum -- $(others)
+    { others && texts names | grep -E '/[^.#/][^/]*\.(rt|antt)$' | sort; } | tr '\n' '\0' | xargs -0 sha256sum --
   } | checksum
 )
 
 # Whether something is released, of the sources with this key.
 is_release_of() { [ "$1" = "$(said sources)" ] && set -- "$root"/release/*.tar.gz && [ -f "$1" ]; }
 
-# Shows that no file was changed since this was noted: the paths, inodes, sizes and times of the sources and of the release, and first of a
-# program if one is named.
-form='%p %i %s %T@ %C@\n'
-state() { texts "$form" "$@" crates.txt release $(others); }
+# Shows that no file of the sources and of the release was changed since this was noted, and first of a program if one is named.
+state() { texts looks "$@" crates.txt release $(others); }
 
 # Sets `place` to the real path of `out` or the cache: who can write to a folder above what a link leads to can change that.
 real_place() { # FOLDER
@@ -102,11 +108,26 @@ is_ours() ( # PATH
 are_ours() ( # FOLDER
   is_ours "$1" && [ -z "$(find "$1" '(' -perm /022 $(of_others) ')' 2>&1)" ]
 )
-of_others() { echo "-o ! -uid $(id -u) ! -uid 0 ! -uid $(stat -L -c %u -- "$root/release/lib.sh")"; }
+of_others() {
+  by=-uid
+  [ -z "$by_stat" ] || by=-user
+  echo "-o ! $by $(id -u) ! $by 0 ! $by $(stat -L -c %u -- "$root/release/lib.sh")"
+}
 
 # Sets `program` to the path of this folder's program, and `origin` to how it came there. Both are noted in the folder that has it, `out` or the
 # cache, with the state, so that the next call need not read the files. A note is taken only if nobody else can have written it.
 find_program() {
+  ! find_noted || return 0
+  noted=$(state)
+  if [ -z "$noted" ]; then
+    by_stat=y
+    ! find_noted || return 0
+    noted=$(state)
+  fi
+  choose_program
+  note_program || :
+}
+find_noted() {
   for folder in "$root/out" "$cache"; do
     real_place "$folder" && [ -O "$place" ] && [ -O "$place/noted" ] && { IFS= read -r name && IFS= read -r origin; } 2>/dev/null <"$place/noted" || continue
     case /$name in */../*) continue ;; esac
@@ -114,16 +135,14 @@ find_program() {
     is_closed "$place/noted" "$program" || continue
     { printf '%s\n' "$name" "$origin" && state "$program"; } | cmp -s - "$place/noted" && return
   done
-  noted=$(state)
-  choose_program
-  note_program || :
+  false
 }
 
 # Notes the program, with the sources as they were before it was chosen.
 note_program() (
   umask 022
   cd -- "$place" && [ -O . ] && new=$(mktemp noted.XXXXXX) || exit
-  { printf '%s\n' "$name" "$origin" && find -L "$program" -printf "$form" && printf '%s\n' "$noted"; } >"$new" && mv -fT -- "$new" noted && exit
+  { printf '%s\n' "$name" "$origin" && (looks "$program") && printf '%s\n' "$noted"; } >"$new" && mv -fT -- "$new" noted && exit
   rm -f -- "$new"
 ) 2>/dev/null
 
@@ -158,7 +177,7 @@ choose_released() {
 }
 
 # The checksums of a folder's files. A link is none.
-contents() (cd -- "$1" && find . -type f -printf '%P\0' | LC_ALL=C sort -z | xargs -0 sha256sum)
+contents() (cd -- "$1" && find . -type f -print0 | LC_ALL=C sort -z | xargs -0 sha256sum | sed 's,^\([0-9a-f]*  \)\./,\1,')
 
 # Compares a file of release/ with its checksum.
 is_undamaged() { # NAME
@@ -188,6 +207,9 @@ unpack() { # ARCHIVE
     refuse "no program can be put in $root/out or ${cache:-a cache}: set XDG_CACHE_HOME to a folder that only you can write to"
   [ "$(contents "$unpacked")" = "$(listed "$archive")" ] || refuse "$unpacked is not what $sums says: remove it"
 }
+
+# Prints the folder of what an archive has.
+unpacked_path() { unpack "$1" && printf '%s\n' "$unpacked"; }
 
 # Unpacks in `out` or the cache, unless that was done, and says whether the program is there and others cannot change it. The folder is there at once
 # or not at all, since another call may be doing the same.
@@ -225,7 +247,7 @@ compare() {
   unpack "$main"
   if [ "$kit" != "$(said toolchain)" ]; then
     echo "the released program is not compared: it was built by $(said toolchain), and here is $kit"
-  elif diff -rq --no-dereference -- "$unpacked" "$root/out/built/$key" && is_same_page; then
+  elif diff -rq --no-dereference -- "$unpacked" "$root/out/built/$key" && is_same_page && are_same_targets; then
     echo 'the released program is what these sources give'
   else
     echo 'the released program is not what these sources give'
@@ -234,14 +256,27 @@ compare() {
 }
 is_same_page() { [ ! -f "$root/release/$page" ] || cmp -- "$root/release/$page" "$root/out/page/$page"; }
 
+# Whether each program of `./build --targets` that is of these sources and is released is the released one.
+are_same_targets() {
+  for folder in "$root/out/targets/$key"/*/; do
+    archive=bpftap-$(basename -- "$folder").tar.gz
+    [ ! -f "$root/release/$archive" ] || [ "$(contents "$folder")" = "$(listed "$archive")" ] || { echo "$archive has another program than $folder"; return 1; }
+  done
+}
+
 # Packs what is built of these sources, with the page and the programs of `./build --targets` if they are of them too, and prints what it made.
 pack() {
   key=$(sources_key)
   [ -d "$root/out/built/$key" ] || refuse 'these sources are not built'
+  earlier=$(cd -- "$root/release" && ls -- *.tar.gz 2>/dev/null)
   rm -f -- "$root"/release/*.tar.gz "$root/release/$page"
   pack_in "$main" "$root/out/built/$key"
   for folder in "$root/out/targets/$key"/*/; do
     [ ! -d "$folder" ] || pack_in "bpftap-$(basename -- "$folder").tar.gz" "$folder"
+  done
+  for archive in $earlier; do
+    name=${archive#bpftap-} name=${name%.tar.gz}
+    [ -f "$root/release/$archive" ] || echo "bpftap: no program for $name is packed: ./build --targets makes it" >&2
   done
   [ ! -f "$root/out/page/$page" ] || install -m 644 -- "$root/out/page/$page" "$root/release/$page"
   { echo "# sources $key"

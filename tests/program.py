@@ -5,6 +5,9 @@
   tests/program.py cut run    only these groups
   tests/program.py --list     the groups and their cases, with what each one shows
 
+  tests/program.py --released [GROUP..]    over each program of release/ in turn, the groups that are of the program alone;
+                                           one for another processor by qemu, if that is there
+
   BPFTAP=bpftap tests/program.py    tests another program in place of the repository's own: a path, or a word of the PATH
 
 The last line is `N passed, M failed`; the status is 1 if something failed. A check that needs a missing tool is not tried, and a
@@ -14,12 +17,15 @@ import argparse
 import concurrent.futures
 import os
 import pathlib
+import platform
+import re
+import shutil
 import subprocess
 import sys
 import tempfile
 import traceback
 
-from cases import GROUPS
+from cases import GROUPS, OF_PROGRAM
 from cases.common import CASES, ROOT, Scene
 
 
@@ -28,6 +34,7 @@ def words():
     parser = argparse.ArgumentParser(description=__doc__, formatter_class=argparse.RawDescriptionHelpFormatter)
     parser.add_argument("groups", nargs="*", metavar="GROUP", help=" ".join(GROUPS))
     parser.add_argument("--list", action="store_true", help="list the groups and their cases, and run none")
+    parser.add_argument("--released", action="store_true", help="run them over each released program in turn")
     asked = parser.parse_args()
     for name in asked.groups:
         if name not in GROUPS:
@@ -82,6 +89,39 @@ def run_with_own_program():
         os.execve(sys.executable, [sys.executable, *sys.argv], {**os.environ, "BPFTAP": done.stdout.strip()})
 
 
+def released_programs(top):
+    """The name of each released program, and its path: one for another processor is called by a script that emulates that, or is `None`."""
+    for archive in sorted((ROOT / "release").glob("*-linux*.tar.gz")):
+        name = archive.name.removesuffix(".tar.gz")
+        machine = re.search(r"-(\w+)-linux", name)[1]
+        subprocess.run(["tar", "-xzf", archive, "--one-top-level=" + str(top / name)], check=True)
+        program, emulator = top / name / "bin" / "bpftap", shutil.which(f"qemu-{machine}")
+        if machine == platform.machine():
+            yield name, program
+        elif emulator is None:
+            yield f"{name}: not tried: qemu-{machine} can't be found", None
+        else:
+            script = top / f"{name}.sh"
+            script.write_text(f'#!/bin/sh\nexec {emulator} {program} "$@"\n')
+            script.chmod(0o755)
+            yield f"{name} by {emulator}", script
+
+
+def run_over_released(groups):
+    """Runs groups over each released program. Returns how many checks passed and failed."""
+    passed = failed = 0
+    with tempfile.TemporaryDirectory() as top:
+        for name, program in released_programs(pathlib.Path(top)):
+            print(name, flush=True)
+            if program is not None:
+                done = subprocess.run([sys.executable, __file__, *groups], stdout=subprocess.PIPE, text=True, env={**os.environ, "BPFTAP": str(program)})
+                print(done.stdout, end="")
+                counts = re.search(r"(\d+) passed, (\d+) failed\n\Z", done.stdout)
+                good, bad = map(int, counts.groups()) if counts else (0, 1)
+                passed, failed = passed + good, failed + bad
+    return passed, failed
+
+
 def main():
     sys.stdout.reconfigure(errors="backslashreplace")
     # What cases make is their own, whatever the caller lets others write to.
@@ -91,6 +131,10 @@ def main():
     if asked.list:
         list_cases(groups)
         return
+    if asked.released:
+        passed, failed = run_over_released([name for name in groups if name in asked.groups or name in OF_PROGRAM])
+        print(f"{passed} passed, {failed} failed")
+        sys.exit(1 if failed else 0)
     if {*groups} <= {"build", "release"}:
         # Their cases call stand-ins.
         os.environ.setdefault("BPFTAP", "true")

@@ -6,6 +6,7 @@ import resource
 import shlex
 import shutil
 import signal
+import struct
 import subprocess
 import sys
 from dataclasses import dataclass
@@ -32,6 +33,27 @@ def program_path():
 
 
 PROGRAM = program_path()
+
+
+def kind_of(path):
+    """How the system starts a program: `dynamic`, by a loader that maps the C library first; `static`, by itself; or `script`, by another program,
+    as one that emulates a processor."""
+    text = pathlib.Path(path).read_bytes()
+    if text[:4] != b"\x7fELF":
+        return "script"
+    (first,), (size, count) = struct.unpack_from("<Q", text, 32), struct.unpack_from("<HH", text, 54)
+    # 3 is the type of the header that names a loader.
+    return "dynamic" if 3 in [struct.unpack_from("<I", text, first + size * at)[0] for at in range(count)] else "static"
+
+
+KIND = kind_of(PROGRAM)
+
+
+def can_trace():
+    """Whether `strace` is there, may trace the program, and may refuse calls of it."""
+    words = ["strace", "-qq", "-e", "trace=write", "-e", "inject=write:error=ENOSPC:when=1000", "true"]
+    return KIND != "script" and shutil.which("strace") is not None and subprocess.run(words, capture_output=True).returncode == 0
+
 
 
 def header(snap=262144):

@@ -2,13 +2,16 @@
 import concurrent.futures
 import os
 import re
-import shutil
 import subprocess
 
-from .common import ARP_RECORD, HEADER, IP, IP_RECORD, LIMIT, PROGRAM, TCP_RECORD, UDP_RECORD, Scene, Seen, case, words_of
+from .common import ARP_RECORD, HEADER, IP, IP_RECORD, KIND, LIMIT, PROGRAM, TCP_RECORD, UDP_RECORD, Scene, Seen, can_trace, case, words_of
 
-# So each block of memory is a call of mmap of its own, and one that grows beyond a page is a new block.
+# So each block of memory is a call of mmap of its own, and one that grows beyond a page is a new block. A static program has musl, which takes
+# many blocks by one call.
 BLOCKS = {**os.environ, "GLIBC_TUNABLES": "glibc.malloc.mmap_threshold=0"}
+LEAST_BLOCKS = 1 if KIND == "static" else 30
+# The C library's words for it.
+NO_MEMORY = "Out of memory" if KIND == "static" else "Cannot allocate memory"
 
 # If mmap refuses, the C library asks brk, and then mmap once more.
 OTHER_WAYS = ["brk:retval=0", "mremap:error=ENOMEM"]
@@ -48,12 +51,6 @@ FAULTS = ["--hints check 'src prot 17'", "--hints cut -s 0 in.pcap none/out.pcap
           "--hints split bad.txt in.pcap", "--hints run word.txt in.pcap", "--hints steps small.txt script.txt in.pcap"]
 
 
-def can_trace():
-    """Whether the calls of a program can be traced and refused here."""
-    words = ["strace", "-qq", "-e", "trace=mmap", "-e", "inject=mmap:error=ENOMEM:when=1000..1001", "true"]
-    return shutil.which("strace") is not None and subprocess.run(words, capture_output=True).returncode == 0
-
-
 def traced(scene, words, which=None):
     """What the program prints if these calls of mmap are refused, the files then, and the calls."""
     refused = [] if which is None else [f"mmap:error=ENOMEM:when={which}", *OTHER_WAYS]
@@ -67,9 +64,9 @@ def traced(scene, words, which=None):
 
 
 def first_block(calls):
-    """Which call is the program's first: after those that load the C library, and one more that initialises it."""
+    """Which call is the program's first: after those that load the C library, and one more that initialises it. Of a static one it is the first."""
     loading = [number for number, call in enumerate(calls, 1) if "MAP_PRIVATE|MAP_ANONYMOUS, -1, 0" not in call]
-    return max(loading) + 2
+    return max(loading) + 2 if KIND == "dynamic" else 1
 
 
 def refusals(folder, words, which):
@@ -122,7 +119,7 @@ def check_beginning(scene, what, part, whole):
 def refused_memory_is_reported(scene):
     """All memory from a block on is refused: that is reported, with status 1, and what was printed and written is a prefix."""
     for words, [(_, _, whole, texts), *runs] in sweep(scene, COMMANDS, FOR_GOOD):
-        scene.check(f"blocks of {words}", len(runs) > 30, True)
+        scene.check(f"blocks of {words}", len(runs) > LEAST_BLOCKS, True)
         for call, is_refused, seen, files in runs:
             what = f"by {words}, refused from call {call}"
             scene.check(f"reported {what}", is_wanting(seen) if is_refused else seen == whole, True)
@@ -173,7 +170,7 @@ def memory_that_the_system_wants_is_a_fault_of_the_file(scene):
         scene.start(FILES)
         inject = f"strace -qq -o calls -e trace={name} -e inject={name}:error=ENOMEM:when={call_on(scene, words, name, part)}"
         seen = scene.run(f"--hints {words}", first=f'exec {inject} "$0" "$@"')
-        wanted = f"bpftap: Device {path}\n  Cannot allocate memory (os error 12)\n"
+        wanted = f"bpftap: Device {path}\n  {NO_MEMORY} (os error 12)\n"
         scene.check(f"standard error of {words}, {name} of {path} refused", (seen.out, seen.err.decode(), seen.status), (b"", wanted, 3))
 
 

@@ -12,7 +12,7 @@ import time
 from collections import Counter
 
 from .common import (
-    HEADER, IP_RECORD, LIMIT, PROGRAM, ROOT, TCP_RECORD, TORN, UDP_RECORD, VETH, as_bytes, case, fault_lines, header,
+    HEADER, IP_RECORD, LIMIT, PROGRAM, ROOT, TCP_RECORD, TORN, UDP_RECORD, VETH, as_bytes, can_trace, case, fault_lines, header,
     records)
 
 T, U = TCP_RECORD, UDP_RECORD
@@ -353,7 +353,7 @@ def threads_that_wait_are_woken(scene):
     """A thread that makes work wakes the one that waits for it, a reader or a writer. A lost wake-up costs only milliseconds, so only
     system calls show it, if `strace` is there. On a processor that others use, a thread may find work before it waits, so this is tried
     five times at most."""
-    if shutil.which("strace") is None or subprocess.run(["strace", "-o", os.devnull, "true"], capture_output=True).returncode != 0:
+    if not can_trace():
         return scene.leave("strace can't trace here")
     scene.start({"listeners.txt": "0 1 0 1048576 2 out.pcap\n"})
     os.mkfifo(scene.folder / "fifo")

@@ -2,10 +2,9 @@
 import itertools
 import os
 import select
-import shutil
 import subprocess
 
-from .common import ALL, HEADER, IP, LIMIT, PROGRAM, TCP_RECORD, TORN, UDP_RECORD, WHOLE, Seen, as_bytes, case, fault_lines, header, words_of
+from .common import ALL, HEADER, IP, LIMIT, PROGRAM, TCP_RECORD, TORN, UDP_RECORD, WHOLE, Seen, as_bytes, can_trace, case, fault_lines, header, words_of
 from .steps import EXPLAINED, REPORT
 
 FILES = {
@@ -26,12 +25,6 @@ COMMANDS = [
     ("run r.txt whole.pcap", RAN, [], 0, {"out.pcap": WHOLE}),
     ("run r.txt torn.pcap", RAN, ["Interface 0 Capture 0 TornRecord 1"], 2, {"out.pcap": WHOLE}),
 ]
-
-
-def can_refuse():
-    """Whether a call of a program can be refused here."""
-    words = ["strace", "-qq", "-e", "trace=write", "-e", "inject=write:error=ENOSPC:when=1000", "true"]
-    return shutil.which("strace") is not None and subprocess.run(words, capture_output=True).returncode == 0
 
 
 def closings():
@@ -126,7 +119,7 @@ PRINTED_ONCE = [
 def nothing_is_printed_after_a_failed_write(scene):
     """One write of standard output fails, and later ones would not: that is reported, and nothing is printed then."""
     scene.put({**FILES, "lines.txt": "0 out.pcap\n"})
-    if not can_refuse():
+    if not can_trace():
         return scene.leave("strace can't trace here")
     for words, before in PRINTED_ONCE:
         seen = refused_once(scene, words, before + 1)
@@ -137,7 +130,7 @@ def nothing_is_printed_after_a_failed_write(scene):
 def no_hint_comes_without_its_fault(scene):
     """The line of a fault is not taken, and later ones would be: no hint comes then, and the status says the fault."""
     scene.put(FILES)
-    if not can_refuse():
+    if not can_trace():
         return scene.leave("strace can't trace here")
     for words, status in [("check 'src prot 17'", 1), ("cut -s 0 none.pcap out.pcap", 3), ("steps none.txt s.txt whole.pcap", 3),
                           ("check -f none.bpf", 3), ("explain -e ip torn.pcap", 2)]:
