@@ -261,7 +261,7 @@ def type_filters(visit):
           const begun = performance.now();
           field.dispatchEvent(new Event('input'));
           took.push(performance.now() - begun);
-          spun.push(spin());
+          if (n % 5 === 0) spun.push(spin());
         }
         return [took, spun]""")
     took, slow = statistics.median(took), statistics.median(spun)
