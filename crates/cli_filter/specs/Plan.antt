@@ -1,6 +1,6 @@
 -- The plan of a file of lines, each of which names a capture to write, by its OUT, and a filter. `Is` says what a line says; `output`,
 -- `expression` and `snap` are what that has of OUT, of the filter and of the snapshot length.
-use Rattle.std.specs.Prelude.{◌≡◌, ◌≢◌, ℕ, ◌+◌, ◌⊎◌, List, [], ◌∷◌, ◌++◌, length, take, Any, AllPairs, Some, codes, slice_get}
+use Rattle.std.specs.Prelude.{◌≡◌, ◌≢◌, ℕ, ◌+◌, ◌⊎◌, Bool, true, false, if◌then◌else◌, List, [], ◌∷◌, ◌++◌, length, take, Any, AllPairs, Some, codes, slice_get}
 use Rattle.std.specs.Fmt.{decimal}
 use Rattle.std.specs.List.{AllZip}
 use Rattle.std.specs.Str.{IsUtf8}
@@ -11,8 +11,7 @@ use Rattle.filtergen_facts.specs.declared.refusal.Refusal.TheVariants as uncompi
 use Rattle.filtergen.specs.declared.expression.ExpressionFault.{ExpressionFault}
 use Rattle.filtergen.specs.declared.expression.ExpressionFault.TheVariants.{Text, Tree}
 use Rattle.filtergen.specs.Expressions.{IsProgramOf, IsUncompiled}
-use Rattle.filterlang.specs.Faults.{fault_text}
-use Rattle.filtergen_facts.specs.Faults.{refusal_text}
+use Rattle.filtergen.specs.Faults.{expression_fault_text}
 use Rattle.cli_text.specs.Fields.{IsWord}
 use Rattle.cli_text.specs.Files.{Say, IsFileOf}
 use Rattle.cli_filter.specs.declared.plan.PlanFault.{PlanFault}
@@ -84,12 +83,22 @@ IsRefusedPlan {X} Is output expression snap most text (Expression n why) =
 IsRefusedPlan Is output expression snap most text TooMany = ⊥
 IsRefusedPlan Is output expression snap most text NoMemory = Unit {0}
 
+-- memory was refused
+abbrev pub is_memory : ExpressionFault → Bool
+is_memory (Text misread.NoMemory) = true
+is_memory (Tree uncompiled.NoMemory) = true
+is_memory other = false
+
+-- whether the text or its tree is refused
+abbrev pub uncompiled_name : ExpressionFault → List ℕ
+uncompiled_name (Text fault) = codes "Expression"
+uncompiled_name (Tree refusal) = codes "Compile"
+
 -- how the fault of the n-th line's expression is printed; out of memory has no place
 abbrev pub uncompiled_text : ℕ → ExpressionFault → List ℕ
-uncompiled_text n (Text misread.NoMemory) = codes "NoMemory"
-uncompiled_text n (Tree uncompiled.NoMemory) = codes "NoMemory"
-uncompiled_text n (Text fault) = codes "Expression " ++ decimal n ++ codes " " ++ fault_text fault
-uncompiled_text n (Tree refusal) = codes "Compile " ++ decimal n ++ codes " " ++ refusal_text refusal
+uncompiled_text n why =
+    if is_memory why then codes "NoMemory"
+    else uncompiled_name why ++ codes " " ++ decimal n ++ codes " " ++ expression_fault_text why
 
 -- how a fault is printed; that of a line begins with the name of the file
 abbrev pub plan_fault_text : List ℕ → PlanFault → List ℕ
