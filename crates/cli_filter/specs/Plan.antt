@@ -11,7 +11,8 @@ use Rattle.filtergen_facts.specs.declared.refusal.Refusal.TheVariants as uncompi
 use Rattle.filtergen.specs.declared.expression.ExpressionFault.{ExpressionFault}
 use Rattle.filtergen.specs.declared.expression.ExpressionFault.TheVariants.{Text, Tree}
 use Rattle.filtergen.specs.Expressions.{IsProgramOf, IsUncompiled}
-use Rattle.filtergen.specs.Faults.{expression_fault_text}
+use Rattle.filterlang.specs.Faults.{fault_text}
+use Rattle.filtergen_facts.specs.Faults.{refusal_text}
 use Rattle.cli_text.specs.Fields.{IsWord}
 use Rattle.cli_text.specs.Files.{Say, IsFileOf}
 use Rattle.cli_filter.specs.declared.plan.PlanFault.{PlanFault}
@@ -83,22 +84,20 @@ IsRefusedPlan {X} Is output expression snap most text (Expression n why) =
 IsRefusedPlan Is output expression snap most text TooMany = ⊥
 IsRefusedPlan Is output expression snap most text NoMemory = Unit {0}
 
--- memory was refused
-abbrev pub is_memory : ExpressionFault → Bool
-is_memory (Text misread.NoMemory) = true
-is_memory (Tree uncompiled.NoMemory) = true
-is_memory other = false
+-- whether it is memory that lacks, which is no fault of the expression
+abbrev pub lacks_memory : ExpressionFault → Bool
+lacks_memory (Text misread.NoMemory) = true
+lacks_memory (Tree uncompiled.NoMemory) = true
+lacks_memory fault = false
 
--- whether the text or its tree is refused
-abbrev pub uncompiled_name : ExpressionFault → List ℕ
-uncompiled_name (Text fault) = codes "Expression"
-uncompiled_name (Tree refusal) = codes "Compile"
+-- the fault of the expression of a line, from 0
+abbrev pub text_of_line : ℕ → ExpressionFault → List ℕ
+text_of_line n (Text fault) = codes "Expression " ++ decimal n ++ codes " " ++ fault_text fault
+text_of_line n (Tree refusal) = codes "Compile " ++ decimal n ++ codes " " ++ refusal_text refusal
 
 -- how the fault of the n-th line's expression is printed; out of memory has no place
 abbrev pub uncompiled_text : ℕ → ExpressionFault → List ℕ
-uncompiled_text n why =
-    if is_memory why then codes "NoMemory"
-    else uncompiled_name why ++ codes " " ++ decimal n ++ codes " " ++ expression_fault_text why
+uncompiled_text n fault = if lacks_memory fault then codes "NoMemory" else text_of_line n fault
 
 -- how a fault is printed; that of a line begins with the name of the file
 abbrev pub plan_fault_text : List ℕ → PlanFault → List ℕ

@@ -2,7 +2,7 @@
 
 ghost use Rattle.std.specs.Prelude.{◌≡◌, ℕ, List, IfErr, IfNone, IfOk, IfSome, Some, length};
 ghost use Rattle.std.specs.List.{AllZip};
-ghost use Rattle.cli_filter.specs.Plan.{AreCut, AreLines, AreNoLines, AreLastFields, AreUncompiled, IsCompiled, IsRefusedPlan, is_memory, plan_fault_text, uncompiled_text};
+ghost use Rattle.cli_filter.specs.Plan.{AreCut, AreLines, AreNoLines, AreLastFields, AreUncompiled, IsCompiled, IsRefusedPlan, lacks_memory, plan_fault_text, uncompiled_text};
 ghost use Rattle.cli_text.specs.Fields.{IsWord};
 ghost use Rattle.cli_filter.specs.declared.plan.PlanFault.TheVariants.{NoMemory};
 
@@ -85,14 +85,14 @@ pub struct PlanFaultText {
     pub fault: PlanFault,
 }
 
-/// Whether memory was refused.
-fn is_memory(fault: ExpressionFault) -> bool
-    ensures { result ≡ is_memory fault }
+/// Whether it is memory that lacks, which is no fault of the expression.
+fn lacks_memory(fault: ExpressionFault) -> bool
+    ensures { result ≡ lacks_memory fault }
 {
-    match fault {
-        ExpressionFault::Text(fault) => matches!(fault, filterlang::Fault::NoMemory),
-        ExpressionFault::Tree(refusal) => matches!(refusal, Refusal::NoMemory),
-    }
+    matches!(
+        fault,
+        ExpressionFault::Text(filterlang::Fault::NoMemory) | ExpressionFault::Tree(Refusal::NoMemory)
+    )
 }
 
 /// Why the expression of this line, from 0, has no program, as it is printed.
@@ -104,7 +104,7 @@ impl Display for UncompiledText {
 
     fn fmt<W: fmt::Write>(&self, f: &mut Formatter<W>) -> fmt::Result {
         let n = self.0;
-        if is_memory(self.1) {
+        if lacks_memory(self.1) {
             return f.write_str("NoMemory");
         }
         match self.1 {
@@ -141,7 +141,7 @@ impl PlanFaultText {
 
 /// Why the expression of this line, from 0, has no program.
 fn uncompiled_report(n: usize, fault: ExpressionFault) -> Report<'static> {
-    if is_memory(fault) {
+    if lacks_memory(fault) {
         return expression_report(fault);
     }
     let name = match fault {
