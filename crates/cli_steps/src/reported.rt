@@ -19,11 +19,22 @@ pub(crate) fn line_fault(fault: LineFault) -> Report<'static> {
 
 /// Why there is no replay of the captures at these paths.
 pub(crate) fn replay_fault<'a>(fault: Fault, paths: &[&'a str]) -> Report<'a> {
+    if let Fault::Capture(capture, fault) = fault {
+        return nth_capture_fault(fault, capture as usize, paths);
+    }
+    fault_without_path(fault)
+}
+
+/// Why there is no replay, without the path of a capture.
+fn fault_without_path(fault: Fault) -> Report<'static> {
     let name = fault.name();
     match fault {
         Fault::TooMany | Fault::NoMemory => Report::named(name),
         Fault::NoListener(step) => Report::placed(name, Word::count(step)),
-        Fault::Capture(capture, fault) => nth_capture_fault(fault, capture as usize, paths),
+        Fault::Capture(capture, fault) => {
+            let place = Word::record(fault.place());
+            Report::of_part(name, capture as usize, fault.name(), place)
+        }
         Fault::Expression(listener, fault) => {
             let place = Word::place(fault.place());
             Report::of_part(name, listener as usize, fault.name(), place)
