@@ -10,11 +10,11 @@ use crate::one::Found;
 use cli_text::Status;
 use cli_text::report::fault_status;
 use cli_walk::Stop;
-use fault_report::captures::{capture_fault, nth_capture_fault};
+use fault_report::captures::{capture_fault, device, nth_capture_fault};
 use fault_report::reporting::{
     report_capture as report_only, report_fault, report_memory, report_unwritten,
 };
-use fault_report::{FaultSink, Report, Word};
+use fault_report::{FaultSink, Report, Subject, Word};
 use savefile::Fault;
 
 /// Reports why not all was printed, if it was not.
@@ -69,12 +69,11 @@ pub fn report_one<R, E: FaultSink>(
 /// The fault of the capture of this number, of those at these paths: that a device failed names its path; any other fault has the
 /// number of the capture if there are several.
 fn fault_of<'a>(paths: &[&'a str], number: usize, fault: Fault) -> Report<'a> {
-    if paths.len() == 1 || fault == Fault::Device {
-        if let Some(path) = paths.get(number) {
-            return capture_fault(fault, *path);
-        }
+    match paths.get(number) {
+        Some(path) if fault == Fault::Device => device(Subject::File(*path)),
+        Some(path) if paths.len() == 1 => capture_fault(fault, *path),
+        _ => nth_capture_fault(fault, number, paths),
     }
-    nth_capture_fault(fault, number, paths)
 }
 
 /// Reports the fault of the capture of this number, of those at these paths: a failed device by its path; any other fault by its name, after

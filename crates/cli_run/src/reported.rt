@@ -25,14 +25,6 @@ pub(crate) fn replay_fault(fault: RunFault) -> Report<'static> {
     }
 }
 
-/// The n-th capture of those at these paths.
-fn subject_of<'a>(n: usize, paths: &[&'a str]) -> Option<Subject<'a>> {
-    match paths.get(n) {
-        Some(path) => Some(Subject::Capture(*path)),
-        None => None,
-    }
-}
-
 /// The fault of the n-th capture of the i-th interface, whose captures are at these paths.
 fn capture_fault<'a>(i: usize, n: usize, fault: Fault, paths: &[&'a str]) -> Report<'a> {
     Report {
@@ -44,7 +36,10 @@ fn capture_fault<'a>(i: usize, n: usize, fault: Fault, paths: &[&'a str]) -> Rep
             Word::Name(fault.name()),
             Word::record(fault.place()),
         ],
-        subject: subject_of(n, paths),
+        subject: match paths.get(n) {
+            Some(path) => Some(Subject::Capture(*path)),
+            None => None,
+        },
     }
 }
 
