@@ -23,9 +23,9 @@ use std::io::Write;
 
 /// The files of a split, in order: the captures that are read, and the lines whose OUT is written.
 #[derive(Clone, Copy)]
-pub struct SplitFiles<'s, 'a> {
-    pub captures: &'s [&'s str],
-    pub lines: &'s [SplitLine<'a>],
+pub struct SplitFiles<'c, 'p, 'l, 'a> {
+    pub captures: &'c [&'p str],
+    pub lines: &'l [SplitLine<'a>],
 }
 
 /// The line of a part that was written whole; no line of another one.
@@ -138,7 +138,7 @@ fn report_stop<E: FaultSink>(end: Result<(), Stop>, paths: &[&str], err: &mut E)
 /// Reports the OUT of each part that was not written whole, and what ended the reading, and returns the greatest of their statuses, as
 /// [`report_split`] does.
 pub fn report_faults<R, W, E: FaultSink>(
-    files: SplitFiles<'_, '_>,
+    files: SplitFiles<'_, '_, '_, '_>,
     end: &SplitEnd<R, W>,
     err: &mut E,
 ) -> Status
@@ -161,13 +161,13 @@ pub fn report_faults<R, W, E: FaultSink>(
 /// [`Status::Damaged`] for the fault of a record.
 pub fn report_split<R, W, O: Write, E: FaultSink>(
     form: LineForm,
-    files: SplitFiles<'_, '_>,
+    files: SplitFiles<'_, '_, '_, '_>,
     end: &SplitEnd<R, W>,
     line: &mut String,
     out: &mut O,
     err: &mut E,
 ) -> Status
-    ensures { ReportsSplit form files.lines.now end.now (O.contents out.old) (O.contents out.new) result }
+    ensures { ReportsSplit form files.entry.lines.now end.now (O.contents out.old) (O.contents out.new) result }
 {
     let printed = print_split(form, files.lines, end, line, out);
     let status = report_output(&printed, err);
