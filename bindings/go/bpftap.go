@@ -86,6 +86,8 @@ type Error struct {
 	Place uint64
 	// Number says which expression Compare refused, 1 or 2; else it is 0.
 	Number int
+	// Hint is what helps to fix an expression, a line or two, as the program prints it below the fault; "" if there is nothing to say.
+	Hint string
 }
 
 // Error is the fault as the program prints it: its name, and its place if it has one.
@@ -108,6 +110,18 @@ func errorOf(fault C.uint32_t, place uint64) error {
 		return nil
 	}
 	return &Error{Fault: Fault(fault), Place: place}
+}
+
+// refusalOf is the error of a call that read an expression, with its hint, or nil.
+func refusalOf(fault C.uint32_t, place C.size_t, expression string) error {
+	if fault == C.BPFTAP_OK {
+		return nil
+	}
+	code, size := textOf(expression)
+	hint, _ := text(1024, func(to *C.char, room C.size_t) C.struct_bpftap_result {
+		return C.calls_hint(code, size, fault, place, to, room)
+	})
+	return &Error{Fault: Fault(fault), Place: uint64(place), Hint: hint}
 }
 
 // text is what a call writes; it is called again where the room was too small.
@@ -141,8 +155,9 @@ func textOf(text string) (*C.char, C.size_t) {
 	return (*C.char)(unsafe.Pointer(bytesOf([]byte(text)))), C.size_t(len(text))
 }
 
-// Version is the version of the C library.
+// Version is the version of the C library, as 2.0.0.
 func Version() string {
-	version, _ := text(64, func(to *C.char, room C.size_t) C.struct_bpftap_result { return C.bpftap_version(to, room) })
+	line, _ := text(64, func(to *C.char, room C.size_t) C.struct_bpftap_result { return C.bpftap_version(to, room) })
+	version, _, _ := strings.Cut(line, " ")
 	return version
 }

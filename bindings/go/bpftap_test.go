@@ -116,6 +116,26 @@ func TestWhatIsEmpty(t *testing.T) {
 	same(t, "Compare", []any{found.Answer, err}, []any{bpftap.Same, nil})
 }
 
+func TestErrorsHaveAHint(t *testing.T) {
+	hint := func(err error) string {
+		var found *bpftap.Error
+		errors.As(err, &found)
+		return found.Hint
+	}
+	_, err := bpftap.Compile("icmp and proot 17")
+	same(t, "Compile", []string{err.Error(), hint(err)}, []string{"BadWord 9", "did you mean `proto`?"})
+	_, err = bpftap.Compile("ip6")
+	same(t, "two lines", strings.Count(hint(err), "\n"), 1)
+	_, err = bpftap.Compile(strings.Repeat("ip or ", 1300) + " proot")
+	same(t, "a long expression", hint(err), "did you mean `proto`?")
+	_, err = bpftap.CompileSnap("ip", 0)
+	same(t, "BadSnap", hint(err), "")
+	_, err = bpftap.FromListing("")
+	same(t, "FromListing", hint(err), "")
+	_, err = bpftap.Compare("tcp", "icmp and proot 17", bpftap.DefaultBudget)
+	same(t, "Compare", hint(err), "did you mean `proto`?")
+}
+
 func TestWhyDecides(t *testing.T) {
 	verdict, part, err := compiled(t, "ip and tcp port 80").Why(udp, 38)
 	same(t, "Why", []any{verdict, part, err}, []any{bpftap.No, "tcp port 80", nil})

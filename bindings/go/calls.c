@@ -55,6 +55,28 @@ struct bpftap_result calls_print(const char *text, size_t size, char *to, size_t
     return call.result;
 }
 
+struct hint {
+    const char *text;
+    size_t size;
+    uint32_t fault;
+    size_t place;
+    char *to;
+    size_t room;
+    struct bpftap_result result;
+};
+
+static void *hint(void *with) {
+    struct hint *call = with;
+    call->result = bpftap_hint(call->text, call->size, call->fault, call->place, call->to, call->room);
+    return NULL;
+}
+
+struct bpftap_result calls_hint(const char *text, size_t size, uint32_t fault, size_t place, char *to, size_t room) {
+    struct hint call = {text, size, fault, place, to, room, {BPFTAP_NO_MEMORY, 0, 0}};
+    size > SHORT ? deeply(hint, &call) : (void)hint(&call);
+    return call.result;
+}
+
 struct why {
     const char *text;
     size_t size;

@@ -8,6 +8,7 @@ import "C"
 import (
 	"io"
 	"time"
+	"unsafe"
 )
 
 // A Packet is what a capture has of a packet: its captured bytes, its length on the wire, and when it was captured.
@@ -52,26 +53,25 @@ func (r *Reader) Form() Form {
 	return Form{BigEndian: r.at.order != 0, Nanoseconds: r.at.unit != 0, Snap: uint32(r.at.snap)}
 }
 
-// next reads a record. A bad one is the last one.
-func (r *Reader) next() (C.struct_bpftap_record, error) {
-	if r.last != nil {
-		return C.struct_bpftap_record{}, r.last
-	}
-	record := C.bpftap_next(bytesOf(r.memory), C.size_t(len(r.memory)), &r.at)
-	switch {
-	case record.fault == C.BPFTAP_END:
+// end keeps why there is no further record, if there is none.
+func (r *Reader) end(fault C.uint32_t, place uint64) {
+	switch fault {
+	case C.BPFTAP_OK:
+	case C.BPFTAP_END:
 		r.last = io.EOF
-	case record.fault != C.BPFTAP_OK:
-		r.last = errorOf(record.fault, uint64(record.place))
+	default:
+		r.last = errorOf(fault, place)
 	}
-	return record, r.last
 }
 
 // Next is the next packet, whose bytes lie in the capture. After the last one the error is io.EOF, or that of a torn or bad record.
 func (r *Reader) Next() (Packet, error) {
-	record, err := r.next()
-	if err != nil {
-		return Packet{}, err
+	if r.last != nil {
+		return Packet{}, r.last
+	}
+	record := C.bpftap_next(bytesOf(r.memory), C.size_t(len(r.memory)), &r.at)
+	if r.end(record.fault, uint64(record.place)); r.last != nil {
+		return Packet{}, r.last
 	}
 	data := r.memory[record.offset : uint64(record.offset)+uint64(record.captured)]
 	return Packet{data, uint32(record.wire), time.Unix(int64(record.seconds), int64(record.nanos)).UTC()}, nil
@@ -95,16 +95,16 @@ func (r *Reader) All() ([]Packet, error) {
 // Spans are where the packets that are left lie, for Filter.RunSpans over the same capture, and why there is no further one.
 func (r *Reader) Spans() ([]Span, error) {
 	var spans []Span
-	for {
-		record, err := r.next()
-		if err == io.EOF {
-			return spans, nil
-		}
-		if err != nil {
-			return spans, err
-		}
-		spans = append(spans, Span{uint64(record.offset), uint32(record.captured), uint32(record.wire)})
+	for r.last == nil {
+		part := make([]Span, 1024)
+		found := C.bpftap_spans(bytesOf(r.memory), C.size_t(len(r.memory)), &r.at, (*C.struct_bpftap_span)(unsafe.Pointer(&part[0])), C.size_t(len(part)))
+		spans = append(spans, part[:found.size]...)
+		r.end(found.fault, uint64(found.place))
 	}
+	if r.last != io.EOF {
+		return spans, r.last
+	}
+	return spans, nil
 }
 
 // A Writer writes a capture.

@@ -62,7 +62,7 @@ func Compare(first, second string, budget uint64) (Comparison, error) {
 			continue
 		}
 		if found.fault != C.BPFTAP_OK {
-			failed := &Error{Fault: Fault(found.fault), Place: uint64(found.place)}
+			failed := refusalOf(found.fault, found.place, [2]string{first, second}[found.number]).(*Error)
 			if failed.Fault != NoMemory {
 				failed.Number = int(found.number) + 1
 			}

@@ -48,6 +48,15 @@ func ExampleCompile() {
 	// Output: BadWord 5 true
 }
 
+func ExampleError() {
+	_, err := bpftap.Compile("icmp and proot 17")
+	var refused *bpftap.Error
+	if errors.As(err, &refused) {
+		fmt.Println(refused, refused.Hint)
+	}
+	// Output: BadWord 9 did you mean `proto`?
+}
+
 func ExampleCompare() {
 	found, _ := bpftap.Compare("port 80", "src port 80 or dst port 80", bpftap.DefaultBudget)
 	fmt.Println(found.Answer)

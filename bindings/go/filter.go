@@ -47,7 +47,7 @@ func CompileSnap(expression string, snap uint32) (*Filter, error) {
 	insns := make([]Insn, MaxInsns)
 	text, size := textOf(expression)
 	result := C.calls_compile(text, size, C.uint32_t(snap), insnsOf(insns), MaxInsns)
-	if err := errorOf(result.fault, uint64(result.place)); err != nil {
+	if err := refusalOf(result.fault, result.place, expression); err != nil {
 		return nil, err
 	}
 	filter, err := FromInsns(insns[:result.size])

@@ -2,7 +2,7 @@
 
 import { Ended } from "./jobs.js";
 import { OK, SAMENESS } from "./library.js";
-import { faultLines } from "./filter.js";
+import { explain } from "./filter.js";
 import { find, make, settled } from "./dom.js";
 
 /** @typedef {import("./library.js").Library} Library */
@@ -94,8 +94,8 @@ export class ComparisonView {
   show(first, second, found) {
     const library = /** @type {Library} */ (this.library), { fault, number, answer, cause, packet, wire } = found;
     if (fault !== OK) {
-      const lines = faultLines(library, number ? second : first, found);
-      this.say(make("pre", { class: "fault" }, lines.join("\n")));
+      const refusal = explain(library, number ? second : first, found);
+      this.say(make("pre", { class: "fault" }, refusal.fault), make("p", { class: "hint" }, refusal.hint));
       return;
     }
     this.say(make("strong", { class: SAMENESS[answer].replace(/ /g, "-") }, ANSWERS[answer]), " ", CAUSES[cause]);

@@ -23,14 +23,15 @@ export function caret(text, place) {
 }
 
 /**
- * The lines that explain a fault of an expression: the caret if it has a place, and its name.
+ * What explains a fault of an expression: the caret if it has a place, its name, and what helps to fix it.
  * @param {Library} library
  * @param {string} expression
  * @param {{ fault: number, place: number }} answer
+ * @returns {{ fault: string, hint: string }}
  */
-export function faultLines(library, expression, { fault, place }) {
-  const name = library.faultText(fault, place);
-  return / \d+$/.test(name) ? [caret(expression, place), name] : [name];
+export function explain(library, expression, answer) {
+  const { fault, place } = answer, name = library.faultText(fault, place);
+  return { fault: / \d+$/.test(name) ? `${caret(expression, place)}\n${name}` : name, hint: library.hint(expression, answer) };
 }
 
 export class FilterView {
@@ -62,22 +63,23 @@ export class FilterView {
   read() {
     const library = /** @type {Library} */ (this.library), expression = this.input.value, answer = library.compile(expression);
     if (answer.fault !== OK) {
-      this.show(faultLines(library, expression, answer).join("\n"), "", []);
+      this.show(explain(library, expression, answer), "", []);
       this.onFilter(null);
       return;
     }
     const image = library.image(answer.insns).text.trimEnd().split("\n").map((line) => line.replace("\t", " "));
-    this.show("", library.print(expression).text, image);
+    this.show({ fault: "", hint: "" }, library.print(expression).text, image);
     this.onFilter({ expression, insns: answer.insns, program: decode(answer.insns), image });
   }
 
   /**
-   * @param {string} fault
+   * @param {{ fault: string, hint: string }} refusal
    * @param {string} canonical
    * @param {string[]} image
    */
-  show(fault, canonical, image) {
+  show({ fault, hint }, canonical, image) {
     find("fault").textContent = fault;
+    find("hint").textContent = hint;
     this.input.setAttribute("aria-invalid", String(fault !== ""));
     const count = `${image.length} instruction${image.length === 1 ? "" : "s"}`;
     find("canonical").replaceChildren(...(fault ? [] : ["read as ", make("code", {}, canonical || "(every packet)"), `: ${count}`]));

@@ -76,8 +76,9 @@ export class Library extends Memory {
     }
   }
 
+  /** The version without the processor that the native library is made for. */
   version() {
-    return this.textOf("version", () => []).text;
+    return this.textOf("version", () => []).text.split(" ")[0];
   }
 
   /**
@@ -86,6 +87,15 @@ export class Library extends Memory {
    */
   faultText(fault, place) {
     return this.textOf("fault_text", () => [fault, BigInt(place)]).text;
+  }
+
+  /**
+   * What helps to fix an expression that a call refused, a line or two, or nothing.
+   * @param {string} expression
+   * @param {{ fault: number, place: number }} answer
+   */
+  hint(expression, { fault, place }) {
+    return this.textOf("hint", (take) => [...words(this.putText(take, expression)), fault, BigInt(place)]).text;
   }
 
   /**

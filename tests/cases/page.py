@@ -11,7 +11,7 @@ import subprocess
 import sys
 import time
 
-from . import library
+from . import hints, library
 from .common import HEADER, IP_RECORD, LIMIT, ROOT, TORN, VETH, case, records
 
 SOURCES = ROOT / "page"
@@ -148,6 +148,21 @@ def module_answers_as_the_native_library(scene):
 
 
 @case
+def hints_are_those_of_the_program(scene):
+    """What the page prints below the fault of an expression: the lines that the program prints there."""
+    if not is_there(scene) or not scene.has("node"):
+        return
+    scene.start({"module": part("module")})
+    asked = {"packets": [], "expressions": [text for text, _, _ in hints.EXPRESSIONS], "pairs": [], "captures": [], "replays": []}
+    seen, status = printed(scene, ["node", HARNESS / "module.js", "module"], json.dumps(asked))
+    scene.check("status", status, 0)
+    for (text, fault, below), line in zip(hints.EXPRESSIONS, seen.splitlines()):
+        lines = [line[2:] for line in below.splitlines()]
+        carets = [number for number, line in enumerate(lines) if line.strip() == "^"]
+        scene.check(text, json.loads(line)[5:], [fault, "\n".join(lines[carets[0] + 1 if carets else 1:])])
+
+
+@case
 def refused_memory_is_no_trap(scene):
     """Each allocation of some calls fails in turn: the call returns NoMemory and gives all back. An address above 4 GiB traps, and the library
     goes on anew."""
@@ -244,9 +259,10 @@ def type_filters(visit):
     visit.open()
     visit.filter("icmp and proot 17")
     visit.check("a fault with its caret", visit.text("fault").splitlines(), [" " * 9 + "^", "BadWord 9"])
+    visit.check("its hint", visit.text("hint"), "did you mean `proto`?")
     visit.filter("udp port 5353")
     visit.check_has("another filter", "counts", "253 packets: 67 Yes, 186 No, 0 Abort")
-    visit.check("no fault is left", visit.text("fault"), "")
+    visit.check("no fault is left", visit.text("fault") + visit.text("hint"), "")
     visit.run("const only = document.getElementById('only'); only.value = 'Yes'; only.dispatchEvent(new Event('change'))")
     places = "return [...document.querySelectorAll('.row')].map((row) => row.dataset.place).join(' ')"
     shown = visit.run(places)
@@ -391,8 +407,8 @@ def stay_quiet(visit):
     visit.check("requests", {url.partition("#")[0] for url in asked} - {f"file://{PAGE}", "about:blank"}, set())
 
 
-VISITS = [get_ready, look_at_packet, see_marked_bytes, type_filters, use_keys_alone, see_difference, give_files, give_many_packets, play_steps, follow_lesson,
-          stay_quiet, survive_trap]
+VISITS = [look_at_packet, see_marked_bytes, type_filters, use_keys_alone, see_difference, give_files, get_ready, give_many_packets, play_steps,
+          follow_lesson, stay_quiet, survive_trap]
 
 
 def visit_page(scene, kind):
@@ -400,7 +416,7 @@ def visit_page(scene, kind):
     if not is_there(scene) or not scene.has(*kind.tools):
         return
     scene.start({})
-    browser = kind()
+    browser = browsers.started(kind)
     try:
         for one in VISITS:
             one(Visit(scene, browser))

@@ -11,8 +11,9 @@ import time
 import urllib.error
 import urllib.request
 
-# How long a browser may take to start, and a page to get ready, in seconds.
-LIMIT = 180
+# How long a page may take to get ready, and how long and how often a browser may be tried to start, in seconds: on a busy machine Firefox sometimes
+# does not.
+LIMIT, START_LIMIT, STARTS = 180, 60, 3
 # The key under which a driver hands out an element, and codes of keys.
 ELEMENT = "element-6066-11e4-a52e-4f735466cecf"
 KEYS = {"Tab": "\ue004", "ArrowLeft": "\ue012", "ArrowUp": "\ue013", "ArrowRight": "\ue014", "ArrowDown": "\ue015", "End": "\ue010",
@@ -154,8 +155,10 @@ class Firefox(Browser):
         self.process = subprocess.Popen(words, stdout=self.said, stderr=self.said, start_new_session=True)
         try:
             self.wire = wait_until(lambda: self.connected(port), "Firefox")
+            self.wire.settimeout(START_LIMIT)
             self.read()
             made = self.send("WebDriver:NewSession", {"capabilities": {"alwaysMatch": {}}})
+            self.wire.settimeout(LIMIT)
         except (OSError, BrowserError):
             self.process.kill()
             raise
@@ -210,6 +213,14 @@ class Firefox(Browser):
             self.process.wait(LIMIT)
         self.said.close()
         self.folder.cleanup()
+
+
+def started(kind):
+    """A browser that got ready."""
+    for _ in range(STARTS - 1):
+        with contextlib.suppress(OSError, BrowserError):
+            return kind()
+    return kind()
 
 
 def installed(kind):

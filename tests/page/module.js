@@ -23,7 +23,7 @@ function expression(text) {
   const answers = whys.map((why) => [why.verdict, textOr(why)]);
   const looks = packets.map(([packet, wire]) => library.looks(text, packet, wire).map((look) => [look.offset, look.size]));
   const answer = [fault, place, size, textOr(library.print(text)), digest(JSON.stringify([answers, looks]))];
-  if (fault !== OK) return [...answer, library.faultText(fault, place)];
+  if (fault !== OK) return [...answer, library.faultText(fault, place), library.hint(text, { fault, place })];
   const runs = packets.map(([packet, wire]) => {
     const trace = library.trace(insns, packet, wire);
     return [trace.answer, trace.steps.map((step) => [step.place, step.accumulator, step.index, step.cell, step.value])];

@@ -33,6 +33,7 @@ INSNS = [TEXT, SIZE]
 CALLS = {
     "compile": (Result, [TEXT, SIZE, U32, TEXT, SIZE]), "print": (Result, [TEXT, SIZE, TEXT, SIZE]), "image": (Result, [*INSNS, TEXT, SIZE]),
     "why": (Reason, [TEXT, SIZE, TEXT, SIZE, U32, TEXT, SIZE]), "fault_text": (Result, [U32, SIZE, TEXT, SIZE]),
+    "hint": (Result, [TEXT, SIZE, U32, SIZE, TEXT, SIZE]),
     "trace": (Traced, [*INSNS, TEXT, SIZE, U32, ctypes.c_void_p, SIZE]),
     "looks": (Result, [TEXT, SIZE, TEXT, SIZE, U32, ctypes.c_void_p, SIZE]), "compare": (Comparison, [TEXT, SIZE, TEXT, SIZE, SIZE, TEXT, SIZE]),
     "open": (Reader, [TEXT, SIZE]), "next": (Record, [TEXT, SIZE, ctypes.POINTER(Reader)]), "cut": (Result, [TEXT, SIZE, *INSNS, U32, TEXT, SIZE]),
@@ -93,7 +94,8 @@ def expression(packets, text):
     looks = [looks_of(text, packet, wire) for packet, wire in packets]
     found = [compiled.fault, compiled.place, compiled.size, text_or(call("print", *sized(text), memory, ROOM)), digest(dump([answers, looks]))]
     if compiled.fault != OK:
-        return [*found, text_or(call("fault_text", compiled.fault, compiled.place, memory, ROOM))]
+        fault = compiled.fault, compiled.place
+        return [*found, text_or(call("fault_text", *fault, memory, ROOM)), text_or(call("hint", *sized(text), *fault, memory, ROOM))]
     image = text_or(call("image", program, len(program) // 8, memory, ROOM))
     return [*found, program.hex(), image, digest(dump([run_of(program, *packet) for packet in packets]))]
 

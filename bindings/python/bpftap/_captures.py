@@ -13,16 +13,13 @@ from collections.abc import Callable, Iterable, Iterator
 
 from ._errors import Fault, raise_fault
 from ._filters import Filter, FilterError, filter_of
-from ._library import MAX_SNAP, NO_MEMORY, Insn, Record, buffer_of, bytes_of, in_range, lib, room_of, view_of
+from ._library import END, MAX_SNAP, Record, buffer_of, bytes_of, in_range, lib, room_of, view_of
 from ._packets import Packet
 
 SECOND = 10**9
 
-# Makes a `Packet` of a tuple in a third of the time that its own `__new__` takes.
-_new = tuple.__new__
-
-# The program that accepts no packet.
-NONE = (Insn * 1)((6, 0, 0, 0))
+# How many records are read at once.
+BATCH = 1024
 
 
 class CaptureError(Fault):
@@ -60,6 +57,16 @@ class Spans:
         return self._times()
 
 
+def _spans_of(memory, size, reader):
+    """The spans of all records up to the end of a capture, as one array, and what ended it: a fault and its place."""
+    rows, part = array("Q"), array("Q", bytes(16 * BATCH))
+    while True:
+        found = lib.bpftap_spans(memory, size, reader, part.buffer_info()[0], BATCH)
+        rows += part[: 2 * found.size]
+        if found.fault or not found.size:
+            return rows, (0 if found.fault == END else found.fault, found.place)
+
+
 class Capture:
     """A capture in memory: an iterable of its packets, with a length and an index. A torn or bad record ends it: it raises the `CaptureError`
     that `fault` has, after the packets before it.
@@ -72,16 +79,8 @@ class Capture:
         with buffer_of(self._content) as (memory, size):
             self._reader = lib.bpftap_open(memory, size)
             raise_fault(CaptureError, self._reader.fault, 0)
-            # One call reads all records: a cut that keeps none of them. What is read below was read by the library before.
-            end = lib.bpftap_cut(memory, size, NONE, 1, 0, ctypes.create_string_buffer(24), 24)
-        if end.fault == NO_MEMORY:
-            raise_fault(CaptureError, end.fault, 0)
+            self._rows, self._end = _spans_of(memory, size, self._reader)
         self._fields = struct.Struct(">4I" if self.big_endian else "<4I").unpack_from
-        self._end, self._size = (end.fault, end.place), size
-        if end.fault:
-            self._size = self._reader.offset
-            for _ in range(end.place):
-                self._size += 16 + self._fields(self._content, self._size)[2]
 
     @property
     def fault(self) -> CaptureError | None:
@@ -117,15 +116,6 @@ class Capture:
         """Where the packets lie: `filter.run_spans(capture.content, capture.spans())` asks a filter of all of them in one call."""
         return Spans(self._rows, self._times)
 
-    @functools.cached_property
-    def _rows(self):
-        content, fields, rows, at, end = self.content, self._fields, [], self._reader.offset, self._size
-        while at < end:
-            _, _, captured, wire = fields(content, at)
-            rows += at + 16, captured | wire << 32
-            at += 16 + captured
-        return array("Q", rows)
-
     def _times(self):
         unit, times = 1 if self.nanoseconds else 1000, array("Q")
         for offset in self._rows[::2]:
@@ -140,25 +130,20 @@ class Capture:
         offsets = self._rows[::2][place]
         return [*self._packets(offsets)] if isinstance(place, slice) else next(self._packets([offsets]))
 
-    def _packets(self, offsets):
-        """The packets whose bytes begin at these offsets."""
-        content, fields, unit = self.content, self._fields, 1 if self.nanoseconds else 1000
+    def _packets(self, offsets, is_all=False):
+        """The packets whose bytes begin at these offsets; after all of them comes what ended the capture."""
+        content, fields, unit, new = self.content, self._fields, 1 if self.nanoseconds else 1000, tuple.__new__
         is_view = type(content) is not bytes
         for offset in offsets:
             seconds, part, captured, wire = fields(content, offset - 16)
             data = content[offset : offset + captured]
-            yield _new(Packet, (bytes(data) if is_view else data, wire, seconds, part * unit))
-
-    def _offsets(self):
-        """Where the bytes of each packet begin."""
-        content, fields, at, end = self.content, self._fields, self._reader.offset, self._size
-        while at < end:
-            yield at + 16
-            at += 16 + fields(content, at)[2]
+            # Packet's own `__new__` takes three times as long.
+            yield new(Packet, (bytes(data) if is_view else data, wire, seconds, part * unit))
+        if is_all:
+            raise_fault(CaptureError, *self._end)
 
     def __iter__(self) -> Iterator[Packet]:
-        yield from self._packets(self._offsets())
-        raise_fault(CaptureError, *self._end)
+        return self._packets(self._rows[::2], True)
 
     def answers(self, keep: Filter | str) -> array[int]:
         """What a filter or expression answers to each packet: how many bytes of it are kept, 0 if it is rejected."""
@@ -167,8 +152,7 @@ class Capture:
     def matching(self, keep: Filter | str) -> Iterator[Packet]:
         """The packets that a filter or expression accepts. All are asked in one call, so it is faster than to ask `Filter.matches` of each.
         A torn or bad record raises a `CaptureError` after them."""
-        yield from self._packets(itertools.compress(self._rows[::2], self.answers(keep)))
-        raise_fault(CaptureError, *self._end)
+        return self._packets(itertools.compress(self._rows[::2], self.answers(keep)), True)
 
     def close(self) -> None:
         """Forgets the content. Packets and spans that were taken stay."""

@@ -5,8 +5,7 @@ from __future__ import annotations
 import enum
 from dataclasses import dataclass
 
-from ._filters import FilterError
-from ._errors import raise_fault
+from ._filters import raise_refusal
 from ._library import in_range, lib, text, utf8
 from ._stacks import deeply
 
@@ -48,11 +47,7 @@ def compare(first: str, second: str, budget: int = 2_000_000) -> Comparison:
     memory and the time. An expression that is refused is a `FilterError`; its attribute `number` says which one, 1 or 2."""
     one, other, budget = utf8("first", first), utf8("second", second), in_range("budget", budget, 2**64 - 1)
     result, packet = deeply(lambda: text(lambda *to: lib.bpftap_compare(one, len(one), other, len(other), budget, *to)))
-    try:
-        raise_fault(FilterError, result.fault, result.place)
-    except FilterError as error:
-        error.number = result.number + 1
-        raise
+    raise_refusal(result, (one, other)[result.number], result.number + 1)
     answer = Sameness(result.answer)
     if answer in (Sameness.SHORT, Sameness.DIFFER):
         return Comparison(answer, packet, result.wire)

@@ -20,9 +20,14 @@ if TYPE_CHECKING:
 
 
 class FilterError(Fault):
-    """An expression, a listing or a program is refused."""
+    """An expression, a listing or a program is refused. It is printed as the program prints it: the line of the fault, and the hint below."""
     number: int | None = None
     """Which expression `compare` refused, 1 or 2; `None` if another call failed."""
+    hint: str | None = None
+    """What helps to fix an expression, a line or two; `None` if there is nothing to say."""
+
+    def __str__(self) -> str:
+        return "\n  ".join([super().__str__(), *(self.hint or "").splitlines()])
 
 
 class Verdict(enum.IntEnum):
@@ -33,8 +38,16 @@ class Verdict(enum.IntEnum):
     ABORT = 2
 
 
-def _raised(result):
-    raise_fault(FilterError, result.fault, result.place)
+def raise_refusal(result, code=None, number=None):
+    """Raises the fault of a result, if there is one; with the hint to it, if it is one of an expression. Returns the result."""
+    try:
+        raise_fault(FilterError, result.fault, result.place)
+    except FilterError as error:
+        if code is not None:
+            fault, place = result.fault, result.place
+            error.hint = reading(code, lambda: text(lambda *to: lib.bpftap_hint(code, len(code), fault, place, *to)))[1].decode() or None
+        error.number = number
+        raise
     return result
 
 
@@ -86,21 +99,21 @@ class Filter:
     def __init__(self, expression: str, snap: int = MAX_SNAP):
         insns, code, snap = (Insn * MAX_INSNS)(), utf8("expression", expression), int_of("snap", snap)
         snap = snap if 0 < snap <= MAX_SNAP else 0  # BadSnap, if the text is an expression
-        made = _raised(reading(code, lambda: lib.bpftap_compile(code, len(code), snap, insns, MAX_INSNS)))
+        made = raise_refusal(reading(code, lambda: lib.bpftap_compile(code, len(code), snap, insns, MAX_INSNS)), code)
         self._keep(insns, made.size, expression)
 
     @classmethod
     def from_listing(cls, listing: str) -> Filter:
         insns = (Insn * MAX_INSNS)()
         code = utf8("listing", listing)
-        return cls._of(insns, _raised(lib.bpftap_read_listing(code, len(code), insns, MAX_INSNS)).size)
+        return cls._of(insns, raise_refusal(lib.bpftap_read_listing(code, len(code), insns, MAX_INSNS)).size)
 
     @classmethod
     def from_program(cls, program: Iterable[Sequence[int]]) -> Filter:
         """Of instructions, each four numbers `(code, jt, jf, k)`."""
         rows = [_row(place, insn) for place, insn in enumerate(program)]
         insns = (Insn * max(1, len(rows)))(*rows)
-        _raised(lib.bpftap_check(insns, len(rows)))
+        raise_refusal(lib.bpftap_check(insns, len(rows)))
         return cls._of(insns, len(rows))
 
     @classmethod
@@ -158,7 +171,7 @@ class Filter:
     def _run_joined(self, part):
         memory, sizes, answers = b"".join(part), array("I", [*map(len, part)]), array("I", bytes(4 * len(part)))
         where = [(numbers.buffer_info()[0], len(numbers)) for numbers in (sizes, answers)]
-        _raised(lib.bpftap_program_run_joined(self._at, memory, len(memory), *where[0], *where[1]))
+        raise_refusal(lib.bpftap_program_run_joined(self._at, memory, len(memory), *where[0], *where[1]))
         return answers
 
     def _run_parts(self, part, wires):
@@ -181,7 +194,7 @@ class Filter:
             count = spans_size // 16
             answers = array("I", bytes(4 * count))
             if count:
-                _raised(lib.bpftap_program_run_spans(self._at, content, size, where, count, answers.buffer_info()[0], count))
+                raise_refusal(lib.bpftap_program_run_spans(self._at, content, size, where, count, answers.buffer_info()[0], count))
         return answers
 
     def decide(self, packet: Packet | bytes, wire: int | None = None) -> tuple[Verdict, str]:
@@ -190,7 +203,7 @@ class Filter:
             raise TypeError("a program has no expression to explain")
         code, (packet, wire) = utf8("expression", self.expression), parts_of(packet, wire)
         reason, line = reading(code, lambda: text(lambda *to: lib.bpftap_why(code, len(code), packet, len(packet), wire, *to)))
-        _raised(reason)
+        raise_refusal(reason)
         return Verdict(reason.verdict), line.decode().partition(" ")[2]
 
     def why(self, packet: Packet | bytes, wire: int | None = None) -> str:
@@ -202,7 +215,7 @@ class Filter:
         """Which instructions a run over a packet executes, in order."""
         packet, wire = parts_of(packet, wire)
         to = (_library.Executed * MAX_INSNS)()
-        size = _raised(lib.bpftap_trace(self._insns, self._size, packet, len(packet), wire, to, MAX_INSNS)).size
+        size = raise_refusal(lib.bpftap_trace(self._insns, self._size, packet, len(packet), wire, to, MAX_INSNS)).size
         return [Executed(one.place, one.accumulator, one.index, None if one.cell == _library.NO_CELL else one.cell, one.value) for one in to[:size]]
 
     def looks(self, packet: Packet | bytes, wire: int | None = None) -> list[Look]:
@@ -217,7 +230,7 @@ class Filter:
             if result.fault != _library.NO_ROOM:
                 break
             room = result.size
-        return [Look(one.offset, one.size) for one in to[: _raised(result).size]]
+        return [Look(one.offset, one.size) for one in to[: raise_refusal(result).size]]
 
     @property
     def program(self) -> list[tuple[int, int, int, int]]:
@@ -236,7 +249,7 @@ class Filter:
 
     def _text(self, call):
         result, found = text(lambda to, room: call(self._insns, self._size, to, room))
-        _raised(result)
+        raise_refusal(result)
         return found.decode()
 
     @property
@@ -246,7 +259,7 @@ class Filter:
             raise TypeError("a program has no expression to print")
         code = utf8("expression", self.expression)
         result, found = reading(code, lambda: text(lambda *to: lib.bpftap_print(code, len(code), *to)))
-        _raised(result)
+        raise_refusal(result)
         return found.decode()
 
 

@@ -122,6 +122,7 @@ _FUNCTIONS = {
     "compare": (Comparison, [*_BYTES, *_BYTES, c_size_t, *_ROOM]),
     "open": (Reader, _BYTES),
     "next": (Record, [*_BYTES, POINTER(Reader)]),
+    "spans": (Result, [*_BYTES, POINTER(Reader), c_void_p, c_size_t]),
     "put_header": (Result, [c_uint32, c_uint32, c_uint32, *_ROOM]),
     "put": (Result, [c_uint32, c_uint32, POINTER(Record), *_BYTES, *_ROOM]),
     "cut": (Result, [*_BYTES, *_INSNS, c_uint32, *_ROOM]),
@@ -132,6 +133,7 @@ _FUNCTIONS = {
     "listener_close": (None, [POINTER(Tap)]),
     "listener_next": (Message, [POINTER(Buffer), POINTER(c_size_t)]),
     "fault_text": (Result, [c_uint32, c_size_t, *_ROOM]),
+    "hint": (Result, [*_BYTES, c_uint32, c_size_t, *_ROOM]),
     "version": (Result, _ROOM),
 }
 
@@ -164,8 +166,8 @@ def text(call, room=4096):
 
 
 def version() -> str:
-    """The version of the C library."""
-    return text(lib.bpftap_version)[1].decode()
+    """The version of the C library, as `2.0.0`."""
+    return text(lib.bpftap_version)[1].decode().partition(" ")[0]
 
 
 class _View(ctypes.Structure):

@@ -53,8 +53,22 @@ class Filters(unittest.TestCase):
             with self.assertRaises(FilterError) as caught:
                 Filter(text)
             self.assertEqual((caught.exception.name, caught.exception.place), (name, place))
-        with self.assertRaisesRegex(FilterError, "^BadSnap$"):
+        with self.assertRaisesRegex(FilterError, "^BadSnap$") as caught:
             Filter("ip", snap=0)
+        self.assertIsNone(caught.exception.hint)
+
+    def test_a_refused_expression_has_a_hint(self):
+        for call, number in ((lambda: Filter("icmp and proot 17"), None), (lambda: bpftap.compare("tcp", "icmp and proot 17"), 2)):
+            with self.assertRaises(FilterError) as caught:
+                call()
+            for error in (caught.exception, pickle.loads(pickle.dumps(caught.exception))):
+                self.assertEqual((error.hint, error.number), ("did you mean `proto`?", number))
+                self.assertEqual(str(error), "BadWord 9\n  did you mean `proto`?")
+        with self.assertRaises(FilterError) as caught:
+            Filter("ip6")
+        self.assertRegex(str(caught.exception), r"\ABadWord 0\n  only Ethernet .*\n  libpcap may read that: .*\Z")
+        with self.assertRaisesRegex(FilterError, r"\ATooLong\n  its program may have more than 512 instructions: "):
+            Filter(" or ".join(f"ip[{at}:2] + len > {at}" for at in range(120)))
 
     def test_programs_and_listings(self):
         listed = Filter.from_listing(LISTING)
@@ -137,7 +151,7 @@ class Filters(unittest.TestCase):
         finally:
             threading.stack_size(before)
         self.assertEqual(ended, [("ip or ip", "Yes", bpftap.Sameness.DIFFER)])
-        with self.assertRaisesRegex(FilterError, "^BadWord 7801$"):
+        with self.assertRaisesRegex(FilterError, r"\ABadWord 7801\n  "):
             Filter("ip or " * 1300 + " http")
 
     def test_batches(self):
@@ -447,7 +461,7 @@ class Captures(unittest.TestCase):
         self.assertEqual(list(bpftap.Capture(bpftap.cut(content, Filter("udp")))), self.PACKETS[1:])
         self.assertEqual([packet.data for packet in bpftap.Capture(bpftap.cut(content, Filter("ip"), 20))], [TCP[:20], UDP[:20]])
         self.assertEqual(bpftap.cut(content, "udp"), bpftap.cut(content, Filter("udp")))
-        with self.assertRaisesRegex(FilterError, "^BadWord 5$"):
+        with self.assertRaisesRegex(FilterError, r"\ABadWord 5\n  "):
             bpftap.cut(content, "port http")
         with self.assertRaisesRegex(CaptureError, "^TornRecord 1$") as caught:
             bpftap.cut(content[:-1], Filter("ip"))
@@ -517,7 +531,7 @@ class Assertions(unittest.TestCase):
             Filter.from_listing(LISTING).assert_matches([b"", UDP], {0})
 
     def test_the_version(self):
-        self.assertRegex(bpftap.version(), r"^\d+\.\d+\.\d+")
+        self.assertRegex(bpftap.version(), r"^\d+\.\d+\.\d+$")
         self.assertEqual(bpftap.__version__, bpftap.version())
 
 

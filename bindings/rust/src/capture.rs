@@ -95,14 +95,19 @@ impl<'a> Packets<'a> {
     /// assert_eq!(bpftap::Filter::with_snap("len = 60", 96)?.run_spans(&capture, &spans), [96]);
     /// # Ok::<(), std::io::Error>(())
     /// ```
-    pub fn spans(self) -> Result<Vec<Span>, Error> {
-        let begin = self.memory.as_ptr() as usize;
-        let span = |packet: Packet<'_>| Span {
-            offset: (packet.data.as_ptr() as usize - begin) as u64,
-            captured: packet.data.len() as u32,
-            wire: packet.wire,
-        };
-        self.map(|packet| packet.map(span)).collect()
+    pub fn spans(mut self) -> Result<Vec<Span>, Error> {
+        let (mut spans, mut part) = (Vec::new(), [Span::default(); 1024]);
+        while !self.failed {
+            let (memory, size) = (self.memory.as_ptr(), self.memory.len());
+            let found = unsafe { ffi::bpftap_spans(memory, size, &mut self.reader, part.as_mut_ptr(), part.len()) };
+            spans.extend_from_slice(&part[..found.size]);
+            match found.fault {
+                0 => (),
+                ffi::END => break,
+                fault => return Err(Error { fault: Fault::of(fault), place: found.place as u64, number: None }),
+            }
+        }
+        Ok(spans)
     }
 }
 

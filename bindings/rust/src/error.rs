@@ -2,6 +2,7 @@
 //! Why a call failed.
 use std::fmt;
 
+use crate::stack::reading;
 use crate::{ffi, text};
 
 macro_rules! faults {
@@ -105,6 +106,22 @@ pub struct Error {
 
 impl Error {
     pub(crate) const NO_MEMORY: Error = Error { fault: Fault::NoMemory, place: 0, number: None };
+
+    /// What helps to fix the expression that a call refused with this error, a line or two, as the program prints it below the fault. `None` if there
+    /// is nothing to say.
+    ///
+    /// ```
+    /// let expression = "icmp and proot 17";
+    /// let error = bpftap::Filter::new(expression).unwrap_err();
+    /// assert_eq!(error.hint(expression).unwrap(), "did you mean `proto`?");
+    /// ```
+    pub fn hint(&self, expression: &str) -> Option<String> {
+        let (fault, place) = (self.fault as u32, self.place as usize);
+        let hint = reading(expression, || {
+            text(|to, room| unsafe { ffi::bpftap_hint(expression.as_ptr(), expression.len(), fault, place, to, room) })
+        });
+        hint.ok().filter(|hint| !hint.is_empty())
+    }
 
     /// What a call returned: `Ok`, or its fault.
     pub(crate) fn check(fault: u32, place: u64) -> Result<(), Error> {

@@ -169,6 +169,7 @@ extern "C" {
     ) -> Comparison;
     pub fn bpftap_open(memory: *const u8, size: usize) -> Reader;
     pub fn bpftap_next(memory: *const u8, size: usize, reader: &mut Reader) -> Record;
+    pub fn bpftap_spans(memory: *const u8, memory_size: usize, reader: &mut Reader, spans: *mut Span, room: usize) -> Result;
     pub fn bpftap_put_header(order: u32, unit: u32, snap: u32, to: *mut u8, room: usize) -> Result;
     pub fn bpftap_put(order: u32, unit: u32, packet: &Record, bytes: *const u8, captured: usize, to: *mut u8, room: usize) -> Result;
     pub fn bpftap_cut(capture: *const u8, capture_size: usize, insns: *const Insn, size: usize, snap: u32, to: *mut u8, room: usize) -> Result;
@@ -199,5 +200,6 @@ extern "C" {
     pub fn bpftap_listener_read(listener: &mut Listener, batch: &mut Buffer) -> Result;
     pub fn bpftap_listener_close(listener: &mut Listener);
     pub fn bpftap_listener_next(batch: &Buffer, at: &mut usize) -> Message;
+    pub fn bpftap_hint(text: *const u8, text_size: usize, fault: u32, place: usize, to: *mut u8, room: usize) -> Result;
     pub fn bpftap_fault_text(fault: u32, place: usize, to: *mut u8, room: usize) -> Result;
 }

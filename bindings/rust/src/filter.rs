@@ -74,7 +74,7 @@ pub struct Look {
 /// A part of a program's memory, which is aligned as the library wants it.
 #[repr(align(16))]
 #[derive(Clone, Copy)]
-struct Block([u8; 16]);
+struct Block(#[allow(dead_code)] [u8; 16]);
 
 /// A filter: an expression that was compiled, or a program that was handed in.
 ///

@@ -43,5 +43,6 @@ fn text(call: impl Fn(*mut u8, usize) -> ffi::Result) -> Result<String, Error> {
 /// assert_eq!(bpftap::version(), env!("CARGO_PKG_VERSION"));
 /// ```
 pub fn version() -> String {
-    text(|to, room| unsafe { ffi::bpftap_version(to, room) }).unwrap_or_default()
+    let line = text(|to, room| unsafe { ffi::bpftap_version(to, room) }).unwrap_or_default();
+    line.split(' ').next().unwrap_or_default().to_owned()
 }

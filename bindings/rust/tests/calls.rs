@@ -47,6 +47,18 @@ fn errors_have_a_name_and_a_place() {
 }
 
 #[test]
+fn errors_have_a_hint() {
+    let hint = |expression: &str| Filter::new(expression).unwrap_err().hint(expression);
+    assert_eq!(hint("icmp and proot 17").as_deref(), Some("did you mean `proto`?"));
+    assert_eq!(hint("ip6").map(|hint| hint.lines().count()), Some(2));
+    let long = "ip or ".repeat(1300) + " proot";
+    assert_eq!(hint(&long).as_deref(), Some("did you mean `proto`?"));
+    assert_eq!(Filter::with_snap("ip", 0).unwrap_err().hint("ip"), None);
+    let error = compare("tcp", "icmp and proot 17", 1).unwrap_err();
+    assert_eq!((error.number, error.hint("icmp and proot 17").as_deref()), (Some(2), Some("did you mean `proto`?")));
+}
+
+#[test]
 fn answers_have_a_reason() {
     let udp = Filter::with_snap("udp", 20).unwrap();
     assert_eq!((udp.run(&UDP, 38), udp.run(&[], 38)), (20, 0));
