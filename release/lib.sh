@@ -173,7 +173,11 @@ choose_released() {
     case $archive in "$main") origin='released, reproduced by the gate' ;; *) origin="released, of $archive" ;; esac
     "$place/$name" --version >/dev/null 2>&1 && return
   done
-  refuse "the released program does not run here: that for x86-64 needs glibc 2.34 or later, and a processor of x86-64-v2. $build"
+  case $archive in
+    "$main") refuse "the released program does not run here: that for x86-64 needs glibc 2.34 or later, and a processor of x86-64-v2. $build" ;;
+    *-static.tar.gz) refuse "neither released program runs here: those for x86-64 need a processor of x86-64-v2. $build" ;;
+    *) refuse "the released program does not run here. $build" ;;
+  esac
 }
 
 # The checksums of a folder's files. A link is none.

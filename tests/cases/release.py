@@ -289,6 +289,11 @@ def each_machine_runs_the_program_for_it(scene):
     change(clone.folder / "release" / "bpftap-x86_64-linux-static.tar.gz", 4)
     damaged = "release/bpftap-x86_64-linux-static.tar.gz is damaged: its SHA-256 is not the one in release/SHA256SUMS"
     refused(scene, clone, "a damaged one", damaged)
+    also_released(clone, {"x86_64-linux-static": OLD, "aarch64-linux": OLD})
+    build = "./build proves and builds one, with the toolchain"
+    refused(scene, clone, "neither", f"neither released program runs here: those for x86-64 need a processor of x86-64-v2. {build}")
+    seen = clone.run(program="bpftap", env=there)
+    scene.check("another old machine", seen, Seen(b"", f"bpftap: the released program does not run here. {build}\n".encode(), 125))
 
 
 @case

@@ -215,7 +215,8 @@ def root_of(scene, *tools):
 
 
 def in_root(root, *words, **environment):
-    done = subprocess.run([shutil.which("chroot"), root, *words], env={"PATH": "/bin", "HOME": "/home", **environment}, stdin=subprocess.DEVNULL, capture_output=True, timeout=LIMIT)
+    how = {"env": {"PATH": "/bin", "HOME": "/home", **environment}, "stdin": subprocess.DEVNULL, "capture_output": True, "timeout": LIMIT}
+    done = subprocess.run([shutil.which("chroot"), root, *words], **how)
     return Seen(done.stdout, done.stderr, done.returncode)
 
 
@@ -280,7 +281,9 @@ def an_image_has_the_program_and_its_licences(scene):
     if b"not permitted" in made[0].err or b"cannot clone" in made[0].err:
         return scene.leave("buildah may make nothing here")
     paths = [scene.folder / name / "bpftap-1.2.3-x86_64-image.tar" for name in ("one", "two")]
-    scene.check("printed", [(seen.out.decode().splitlines()[:1], seen.err, seen.status) for seen in made], [([str(pathlib.Path(path.parent.name) / path.name)], b"", 0) for path in paths])
+    for seen, path in zip(made, paths):
+        printed = seen.out.decode().splitlines()[:1]
+        scene.check("printed", (printed, seen.err, seen.status), ([str(path.relative_to(scene.folder))], b"", 0))
     scene.check("the same bytes", paths[0].read_bytes() == paths[1].read_bytes(), True)
     layout = scene.folder / "layout"
     with tarfile.open(paths[0]) as packed:
