@@ -1,6 +1,7 @@
 """Memory that is refused: each block that a command asks for, if `strace` is there and may trace."""
 import concurrent.futures
 import os
+import platform
 import re
 import subprocess
 
@@ -10,7 +11,8 @@ from .common import ARP_RECORD, HEADER, IP, IP_RECORD, KIND, LIMIT, PROGRAM, TCP
 # many blocks by one call.
 BLOCKS = {**os.environ, "GLIBC_TUNABLES": "glibc.malloc.mmap_threshold=0"}
 LEAST_BLOCKS = 1 if KIND == "static" else 30
-# The C library's words for it.
+# The call that opens a file, and the C library's words for a lack of memory.
+OPEN = "open" if KIND == "static" and platform.machine() == "x86_64" else "openat"
 NO_MEMORY = "Out of memory" if KIND == "static" else "Cannot allocate memory"
 
 # If mmap refuses, the C library asks brk, and then mmap once more.
@@ -92,8 +94,9 @@ def sweep(scene, commands, which):
             yield words, one.result()
 
 
-# Out of memory, for printing and for a capture. With `--json` it is an object; that of a capture is a line if there is no memory for an object.
-WANTING = rb'bpftap: NoMemory\n|{"fault":"NoMemory","numbers":\[\]}\n'
+# Out of memory, for printing and for a capture; of an expression of `compare` with a line that names it. With `--json` it is an object; that of a
+# capture is a line if there is no memory for an object.
+WANTING = rb'bpftap: NoMemory\n(?:  EXPR[12]:\n)?|{"fault":"NoMemory","numbers":\[\]}\n'
 WANTING_CAPTURE = rb'bpftap: Capture \d+ NoMemory\n|{"fault":"Capture NoMemory","numbers":\[\d+\],"file":"in.pcap"}\n'
 
 
@@ -163,9 +166,9 @@ def memory_that_the_system_wants_is_a_fault_of_the_file(scene):
     if not can_trace():
         return scene.leave("strace can't trace here")
     scene.start(FILES)
-    refused = [(words, path, "openat", f'"{path}"') for words, path, _ in READ_WHOLE]
+    refused = [(words, path, OPEN, f'"{path}"') for words, path, _ in READ_WHOLE]
     refused += [(words, path, "read", part) for words, path, part in READ_WHOLE]
-    refused += [(f"{words} in.pcap{out}", "in.pcap", "openat", '"in.pcap"') for words, out in [("cut -s 0", " out.pcap"), ("explain -e ip", "")]]
+    refused += [(f"{words} in.pcap{out}", "in.pcap", OPEN, '"in.pcap"') for words, out in [("cut -s 0", " out.pcap"), ("explain -e ip", "")]]
     for words, path, name, part in refused:
         scene.start(FILES)
         inject = f"strace -qq -o calls -e trace={name} -e inject={name}:error=ENOMEM:when={call_on(scene, words, name, part)}"
