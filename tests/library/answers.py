@@ -8,7 +8,8 @@ for line in sys.stdin:
     try:
         wanted = Filter(line.rstrip("\n"))
     except FilterError as error:
-        print(error)
+        # Below its line an error has what helps.
+        print(str(error).partition("\n")[0])
         continue
     answers = [wanted.matches(packet) for packet in packets]
     assert [answer != 0 for answer in wanted.run_each(packets)] == answers

@@ -91,7 +91,8 @@ fn lacks_memory(fault: ExpressionFault) -> bool
 {
     matches!(
         fault,
-        ExpressionFault::Text(filterlang::Fault::NoMemory) | ExpressionFault::Tree(Refusal::NoMemory)
+        ExpressionFault::Text(filterlang::Fault::NoMemory)
+            | ExpressionFault::Tree(Refusal::NoMemory)
     )
 }
 
