@@ -4,10 +4,10 @@ import pathlib
 import shutil
 import subprocess
 
-from .common import KIND, LIMIT, PROGRAM, ROOT, VERSION, case
+from .common import KIND, LIMIT, PROGRAM, ROOT, case
 from .install import install, source_in
 from .library import ARCHIVE, LIBRARY, done, is_there
-from .linking import TOOL
+from .linking import TOOL, version_line
 from .targets import in_root, root_of
 
 NAMES = ["bpftap", "libbpftap1", "libbpftap-dev", "python3-bpftap"]
@@ -57,7 +57,7 @@ def use(scene, root):
         for flags in (["-lbpftap"], ["-l:libbpftap.a"]):
             words = ["gcc", "tool.c", f"-I{root / 'usr' / 'include'}", f"-L{libraries}", *flags, "-o", "tool"]
             scene.check(f"gcc {flags[0]}", done(scene, words), ("", 0))
-            scene.check(f"a program with {flags[0]}", done(scene, ["./tool"], env=there), (f"{VERSION}\n", 0))
+            scene.check(f"a program with {flags[0]}", done(scene, ["./tool"], env=there), (version_line(), 0))
     script = "import bpftap; print(bpftap.__file__, bpftap.Filter('ip').matches(bytes(12) + b'\\x08\\0' + bytes(20)))"
     module = root / "usr" / "lib" / "python3" / "dist-packages" / "bpftap" / "__init__.py"
     scene.check("in Python", done(scene, ["python3", "-c", script], env=there), (f"{module} True\n", 0))
