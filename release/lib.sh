@@ -133,7 +133,7 @@ find_noted() {
     case /$name in */../*) continue ;; esac
     program=$place/$name
     is_closed "$place/noted" "$program" || continue
-    { printf '%s\n' "$name" "$origin" && state "$program"; } | cmp -s - "$place/noted" && return
+    { printf '%s\n' "$name" "$origin" && uname -sm && state "$program"; } | cmp -s - "$place/noted" && return
   done
   false
 }
@@ -142,7 +142,7 @@ find_noted() {
 note_program() (
   umask 022
   cd -- "$place" && [ -O . ] && new=$(mktemp noted.XXXXXX) || exit
-  { printf '%s\n' "$name" "$origin" && (looks "$program") && printf '%s\n' "$noted"; } >"$new" && mv -fT -- "$new" noted && exit
+  { printf '%s\n' "$name" "$origin" && uname -sm && (looks "$program") && printf '%s\n' "$noted"; } >"$new" && mv -fT -- "$new" noted && exit
   rm -f -- "$new"
 ) 2>/dev/null
 
@@ -260,11 +260,18 @@ compare() {
 }
 is_same_page() { [ ! -f "$root/release/$page" ] || cmp -- "$root/release/$page" "$root/out/page/$page"; }
 
-# Whether each program of `./build --targets` that is of these sources and is released is the released one.
+# Whether each released program for another target is that of `./build --targets`. One that was not made here is not compared, which is printed.
 are_same_targets() {
-  for folder in "$root/out/targets/$key"/*/; do
-    archive=bpftap-$(basename -- "$folder").tar.gz
-    [ ! -f "$root/release/$archive" ] || [ "$(contents "$folder")" = "$(listed "$archive")" ] || { echo "$archive has another program than $folder"; return 1; }
+  for path in "$root"/release/*.tar.gz; do
+    archive=${path##*/}
+    [ "$archive" != "$main" ] || continue
+    folder=${archive#bpftap-} folder=$root/out/targets/$key/${folder%.tar.gz}
+    if [ ! -d "$folder" ]; then
+      echo "release/$archive is not compared: ./build --targets makes its program"
+    elif [ "$(contents "$folder")" != "$(listed "$archive")" ]; then
+      echo "$archive has another program than $folder"
+      return 1
+    fi
   done
 }
 

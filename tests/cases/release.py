@@ -336,7 +336,7 @@ def plant(clone, place, name="released/planted/bin/bpftap"):
     program.parent.mkdir(parents=True, exist_ok=True)
     program.write_text(PLANTED)
     program.chmod(0o755)
-    script = 'root=$1 && . "$1/release/lib.sh" && { printf "%s\\n" "$3" "released, reproduced by the gate"; state "$2/$3"; } >"$2/noted"; true'
+    script = 'root=$1 && . "$1/release/lib.sh" && { printf "%s\\n" "$3" "released, reproduced by the gate"; uname -sm; state "$2/$3"; } >"$2/noted"; true'
     subprocess.run(["sh", "-c", script, "sh", clone.folder, place, name], check=True, timeout=LIMIT)
     (place / "noted").chmod(0o600)
 
@@ -386,6 +386,22 @@ def what_others_noted_is_not_run(scene):
         (cache / "released").mkdir(parents=True)
         plant(clone, cache, name)
         scene.check(f"a note of {name}", (clone.call("--version").out, has_run(clone)), (RELEASED, False))
+
+
+@case
+def a_note_of_another_machine_is_not_taken(scene):
+    """A clone on a shared disk: what was noted on one machine is not run on another one, which has no program here."""
+    clone = Clone(scene)
+    clone.call()
+    scene.check("noted", (clone.folder / "out" / "noted").exists(), True)
+    tools = scene.folder / "tools"
+    tools.mkdir()
+    (tools / "uname").write_text("#!/bin/sh\necho Linux riscv64\n")
+    (tools / "uname").chmod(0o755)
+    env = {**clone.bare(), "PATH": f"{tools}:/usr/bin:/bin"}
+    seen = clone.run("check", "ip", program="bpftap", env=env)
+    scene.check("on another machine", (seen.out, seen.status, b"bpftap: " in seen.err), (b"", 125, True))
+    scene.check("here again", clone.call("-c"), clone.answer("-c"))
 
 
 @case
