@@ -11,7 +11,7 @@ from .build import MADE
 from .common import LIMIT, PROGRAM, ROOT, Seen, case
 from .manual import PAGES, examples
 from .pages import links
-from .release import Clone, Within
+from .release import OLD, Clone, Within, also_released
 
 TEXTS = ["CHANGELOG.md", "LICENSE-APACHE", "LICENSE-MIT", "NOTICES", "README.md"]
 
@@ -246,6 +246,21 @@ def what_was_changed_is_not_installed(scene):
     scene.check("put", put_below(scene.folder / "there"), set())
     seen = install(scene, source, str(scene.folder / "packages"), program="package")
     scene.check("package", (line.encode() in seen.err, seen.out, seen.status), (True, b"", 1))
+
+
+@case
+def a_static_program_comes_without_a_library(scene):
+    """Where the static program is chosen, which has no library beside it, all else is put, and taken away again."""
+    source = source_in(scene)
+    with (source.folder / "release" / "files").open("a") as files:
+        files.write("644 out/lib/libbpftap.so.1 lib/libbpftap.so.1\n")
+    source.release(OLD)
+    also_released(source, {"x86_64-linux-static": MADE.replace("a stand-in", "static")})
+    prefix = scene.folder / "there"
+    seen = install(scene, source, str(prefix))
+    scene.check("install", (seen.out.decode(), seen.status), ("".join(f"{prefix}/{name}\n" for name in PUT), 0))
+    scene.check("put", (put_below(prefix), (prefix / "lib").exists()), (set(PUT), False))
+    scene.check("removed", (install(scene, source, "--remove", str(prefix)).status, prefix.exists()), (0, False))
 
 
 @case
