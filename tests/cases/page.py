@@ -419,7 +419,10 @@ def follow_lesson(visit):
     visit.check_has("and a byte that is not there", "looks", "not captured")
     visit.run("document.querySelectorAll('#lesson li a')[3].click()")
     visit.check_has("the next stop: a later fragment", "reason", "No udp port 5353")
-    visit.check_has("its name", "looks", "fragment offset")
+    visit.check_has("its name", "looks", "flags and fragment offset: more fragments, offset 1480")
+    for place, wanted in [(115, "more fragments, offset 0"), (117, "last fragment, offset 2960"), (2, "no fragment, don't fragment")]:
+        visit.open(f"#e=ip%5B6:2%5D%20!=%201&p={place}")
+        visit.check_has(f"the flags of packet {place}", "looks", f"fragment offset: {wanted}")
     count = visit.run("return document.querySelectorAll('#lessons a').length")
     visit.check("lessons", count, len([*(ROOT / "examples" / "lessons").glob("*.md")]) - 2)
     names = visit.run("return [...document.querySelectorAll('#lessons a')].map((link) => new URLSearchParams(link.hash.slice(1)).get('k'))")
