@@ -223,7 +223,7 @@ tar_in() { # ARCHIVE
     xz -dc -- "$1"
   elif command -v dpkg-deb >/dev/null; then
     { printf '!<arch>\n' && of_package debian-binary 4 && echo 2.0 && of_package control.tar 0 && of_package data.tar.xz "$(wc -c <"$1")" && cat -- "$1"
-    } | dpkg-deb --fsys-tarfile /dev/stdin
+    } | dpkg-deb --fsys-tarfile -
   else
     python3 -c 'import lzma, shutil, sys; shutil.copyfileobj(lzma.open(sys.stdin.buffer), sys.stdout.buffer)' <"$1"
   fi
