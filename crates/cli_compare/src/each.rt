@@ -170,14 +170,7 @@ fn print_differences<R: Source, O: Write>(
             Ok(true) => {
                 // Where the printing breaks off, what was read so far begins what the capture holds.
                 given_so_far(reader);
-                match print_one(
-                    alloc,
-                    pair,
-                    counts.packets,
-                    &reader.packet(),
-                    &mut line,
-                    out,
-                ) {
+                match print_one(pair, counts.packets, &reader.packet(), &mut line, out) {
                     Ok(agreement) => counts.count(agreement),
                     Err(unprinted) => return outcome(counts, Ok(()), Err(unprinted)),
                 }
@@ -190,7 +183,6 @@ fn print_differences<R: Source, O: Write>(
 
 /// Prints the line of a packet, if it is treated differently.
 fn print_one<O: Write>(
-    alloc: Global,
     pair: &FilterPair,
     place: u64,
     packet: &PacketRef<'_>,
@@ -205,7 +197,7 @@ fn print_one<O: Write>(
     if !found.is_different() {
         return Ok(found);
     }
-    put_difference(alloc, line, pair, place, packet)?;
+    put_difference(line, pair, place, packet)?;
     send(line.as_bytes(), out)?;
     Ok(found)
 }

@@ -1,10 +1,9 @@
 -- What a filter answers to packets.
-use Rattle.std.specs.Prelude.{◌≡◌, ℕ, ◌==◌, false, List, [], ◌∷◌, ◌++◌, Option, Some, None, slice_get, if◌then◌else◌, codes}
+use Rattle.std.specs.Prelude.{◌≡◌, ℕ, ◌==◌, false, List, ◌++◌, Option, Some, None, if◌then◌else◌, codes}
 use Rattle.savefile.specs.declared.packet.Packet.{Packet}
 use Rattle.bpfvm.specs.declared.insn.Insn.{Insn}
-use Rattle.bpfvm.specs.declared.tracing.Executed.{Executed}
 use Rattle.bpfvm.specs.Machine.{beginning}
-use Rattle.bpfvm.specs.Traces.{Runs}
+use Rattle.bpfvm.specs.Ends.{EndsAt}
 use Rattle.bpfvm.specs.Validity.{is_return}
 use Rattle.filter_tree.specs.declared.tree.Expr.{Expr}
 use Rattle.filterlang.specs.Trees.{Tree, tree_of}
@@ -39,13 +38,9 @@ pub record Decides (tree : Tree) (a : Answer) : Type 0 where
 abbrev pub ended_as : Insn → ℕ → Verdict
 ended_as insn n = if is_return insn then (if n == 0 then No else Yes) else Abort
 
--- where the run of a program over a packet ends, and the number that it answers
-pub record IsEndOfRun (program : List Insn) (p : Packet) (number place : ℕ) (insn : Insn) : Type 0 where
-  pub before : List Executed
-  pub last : Executed
-  pub runs : Runs program p.bytes p.len beginning (before ++ last ∷ []) number
-  pub at_place : last.place ≡ place
-  pub here : slice_get program place ≡ Some insn
+-- the run of a program over a packet ends at this instruction, and answers this number
+abbrev pub IsEndOfRun : List Insn → Packet → (number place : ℕ) → Insn → Type 0
+IsEndOfRun program p number place insn = (ends : EndsAt program p.bytes p.len beginning place number) × (ends.insn ≡ insn)
 
 -- Of a program: the end of its run; told is the number that it answers, and its last instruction with its place, in these words.
 pub record EndsRunAs (words : ℕ → ℕ → Insn → List ℕ) (program : List Insn) (a : Answer) : Type 0 where

@@ -187,13 +187,7 @@ pub fn explain_lines<R: Source, O: Write>(
         }
     };
     let mut buffer = LineBuffer::new(alloc);
-    let ended = print_lines(
-        alloc,
-        &mut reader,
-        &Asking { filter, form },
-        &mut buffer,
-        out,
-    );
+    let ended = print_lines(&mut reader, &Asking { filter, form }, &mut buffer, out);
     Explained {
         source: reader.close(),
         opened: true,
@@ -235,7 +229,7 @@ fn print_all<R: Source, O: Write>(
     ensures source_broke { (result.read ≡ Err Fault.Device) ↔ (R.failures reader.new.source ≢ R.failures reader.old.source) }
 {
     let mut buffer = LineBuffer::new(alloc);
-    let ended = print_lines(alloc, reader, asking, &mut buffer, out);
+    let ended = print_lines(reader, asking, &mut buffer, out);
     if ended.printed.is_err() {
         return ended;
     }
@@ -251,7 +245,6 @@ fn print_all<R: Source, O: Write>(
 
 /// Prints the line of each packet.
 fn print_lines<R: Source, O: Write>(
-    alloc: Global,
     reader: &mut Reader<R>,
     asking: &Asking<'_>,
     buffer: &mut LineBuffer,
@@ -268,7 +261,7 @@ fn print_lines<R: Source, O: Write>(
             Ok(true) => {
                 // Where the printing breaks off, what was read so far begins what the capture holds.
                 given_so_far(reader);
-                match print_line(alloc, asking, counts.packets, &reader.packet(), buffer, out) {
+                match print_line(asking, counts.packets, &reader.packet(), buffer, out) {
                     Ok(verdict) => counts.count(verdict),
                     Err(unprinted) => return outcome(counts, Ok(()), Err(unprinted)),
                 }
@@ -282,7 +275,6 @@ fn print_lines<R: Source, O: Write>(
 /// Prints the line of a packet.
 #[inline(always)]
 pub(crate) fn print_line<O: Write>(
-    alloc: Global,
     asking: &Asking<'_>,
     place: u64,
     packet: &PacketRef<'_>,
@@ -292,7 +284,7 @@ pub(crate) fn print_line<O: Write>(
     ensures ok { IfOk result (PrintsLine asking.now.form asking.now.filter.now place packet.now (O.contents out.old) (O.contents out.new)) }
     ensures fault { IfErr result (IsLineBroken asking.now.form asking.now.filter.now place packet.now (O.contents out.old) (O.contents out.new)) }
 {
-    let verdict = put_line(alloc, buffer, asking, place, packet)?;
+    let verdict = put_line(buffer, asking, place, packet)?;
     send(buffer.line.as_bytes(), out)?;
     Ok(verdict)
 }

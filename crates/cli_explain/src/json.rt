@@ -16,7 +16,7 @@ use filter_explain::{AskedPart, decide, put_part};
 use filter_meaning::{AbortCause, Verdict};
 use filterlang::Expr;
 use savefile::PacketRef;
-use std::alloc::{AllocError, Global};
+use std::alloc::AllocError;
 
 /// Puts where a packet is in place of what the line has.
 fn put_place(line: &mut String, capture: usize, place: u64) -> Result<(), AllocError>
@@ -148,7 +148,6 @@ fn put_instruction(line: &mut String, text: &mut String, insn: &Insn) -> Result<
 
 /// Appends what a program answers to a packet, where its run ended, and the instruction there.
 fn put_end(
-    alloc: Global,
     line: &mut String,
     text: &mut String,
     program: &Program,
@@ -156,7 +155,7 @@ fn put_end(
 ) -> Result<Verdict, NoMemory>
     ensures { IfOk result (PutsInJson (string_bytes line.old) (string_bytes line.new) (EndsRunAs end_json program.now) packet.now) }
 {
-    let end = end_of_run(alloc, program, packet)?;
+    let end = end_of_run(program, packet);
     let verdict = ended_as(&end.insn, end.number);
     put_verdict(line, verdict)?;
     put_number(line, end.number, end.place)?;
@@ -166,7 +165,6 @@ fn put_end(
 
 /// Appends what a filter answers to a packet, and why.
 fn put_answer(
-    alloc: Global,
     line: &mut String,
     text: &mut String,
     filter: &AskedFilter,
@@ -176,13 +174,12 @@ fn put_answer(
 {
     match &filter.expr {
         Some(expr) => put_meaning(line, text, expr, packet),
-        None => put_end(alloc, line, text, &filter.program, packet),
+        None => put_end(line, text, &filter.program, packet),
     }
 }
 
 /// Puts the object of a packet in place of what the line has: where it is, its time and lengths, what the filter answers, and why.
 pub(crate) fn put_object(
-    alloc: Global,
     buffer: &mut LineBuffer,
     filter: &AskedFilter,
     capture: usize,
@@ -193,7 +190,7 @@ pub(crate) fn put_object(
         × (string_bytes buffer.new.line ≡ answer_json capture place (answer packet.now verdict reason))) }
 {
     put_packet(&mut buffer.line, capture, place, packet)?;
-    let verdict = put_answer(alloc, &mut buffer.line, &mut buffer.text, filter, packet)?;
+    let verdict = put_answer(&mut buffer.line, &mut buffer.text, filter, packet)?;
     buffer.line.push_str("}\n")?;
     Ok(verdict)
 }

@@ -9,13 +9,12 @@ ghost use Rattle.cli_explain.specs.Printed.{packet_text, time_text, lengths_text
 use crate::filter::AskedFilter;
 use crate::form::{Asking, LineBuffer, PacketForm};
 use crate::json::put_object;
-use bpfvm::{Brief, Insn, NoMemory, Program, code, trace};
+use bpfvm::{Brief, Insn, NoMemory, Program, code, run_to_end};
 use cli_text::time::NineDigits;
 use filter_explain::{put_decision, put_verdict};
 use filter_meaning::Verdict;
 use filterlang::Expr;
 use savefile::PacketRef;
-use std::alloc::Global;
 use std::fmt;
 use std::fmt::{Display, Formatter};
 
@@ -104,38 +103,27 @@ pub(crate) struct RunEnd {
 }
 
 /// Where the run of a program over a packet ends.
-pub(crate) fn end_of_run(
-    alloc: Global,
-    program: &Program,
-    packet: &PacketRef<'_>,
-) -> Result<RunEnd, NoMemory>
-    ensures { IfOk result (λ end. IsEndOfRun program.now packet.now end.number end.place end.insn) }
+pub(crate) fn end_of_run(program: &Program, packet: &PacketRef<'_>) -> RunEnd
+    ensures { IsEndOfRun program.now packet.now result.number result.place result.insn }
 {
-    let run = trace(alloc, program, packet.bytes, packet.len)?;
-    // Each run executes an instruction of the program, so there is a last one.
-    let Some((last, _)) = run.executed.as_slice().split_last() else {
-        return Err(NoMemory);
-    };
-    let Some(insn) = program.insns().get(last.place) else {
-        return Err(NoMemory);
-    };
-    Ok(RunEnd {
-        number: run.answer,
-        place: last.place,
-        insn: *insn,
-    })
+    let insns = program.insns();
+    let end = run_to_end(program, packet.bytes, packet.len);
+    RunEnd {
+        number: end.answer(),
+        place: end.place,
+        insn: insns[end.place],
+    }
 }
 
 /// Appends what a program answers to a packet, where its run ended, and the instruction there.
 fn put_end(
-    alloc: Global,
     line: &mut String,
     program: &Program,
     packet: &PacketRef<'_>,
 ) -> Result<Verdict, NoMemory>
     ensures { IfOk result (PutsAnswer (string_bytes line.old) (string_bytes line.new) (EndsRun program.now) packet.now) }
 {
-    let end = end_of_run(alloc, program, packet)?;
+    let end = end_of_run(program, packet);
     let verdict = ended_as(&end.insn, end.number);
     put_verdict(line, verdict)?;
     put_number(line, end.number, end.place, &end.insn)?;
@@ -144,7 +132,6 @@ fn put_end(
 
 /// Appends what a filter answers to a packet, and why.
 pub fn put_answer(
-    alloc: Global,
     line: &mut String,
     filter: &AskedFilter,
     packet: &PacketRef<'_>,
@@ -153,13 +140,12 @@ pub fn put_answer(
 {
     match &filter.expr {
         Some(expr) => put_meaning(line, expr, packet),
-        None => put_end(alloc, line, &filter.program, packet),
+        None => put_end(line, &filter.program, packet),
     }
 }
 
 /// Puts the text of a packet in place of what the line has: its place and time, what the filter answers, and why.
 fn put_text(
-    alloc: Global,
     line: &mut String,
     filter: &AskedFilter,
     place: u64,
@@ -169,14 +155,13 @@ fn put_text(
         × (string_bytes line.new ≡ answer_line place (answer packet.now verdict reason))) }
 {
     put_packet(line, place, packet)?;
-    let verdict = put_answer(alloc, line, filter, packet)?;
+    let verdict = put_answer(line, filter, packet)?;
     line.push('\n')?;
     Ok(verdict)
 }
 
 /// Puts the line of a packet in place of what the line has: its place and time, what the filter answers, and why.
 pub(crate) fn put_line(
-    alloc: Global,
     buffer: &mut LineBuffer,
     asking: &Asking<'_>,
     place: u64,
@@ -186,14 +171,7 @@ pub(crate) fn put_line(
         × (string_bytes buffer.new.line ≡ line_in asking.now.form place (answer packet.now verdict reason))) }
 {
     match asking.form {
-        PacketForm::Text => put_text(alloc, &mut buffer.line, asking.filter, place, packet),
-        PacketForm::Json(capture) => put_object(
-            alloc,
-            buffer,
-            asking.filter,
-            capture,
-            place,
-            packet,
-        ),
+        PacketForm::Text => put_text(&mut buffer.line, asking.filter, place, packet),
+        PacketForm::Json(capture) => put_object(buffer, asking.filter, capture, place, packet),
     }
 }

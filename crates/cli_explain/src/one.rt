@@ -120,7 +120,7 @@ pub(crate) fn print_whole<O: Write>(
         filter,
         form: PacketForm::Text,
     };
-    print_line(alloc, &asking, place, packet, &mut buffer, out)?;
+    print_line(&asking, place, packet, &mut buffer, out)?;
     print_rest(alloc, filter, place, packet, out)
 }
 

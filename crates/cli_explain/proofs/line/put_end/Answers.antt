@@ -4,9 +4,9 @@ use Rattle.cli_explain.proofs.line.put_end.Goals as goal
 
 pub returns : goal.returns
 returns c =
-    let end = c.in_ok-end.end in
+    let end = c.end_of_run-end.result in
     let text = end_text end.number end.place end.insn in (
       text,
-      record { number = end.number; place = end.place; insn = end.insn; ends = c.in_ok-end.ensures; answers = c.ended_as-verdict.ensures; told = refl },
+      record { number = end.number; place = end.place; insn = end.insn; ends = c.end_of_run-end.ensures; answers = c.ended_as-verdict.ensures; told = refl },
       c.in_ok-put_number.ensures ∙ ap (λ (t : List ℕ). t ++ text) c.in_ok-put_verdict.ensures,
     )
