@@ -38,14 +38,14 @@ fn put_undecided(text: &mut String, budget: usize, cause: Cause) -> Result<(), A
     text.push_str("\n")
 }
 
-/// A filter as it is decided: its expression, or else its program.
+/// A filter as it is decided.
 fn filter_of(filter: &AskedFilter) -> Filter<'_>
     ensures accepts { filter_accepts result ≡ asked_accepts filter.now }
     ensures test { filter_test result ≡ asked_test filter.now }
 {
-    match filter.expression() {
-        Some(expr) => Filter::Expression(expr),
-        None => Filter::Program(filter.program()),
+    match filter {
+        AskedFilter::Expression(expr) => Filter::Expression(expr),
+        AskedFilter::Program(program) => Filter::Program(program),
     }
 }
 

@@ -1,11 +1,10 @@
 -- What a filter answers to packets.
-use Rattle.std.specs.Prelude.{◌≡◌, ℕ, ◌==◌, false, List, ◌++◌, Option, Some, None, if◌then◌else◌, codes}
+use Rattle.std.specs.Prelude.{◌≡◌, ℕ, ◌==◌, false, List, ◌++◌, if◌then◌else◌, codes}
 use Rattle.savefile.specs.declared.packet.Packet.{Packet}
 use Rattle.bpfvm.specs.declared.insn.Insn.{Insn}
 use Rattle.bpfvm.specs.Machine.{beginning}
 use Rattle.bpfvm.specs.Ends.{EndsAt}
 use Rattle.bpfvm.specs.Validity.{is_return}
-use Rattle.filter_tree.specs.declared.tree.Expr.{Expr}
 use Rattle.filterlang.specs.Trees.{Tree, tree_of}
 use Rattle.filter_meaning.specs.declared.verdict.Verdict.{Verdict}
 use Rattle.filter_meaning.specs.declared.verdict.Verdict.TheVariants.{Yes, No, Abort}
@@ -14,6 +13,7 @@ use Rattle.filter_explain.specs.Asking.{questions}
 use Rattle.filter_explain.specs.Deciding.{verdict_text, last_text}
 use Rattle.cli_text.specs.Telling.{end_of_line}
 use Rattle.cli_explain.specs.declared.filter.AskedFilter.{AskedFilter}
+use Rattle.cli_explain.specs.declared.filter.AskedFilter.TheVariants.{Expression, Program}
 use Rattle.cli_explain.specs.Printed.{packet_text, end_text}
 
 -- A packet, what a filter answers to it, and what is told of the reason.
@@ -55,13 +55,10 @@ pub record EndsRunAs (words : ℕ → ℕ → Insn → List ℕ) (program : List
 abbrev pub EndsRun : List Insn → Answer → Type 0
 EndsRun program a = EndsRunAs end_text program a
 
-abbrev pub IsAnswerOf : Option Expr → List Insn → Answer → Type 0
-IsAnswerOf (Some expr) program a = Decides (tree_of expr) a
-IsAnswerOf None program a = EndsRun program a
-
 -- what a filter answers
 abbrev pub IsAnswer : AskedFilter → Answer → Type 0
-IsAnswer filter a = IsAnswerOf filter.expr filter.program a
+IsAnswer (Expression expr) a = Decides (tree_of expr) a
+IsAnswer (Program program) a = EndsRun program a
 
 -- the line of a packet at a place
 abbrev pub answer_line : ℕ → Answer → List ℕ

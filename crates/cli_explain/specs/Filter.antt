@@ -1,12 +1,20 @@
 -- The filter that is explained.
-use Rattle.std.specs.Prelude.{◌≡◌, ℕ, List, Some}
-use Rattle.filter_tree.specs.declared.tree.Expr.{Expr}
+use Rattle.std.specs.Prelude.{◌≡◌, ℕ, List, Result, Ok, Err}
+use Rattle.bpfvm.specs.declared.insn.Insn.{Insn}
 use Rattle.filterlang.specs.Texts.{ReadsAs}
 use Rattle.filterlang.specs.Trees.{tree_of}
-use Rattle.filtergen_code.specs.Compiling.{IsRightSnap, StandsFor}
+use Rattle.filtergen_code.specs.Compiling.{IsRefused, IsRightSnap, StandsFor}
+use Rattle.filtergen_facts.specs.declared.refusal.Refusal.{Refusal}
 use Rattle.cli_explain.specs.declared.filter.AskedFilter.{AskedFilter}
+use Rattle.cli_explain.specs.declared.filter.AskedFilter.TheVariants.{Expression, Program}
 
--- a filter is the expression that a text reads as, and a program that stands for it at a snapshot length in range
-abbrev pub IsOfExpression : List ℕ → ℕ → AskedFilter → Type 0
-IsOfExpression text snap filter =
-    (expr : Expr) × (filter.expr ≡ Some expr) × ReadsAs text (tree_of expr) × IsRightSnap snap × StandsFor filter.program (tree_of expr) snap
+-- a filter is the expression that a text reads as
+abbrev pub IsOfExpression : List ℕ → AskedFilter → Type 0
+IsOfExpression text (Expression expr) = ReadsAs text (tree_of expr)
+IsOfExpression text (Program program) = ⊥
+
+-- The program of a filter: one that stands for its expression at a snapshot length in range, or why it is refused; or the program that it is.
+abbrev pub HasProgram : AskedFilter → ℕ → Result (List Insn) Refusal → Type 0
+HasProgram (Expression expr) snap (Ok program) = IsRightSnap snap × StandsFor program (tree_of expr) snap
+HasProgram (Expression expr) snap (Err refusal) = IsRefused (tree_of expr) snap refusal
+HasProgram (Program own) snap program = program ≡ Ok own

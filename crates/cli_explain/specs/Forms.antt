@@ -4,7 +4,6 @@ use Rattle.std.specs.Fmt.{decimal}
 use Rattle.savefile.specs.declared.packet.Packet.{Packet}
 use Rattle.bpfvm.specs.declared.insn.Insn.{Insn}
 use Rattle.bpfvm.specs.Images.{brief_text}
-use Rattle.filter_tree.specs.declared.tree.Expr.{Expr}
 use Rattle.filterlang.specs.Trees.{Tree, tree_of}
 use Rattle.filter_meaning.specs.declared.cause.AbortCause.{AbortCause}
 use Rattle.filter_meaning.specs.declared.cause.AbortCause.TheVariants.{NotCaptured, ZeroDivisor}
@@ -16,6 +15,7 @@ use Rattle.filter_explain.specs.Deciding.{part_text}
 use Rattle.cli_json.specs.Strings.{json_string}
 use Rattle.cli_text.specs.Telling.{end_of_line}
 use Rattle.cli_explain.specs.declared.filter.AskedFilter.{AskedFilter}
+use Rattle.cli_explain.specs.declared.filter.AskedFilter.TheVariants.{Expression, Program}
 use Rattle.cli_explain.specs.declared.form.PacketForm.{PacketForm}
 use Rattle.cli_explain.specs.declared.form.PacketForm.TheVariants.{Text, Json}
 use Rattle.cli_explain.specs.Printed.{counts_text}
@@ -81,14 +81,15 @@ pub record DecidesInJson (tree : Tree) (a : Answer) : Type 0 where
   pub decides : IsLast last (questions false tree (frame_of a.packet))
   pub told : a.reason ≡ question_json last
 
-abbrev pub IsJsonAnswerOf : Option Expr → List Insn → Answer → Type 0
-IsJsonAnswerOf (Some expr) program a = DecidesInJson (tree_of expr) a
-IsJsonAnswerOf None program a = EndsRunAs end_json program a
+-- what a filter answers
+abbrev pub IsJsonAnswer : AskedFilter → Answer → Type 0
+IsJsonAnswer (Expression expr) a = DecidesInJson (tree_of expr) a
+IsJsonAnswer (Program program) a = EndsRunAs end_json program a
 
 -- what a filter answers, with the reason in this form
 abbrev pub IsAnswerIn : PacketForm → AskedFilter → Answer → Type 0
 IsAnswerIn Text filter a = IsAnswer filter a
-IsAnswerIn (Json capture) filter a = IsJsonAnswerOf filter.expr filter.program a
+IsAnswerIn (Json capture) filter a = IsJsonAnswer filter a
 
 -- after what stood in a line, a verdict and its reason were put
 abbrev pub PutsInJson : List ℕ → List ℕ → (Answer → Type 0) → Packet → Verdict → Type 0

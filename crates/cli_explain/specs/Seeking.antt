@@ -1,28 +1,23 @@
 -- Whether a filter accepts a packet, and whether a capture has a packet that passes a test.
-use Rattle.std.specs.Prelude.{◌≡◌, ℕ, ◌⊎◌, Bool, true, false, List, [], ◌∷◌, ◌++◌, Option, Some, None, Result, Ok, Err, IsErrOf, nat_lt}
+use Rattle.std.specs.Prelude.{◌≡◌, ℕ, ◌⊎◌, Bool, true, false, List, [], ◌∷◌, ◌++◌, Option, None, Result, Ok, Err, IsErrOf, nat_lt}
 use Rattle.std.specs.List.{AllByRecursion}
 use Rattle.savefile.specs.declared.fault.Fault.{Fault}
 use Rattle.savefile.specs.declared.header.Header.{Header}
 use Rattle.savefile.specs.declared.packet.Packet.{Packet}
 use Rattle.savefile.specs.Reader.{HasGiven, IsCause, Reading, WasBegun, WasRead}
-use Rattle.bpfvm.specs.declared.insn.Insn.{Insn}
 use Rattle.bpfvm.specs.Machine.{verdict}
-use Rattle.filter_tree.specs.declared.tree.Expr.{Expr}
 use Rattle.filterlang.specs.Trees.{tree_of}
 use Rattle.filter_meaning.specs.Meaning.{meaning}
 use Rattle.cli_explain.specs.declared.filter.AskedFilter.{AskedFilter}
+use Rattle.cli_explain.specs.declared.filter.AskedFilter.TheVariants.{Expression, Program}
 use Rattle.cli_explain.specs.declared.seek.Sought.{Sought}
 use Rattle.cli_explain.specs.Answers.{frame_of}
 use Rattle.cli_explain.specs.Explained.{is_yes, IsUnopened}
 
--- an expression accepts a packet if its meaning is Yes, a program if it returns a number other than 0
-abbrev pub accepts_by : Option Expr → List Insn → Packet → Bool
-accepts_by (Some expr) program p = is_yes (meaning (tree_of expr) (frame_of p))
-accepts_by None program p = nat_lt 0 (verdict program p.bytes p.len)
-
--- whether a filter accepts a packet
+-- whether a filter accepts a packet: an expression does if its meaning is Yes, a program if it returns a number other than 0
 abbrev pub accepts : AskedFilter → Packet → Bool
-accepts filter p = accepts_by filter.expr filter.program p
+accepts (Expression expr) p = is_yes (meaning (tree_of expr) (frame_of p))
+accepts (Program program) p = nat_lt 0 (verdict program p.bytes p.len)
 
 -- none of these passes
 abbrev pub NonePasses : (Packet → Bool) → List Packet → Type 0

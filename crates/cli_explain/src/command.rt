@@ -8,7 +8,7 @@ use crate::paths::check_paths;
 use crate::plan::read_filter;
 use crate::range::explain_range;
 use crate::report::{report_captures, report_one, report_sought};
-use crate::{AskedFilter, PacketForm};
+use crate::{AskedFilter, FilterWithProgram, PacketForm};
 use cli_args::explain::ExplainWords;
 use cli_args::places::PlaceRange;
 use cli_files::captures::output_buffer;
@@ -50,19 +50,26 @@ fn prepare<'w, 'a, 'r, R: Files + AllocGlobal + Screen, E: HintSink>(
     })
 }
 
+/// Which packets of each capture are explained in full, and by which filter.
+#[derive(Drop)]
+struct InFull<'f> {
+    filter: FilterWithProgram<'f>,
+    places: PlaceRange,
+}
+
 /// Prints the packets of a range of places of the capture of this number in full, and reports how that ended; `Err` if no further capture is
 /// read.
 fn explain_places_of<F: Screen, R: Read + Drop, O: Write, E: HintSink>(
     job: &Job<'_, '_, '_, F>,
-    places: PlaceRange,
+    asked: &InFull<'_>,
     number: usize,
     input: ProbedInput<R>,
     out: &mut O,
     err: &mut E,
 ) -> Result<Status, Status> {
     let paths = job.words.inputs.as_slice();
-    let PlaceRange { first, last } = places;
-    let found = explain_range(job.alloc, input, &job.filter, first, last, out);
+    let PlaceRange { first, last } = asked.places;
+    let found = explain_range(job.alloc, input, &asked.filter, first, last, out);
     let (read, is_printed) = (found.read, found.printed.is_ok());
     job.watch.erase();
     let status = report_one(&found, first, paths, number, err);
@@ -88,9 +95,13 @@ fn explain_places<F: Screen, R: Read + Drop, O: Write, E: HintSink>(
     out: &mut O,
     err: &mut E,
 ) -> Status {
+    let asked = InFull {
+        filter: FilterWithProgram::new(&job.filter, job.words.snap),
+        places,
+    };
     let mut status = Status::Clean;
     for (number, input) in captures.into_iter().enumerate() {
-        match explain_places_of(job, places, number, input, out, err) {
+        match explain_places_of(job, &asked, number, input, out, err) {
             Ok(one) => status = status.max(one),
             Err(one) => return status.max(one),
         }

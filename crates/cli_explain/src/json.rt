@@ -5,7 +5,7 @@ ghost use Rattle.filterlang.specs.Trees.{tree_of};
 ghost use Rattle.filter_explain.specs.Asking.{question_of};
 ghost use Rattle.bpfvm.specs.Images.{brief_text};
 ghost use Rattle.cli_explain.specs.Answers.{answer, EndsRunAs};
-ghost use Rattle.cli_explain.specs.Forms.{answer_json, at_json, cause_json, end_json, instruction_json, lengths_json, packet_json, place_json, question_json, returned_json, run_json, time_json, verdict_json, DecidesInJson, IsJsonAnswerOf, PutsInJson};
+ghost use Rattle.cli_explain.specs.Forms.{answer_json, at_json, cause_json, end_json, instruction_json, lengths_json, packet_json, place_json, question_json, returned_json, run_json, time_json, verdict_json, DecidesInJson, IsJsonAnswer, PutsInJson};
 
 use crate::filter::AskedFilter;
 use crate::form::LineBuffer;
@@ -170,11 +170,11 @@ fn put_answer(
     filter: &AskedFilter,
     packet: &PacketRef<'_>,
 ) -> Result<Verdict, NoMemory>
-    ensures { IfOk result (PutsInJson (string_bytes line.old) (string_bytes line.new) (IsJsonAnswerOf filter.now.expr filter.now.program) packet.now) }
+    ensures { IfOk result (PutsInJson (string_bytes line.old) (string_bytes line.new) (IsJsonAnswer filter.now) packet.now) }
 {
-    match &filter.expr {
-        Some(expr) => put_meaning(line, text, expr, packet),
-        None => put_end(line, text, &filter.program, packet),
+    match filter {
+        AskedFilter::Expression(expr) => put_meaning(line, text, expr, packet),
+        AskedFilter::Program(program) => put_end(line, text, program, packet),
     }
 }
 
@@ -186,7 +186,7 @@ pub(crate) fn put_object(
     place: u64,
     packet: &PacketRef<'_>,
 ) -> Result<Verdict, NoMemory>
-    ensures { IfOk result (λ verdict. (reason : List ℕ) × IsJsonAnswerOf filter.now.expr filter.now.program (answer packet.now verdict reason)
+    ensures { IfOk result (λ verdict. (reason : List ℕ) × IsJsonAnswer filter.now (answer packet.now verdict reason)
         × (string_bytes buffer.new.line ≡ answer_json capture place (answer packet.now verdict reason))) }
 {
     put_packet(&mut buffer.line, capture, place, packet)?;

@@ -13,6 +13,7 @@ pub mod line;
 pub mod one;
 mod paths;
 pub mod plan;
+pub mod program;
 pub mod range;
 pub mod report;
 pub mod seek;
@@ -20,3 +21,4 @@ mod whole;
 
 pub use filter::AskedFilter;
 pub use form::PacketForm;
+pub use program::FilterWithProgram;

@@ -138,9 +138,9 @@ pub fn put_answer(
 ) -> Result<Verdict, NoMemory>
     ensures { IfOk result (PutsAnswer (string_bytes line.old) (string_bytes line.new) (IsAnswer filter.now) packet.now) }
 {
-    match &filter.expr {
-        Some(expr) => put_meaning(line, expr, packet),
-        None => put_end(line, &filter.program, packet),
+    match filter {
+        AskedFilter::Expression(expr) => put_meaning(line, expr, packet),
+        AskedFilter::Program(program) => put_end(line, program, packet),
     }
 }
 

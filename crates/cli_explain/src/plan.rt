@@ -4,26 +4,27 @@ ghost use Rattle.std.specs.Prelude.{IfOk};
 ghost use Rattle.cli_explain.specs.Filter.{IsOfExpression};
 
 use crate::AskedFilter;
-use crate::filter::{of_expression, of_program};
+use crate::filter::of_expression;
 use cli_args::explain::ExplainWords;
 use cli_filter::{FilterFault, expression_report, filter_report, hint_expression, program_of_file};
 use cli_report::HintSink;
 use cli_text::Status;
 use fault_report::reporting::report_fault;
+use filtergen::ExpressionFault;
 use std::fs::Files;
 
 /// The filter of an expression; or reports why there is none.
 pub fn read_expression<R: AllocGlobal, E: HintSink>(
     rt: &R,
     expr: &str,
-    snap: u32,
     err: &mut E,
 ) -> Result<AskedFilter, Status>
-    ensures { IfOk result (IsOfExpression expr.now snap) }
+    ensures { IfOk result (IsOfExpression expr.now) }
 {
-    match of_expression(rt.alloc(), expr, snap) {
+    match of_expression(rt.alloc(), expr) {
         Ok(filter) => Ok(filter),
         Err(fault) => {
+            let fault = ExpressionFault::Text(fault);
             let status = report_fault(&expression_report(fault), Status::Refused, err);
             hint_expression(rt.alloc(), expr, fault, err);
             Err(status)
@@ -45,7 +46,7 @@ pub(crate) fn read_filter<R: Files + AllocGlobal, E: HintSink>(
 ) -> Result<AskedFilter, Status> {
     match (words.expr, words.listing) {
         (Some(_), Some(_)) => refuse_two(err),
-        (None, Some(path)) => Ok(of_program(program_of_file(rt, path, err)?)),
-        (expr, None) => read_expression(rt, expr.unwrap_or(""), words.snap, err),
+        (None, Some(path)) => Ok(AskedFilter::Program(program_of_file(rt, path, err)?)),
+        (expr, None) => read_expression(rt, expr.unwrap_or(""), err),
     }
 }

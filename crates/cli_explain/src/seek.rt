@@ -29,9 +29,12 @@ impl PacketTest for AskedFilter {
     ghost passed = { λ filter p. accepts filter p };
 
     fn passes(&self, packet: &PacketRef<'_>) -> bool {
-        match &self.expr {
-            Some(expr) => matches!(evaluate(expr, packet.bytes, packet.len), Verdict::Yes),
-            None => run(&self.program, packet.bytes, packet.len) > 0,
+        match self {
+            AskedFilter::Expression(expr) => matches!(
+                evaluate(expr, packet.bytes, packet.len),
+                Verdict::Yes
+            ),
+            AskedFilter::Program(program) => run(program, packet.bytes, packet.len) > 0,
         }
     }
 }
