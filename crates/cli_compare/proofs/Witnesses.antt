@@ -11,9 +11,9 @@ use Rattle.filter_same.specs.Same.{HoldsOf}
 use Rattle.std.specs.declared.io.Error.{Error}
 use Rattle.cli_text.specs.Sending.{TakesPart}
 use Rattle.cli_text.specs.Telling.{end_of_line}
-use Rattle.cli_explain.specs.declared.each.Unprinted.{Unprinted}
-use Rattle.cli_explain.specs.declared.each.Unprinted.TheVariants.{Output}
-use Rattle.cli_explain.specs.Answers.{Answer, answer, IsAnswer, PutsAnswer}
+use Rattle.cli_answers.specs.declared.printing.Unprinted.{Unprinted}
+use Rattle.cli_answers.specs.declared.printing.Unprinted.TheVariants.{Output}
+use Rattle.cli_answers.specs.Answers.{Answer, answer, IsAnswer, PutsAnswer}
 use Rattle.cli_compare.specs.declared.pair.FilterPair.{FilterPair}
 use Rattle.cli_compare.specs.Compared.{difference}
 use Rattle.cli_compare.specs.Deciding.{HoldsOfPair, IsText, IsUnanswered, PutsWitness, lengths_text, packet_of_witness}

@@ -7,7 +7,7 @@ ghost use Rattle.cli_compare.specs.Printed.{counts_text, difference_line};
 
 use crate::pair::FilterPair;
 use bpfvm::NoMemory;
-use cli_explain::line::{put_answer, put_packet};
+use cli_answers::line::{put_answer, put_packet};
 use savefile::PacketRef;
 
 /// Puts the line of a packet in place of what the line has: its place and time, and what each filter answers, and why.

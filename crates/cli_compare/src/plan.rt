@@ -1,13 +1,13 @@
 //! The two filters that the arguments of `compare` ask for.
 
 ghost use Rattle.std.specs.Prelude.{IfOk};
-ghost use Rattle.cli_explain.specs.Filter.{IsOfExpression};
+ghost use Rattle.cli_answers.specs.Filter.{IsOfExpression};
 
 use crate::pair::FilterPair;
+use cli_answers::AskedFilter;
+use cli_answers::filter::of_expression;
+use cli_answers::plan::read_expression;
 use cli_args::compare::CompareWords;
-use cli_explain::AskedFilter;
-use cli_explain::filter::of_expression;
-use cli_explain::plan::read_expression;
 use cli_filter::{expression_report, hint_expression, program_of_file};
 use cli_report::HintSink;
 use cli_report::stream::print_below;

@@ -6,10 +6,10 @@ ghost use Rattle.cli_compare.specs.Deciding.{HoldsOfPair, IsText, IsUnanswered, 
 
 use crate::pair::FilterPair;
 use bpfvm::NoMemory;
-use cli_explain::AskedFilter;
-use cli_explain::dump::put_dump;
-use cli_explain::each::{Unprinted, send_last};
-use cli_explain::line::put_answer;
+use cli_answers::AskedFilter;
+use cli_answers::dump::put_dump;
+use cli_answers::line::put_answer;
+use cli_answers::printing::{Unprinted, send_last};
 use filter_same::{Cause, Filter, Sameness, Witness, decide_filters};
 use savefile::PacketRef;
 use std::alloc::{AllocError, Global};

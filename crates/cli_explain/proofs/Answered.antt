@@ -12,18 +12,14 @@ use Rattle.cli_text.specs.Sending.{TakesPart}
 use Rattle.cli_text.specs.Texts.{numbered}
 use Rattle.cli_text.proofs.Taking.{TakesPart-then}
 use Rattle.cli_explain.specs.declared.each.VerdictCounts.{VerdictCounts}
-use Rattle.cli_explain.specs.declared.each.Unprinted.{Unprinted}
-use Rattle.cli_explain.specs.declared.each.Unprinted.TheVariants.{NoMemory, Output}
-use Rattle.cli_explain.specs.declared.filter.AskedFilter.{AskedFilter}
+use Rattle.cli_answers.specs.declared.printing.Unprinted.{Unprinted}
+use Rattle.cli_answers.specs.declared.printing.Unprinted.TheVariants.{NoMemory, Output}
+use Rattle.cli_answers.specs.declared.filter.AskedFilter.{AskedFilter}
 use Rattle.cli_explain.specs.declared.form.PacketForm.{PacketForm}
-use Rattle.cli_explain.specs.Answers.{Answer, answer}
+use Rattle.cli_answers.specs.Answers.{Answer, answer}
 use Rattle.cli_explain.specs.Forms.{IsAnswerIn, line_in}
-use Rattle.cli_explain.specs.Explained.{is_yes, is_no, is_abort, count_of, counted, AreCounts, answer_lines, packets_of, PrintsLine, IsLineBroken}
-
--- one more of them
-pub all-more : {X : Type 0} (P : X → Type 0) (xs : List X) (x : X) → AllByRecursion P xs → P x → AllByRecursion P (xs ++ x ∷ [])
-all-more P [] x all one = (one, tt)
-all-more P (y ∷ xs) x (first, all) one = (first, all-more P xs x all one)
+use Rattle.cli_answers.specs.Answers.{is_yes}
+use Rattle.cli_explain.specs.Explained.{is_no, is_abort, count_of, counted, AreCounts, answer_lines, packets_of, PrintsLine, IsLineBroken}
 
 numbered-last : {X : Type 0} (f : ℕ → X → List ℕ) (n : ℕ) (xs : List X) (x : X) → numbered f n (xs ++ x ∷ []) ≡ numbered f n xs ++ f (n + length xs) x
 numbered-last f n [] x =
@@ -74,10 +70,6 @@ pub counted-packets : (v : Verdict) (c : VerdictCounts) (before given : ℕ) →
 counted-packets Yes c before given few more = omega (arith, few, more)
 counted-packets No c before given few more = omega (arith, few, more)
 counted-packets Abort c before given few more = omega (arith, few, more)
-
--- and there is room for one more
-pub room-for-one : (packets before given : ℕ) → packets ≤ before → (given ≡ before + 1) × (given < 2 ^ 64) → packets + 1 < 2 ^ 64
-room-for-one packets before given few more = omega (arith, few, more.0, more.1)
 
 pub counted-yes : (v : Verdict) (c : VerdictCounts) → c.yes ≤ c.packets → (counted v c).yes ≤ (counted v c).packets
 counted-yes Yes c few = omega (arith, few)

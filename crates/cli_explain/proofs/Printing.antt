@@ -14,22 +14,18 @@ use Rattle.filter_meaning.specs.declared.verdict.Verdict.{Verdict}
 use Rattle.cli_text.specs.Sending.{Takes, TakesPart}
 use Rattle.cli_text.proofs.Taking.{TakesPart-more, TakesPart-then}
 use Rattle.cli_explain.specs.declared.each.VerdictCounts.{VerdictCounts}
-use Rattle.cli_explain.specs.declared.each.Unprinted.{Unprinted}
-use Rattle.cli_explain.specs.declared.each.Unprinted.TheVariants as unprinted
-use Rattle.cli_explain.specs.declared.filter.AskedFilter.{AskedFilter}
+use Rattle.cli_answers.specs.declared.printing.Unprinted.{Unprinted}
+use Rattle.cli_answers.specs.declared.printing.Unprinted.TheVariants as unprinted
+use Rattle.cli_answers.specs.declared.filter.AskedFilter.{AskedFilter}
 use Rattle.cli_explain.specs.declared.one.Found.{Found}
 use Rattle.cli_explain.specs.declared.form.PacketForm.{PacketForm}
 use Rattle.cli_explain.specs.declared.form.PacketForm.TheVariants.{Text, Json}
-use Rattle.cli_explain.specs.Answers.{Answer, answer, answer_line}
+use Rattle.cli_explain.specs.Printed.{answer_line}
+use Rattle.cli_answers.specs.Answers.{Answer, answer}
 use Rattle.cli_explain.specs.Forms.{IsAnswerIn, counts_in}
-use Rattle.cli_explain.specs.Explained.{is_yes, is_no, is_abort, count_of, AreCounts, counts_line, answer_lines, packets_of, IsLineBroken, IsUnopened, PrintsLine, PrintsLines, PrintsAll, PrintsFound, PrintsMore, PrintsWhole, GoesTo, Finds}
-
--- the header was not read
-pub unopened : {R : Type 0} (left : R → Option (List ℕ)) (from back : R) (fault : Fault) → WasRefused (left from) fault ⊎ (fault ≡ Device) ⊎ (fault ≡ NoMemory) →
-    (fault ≡ NoMemory → back ≡ from) → (bytes : List ℕ) × Consumes (left from) (left back) bytes × (fault ≡ Device → length bytes < 24) → IsUnopened left from back fault
-unopened left from back fault (inl refused) kept given = inl refused
-unopened left from back fault (inr (inl device)) kept (bytes, gave, short) = inr (inl (device, bytes, gave, short device))
-unopened left from back fault (inr (inr wanting)) kept given = inr (inr (wanting, kept wanting))
+use Rattle.cli_answers.specs.Reading.{IsUnopened}
+use Rattle.cli_answers.specs.Answers.{is_yes}
+use Rattle.cli_explain.specs.Explained.{is_no, is_abort, count_of, AreCounts, counts_line, answer_lines, packets_of, IsLineBroken, PrintsLine, PrintsLines, PrintsAll, PrintsFound, PrintsMore, PrintsWhole, GoesTo, Finds}
 
 -- it broke off
 pub broken-off : {A : Type 0} (form : PacketForm) (f : AskedFilter) (from left : Option (List ℕ)) (header : Header) (old new : Option (List ℕ)) (c : VerdictCounts) (read : Result A Fault) (done : Result A Unprinted) (x : A) (u : Unprinted) (told : List Answer) →
@@ -78,25 +74,6 @@ lines-and-counts form f from left header old mid new c read (Ok x) (Ok y) went (
 lines-and-counts form f from left header old mid new c read (Ok x) (Err u) went (inr (answers, all, reads, ok, lines, are)) taken =
     let same : counts_in form c.packets c.yes c.no c.abort ≡ counts_line form answers = rw (are.packets, are.yes, are.no, are.abort) refl in
     inr (answers, all, reads, (mid, lines, subst (TakesPart mid new) same taken))
-
--- ---- One packet more
-
--- where a source gave one more, it did not fail
-pub still-works : (a b start : ℕ) (result : Result Bool Fault) → (a ≢ b → result ≡ Err Device) → result ≡ Ok true → b ≡ start → a ≡ start
-still-works a b start result tells is before = elim (cases_eq a b) [
-  | inl same ↦ same ∙ before
-  | inr differs ↦ let clash : ◌≡◌ {A = Result Bool Fault} (Ok true) (Err Device) = sym is ∙ tells differs in absurd cc
-]
-
--- and a reading that went well tells so
-pub works-on : {A : Type 0} (read : Result A Fault) (x : A) (a b : ℕ) → read ≡ Ok x → a ≡ b → (read ≡ Err Device) ↔ (a ≢ b)
-works-on {A} read x a b is same = (λ broke. let clash : ◌≡◌ {A = Result A Fault} (Ok x) (Err Device) = sym is ∙ broke in absurd cc, λ differs. absurd (differs same))
-
--- one more was given, and no more than can be counted
-pub gave-more : {R : Type 0} (old new : Reading R) (result : Result Bool Fault) → Leaves old new result → result ≡ Ok true → (new.given ≡ old.given + 1) × (new.given < 2 ^ 64)
-gave-more old new (Ok true) (goes, one, fits) is = (one, fits)
-gave-more old new (Ok false) leaves is = absurd (cc)
-gave-more old new (Err fault) leaves is = absurd (cc)
 
 -- ---- One packet
 

@@ -2,34 +2,29 @@
 use Rattle.std.specs.Prelude.{◌≡◌, ℕ, ◌-◌, ◌+◌, ◌^◌, ◌<◌, ◌≤◌, ◌⊎◌, Bool, true, false, List, [], ◌∷◌, ◌++◌, length, map, filter, Option, Some, None, Result, Ok, Err, IsOk, IsErr, IsErrOf, MatchResult, codes}
 use Rattle.std.specs.Fmt.{decimal}
 use Rattle.std.specs.List.{AllByRecursion}
-use Rattle.std.specs.Io.KnownBytes.{Appends, Consumes, Keeps}
+use Rattle.std.specs.Io.KnownBytes.{Appends, Keeps}
 use Rattle.savefile.specs.declared.fault.Fault.{Fault}
-use Rattle.savefile.specs.declared.fault.Fault.TheVariants.{CountFull, Device, NoMemory}
 use Rattle.savefile.specs.declared.header.Header.{Header}
 use Rattle.savefile.specs.declared.packet.Packet.{Packet}
-use Rattle.savefile.specs.Reader.{HasGiven, IsCause, Reading, WasBegun, WasRead, WasRefused, WasTaken}
+use Rattle.savefile.specs.Reader.{HasGiven, IsCause, Reading, WasBegun, WasRead}
 use Rattle.filter_meaning.specs.declared.verdict.Verdict.{Verdict}
 use Rattle.filter_meaning.specs.declared.verdict.Verdict.TheVariants.{Yes, No, Abort}
 use Rattle.cli_text.specs.Sending.{TakesPart}
-use Rattle.cli_text.specs.Telling.{end_of_line}
 use Rattle.cli_text.specs.Texts.{numbered}
 use Rattle.cli_explain.specs.declared.each.VerdictCounts.{VerdictCounts}
 use Rattle.cli_explain.specs.declared.each.Explained.{Explained}
-use Rattle.cli_explain.specs.declared.each.Unprinted.{Unprinted}
-use Rattle.cli_explain.specs.declared.each.Unprinted.TheVariants as unprinted
+use Rattle.cli_answers.specs.declared.printing.Unprinted.{Unprinted}
+use Rattle.cli_answers.specs.declared.printing.Unprinted.TheVariants as unprinted
 use Rattle.cli_explain.specs.declared.one.Found.{Found}
-use Rattle.cli_explain.specs.declared.filter.AskedFilter.{AskedFilter}
+use Rattle.cli_answers.specs.declared.filter.AskedFilter.{AskedFilter}
 use Rattle.cli_explain.specs.declared.form.PacketForm.{PacketForm}
 use Rattle.cli_explain.specs.declared.form.PacketForm.TheVariants.{Text}
-use Rattle.cli_explain.specs.Answers.{Answer, answer, IsAnswer, answer_line}
+use Rattle.cli_answers.specs.Answers.{Answer, answer, IsAnswer, is_yes}
+use Rattle.cli_answers.specs.Reading.{IsUnopened, ReadsTo}
 use Rattle.cli_explain.specs.Forms.{IsAnswerIn, counts_in, line_in}
+use Rattle.cli_explain.specs.Printed.{answer_line}
 
 -- ---- The counts
-
-abbrev pub is_yes : Verdict → Bool
-is_yes Yes = true
-is_yes No = false
-is_yes Abort = false
 
 abbrev pub is_no : Verdict → Bool
 is_no Yes = false
@@ -83,28 +78,6 @@ Prints form old new answers counts done =
 -- the packets that were answered
 abbrev pub packets_of : List Answer → List Packet
 packets_of answers = map (λ a. a.packet) answers
-
--- how the reading of a capture with this fault or none ends
-abbrev pub IsEnd : {A : Type 0} → Option Fault → Result A Fault → Type 0
-IsEnd None read = IsOk read
-IsEnd (Some fault) read = IsErrOf read fault
-
--- Up to which packets a capture was read, and how that ended. It was read to its end, or to its first torn or bad record; or the
--- source broke, and what it had given stops behind these packets; or no more can be counted.
-abbrev pub ReadsTo : {A : Type 0} → Option (List ℕ) → Option (List ℕ) → Header → List Packet → Result A Fault → Type 0
-ReadsTo from left header packets read =
-    ((fault : Option Fault) × WasRead from header packets fault × IsEnd fault read)
-    ⊎ (WasBegun from header packets
-    × ((IsErrOf read Device × WasTaken from left header packets)
-    ⊎ (IsErrOf read CountFull × (length packets ≡ 2 ^ 64 - 1))))
-
--- Why no header was read, of a source that is now `back`: it is refused; or the source broke before it had given the 24 bytes of one;
--- or memory was wanting, and the source is as it was.
-abbrev pub IsUnopened : {R : Type 0} → (R → Option (List ℕ)) → R → R → Fault → Type 0
-IsUnopened left from back fault =
-    WasRefused (left from) fault
-    ⊎ ((fault ≡ Device) × (given : List ℕ) × Consumes (left from) (left back) given × (length given < 24))
-    ⊎ ((fault ≡ NoMemory) × (back ≡ from))
 
 -- ---- A capture
 

@@ -14,12 +14,13 @@ use Rattle.filter_explain.specs.Asking.{Question, IsLast, questions}
 use Rattle.filter_explain.specs.Deciding.{part_text}
 use Rattle.cli_json.specs.Strings.{json_string}
 use Rattle.cli_text.specs.Telling.{end_of_line}
-use Rattle.cli_explain.specs.declared.filter.AskedFilter.{AskedFilter}
-use Rattle.cli_explain.specs.declared.filter.AskedFilter.TheVariants.{Expression, Program}
+use Rattle.cli_answers.specs.declared.filter.AskedFilter.{AskedFilter}
+use Rattle.cli_answers.specs.declared.filter.AskedFilter.TheVariants.{Expression, Program}
 use Rattle.cli_explain.specs.declared.form.PacketForm.{PacketForm}
 use Rattle.cli_explain.specs.declared.form.PacketForm.TheVariants.{Text, Json}
 use Rattle.cli_explain.specs.Printed.{counts_text}
-use Rattle.cli_explain.specs.Answers.{Answer, answer, EndsRunAs, IsAnswer, answer_line, frame_of}
+use Rattle.cli_explain.specs.Printed.{answer_line}
+use Rattle.cli_answers.specs.Answers.{Answer, answer, EndsRunAs, IsAnswer, frame_of}
 
 -- ---- The parts of an object
 

@@ -6,21 +6,20 @@ ghost use Rattle.savefile.specs.declared.header.Header.{Header};
 ghost use Rattle.savefile.specs.Reader.{HasGiven};
 ghost use Rattle.cli_text.specs.Sending.{Takes};
 ghost use Rattle.cli_explain.specs.Captures.{plus};
-ghost use Rattle.cli_explain.specs.declared.each.Unprinted.TheVariants.{NoMemory, Output};
 ghost use Rattle.cli_explain.specs.Explained.{Explains, ExplainsLines, PrintsAll, PrintsLines, PrintsLine, IsLineBroken, counted};
 ghost use Rattle.cli_explain.specs.Forms.{counts_in, counts_json};
 ghost use Rattle.cli_explain.specs.Printed.{counts_text};
 
-use crate::filter::AskedFilter;
 use crate::form::{Asking, LineBuffer, PacketForm};
 use crate::line::put_line;
 use bpfvm::NoMemory;
+use cli_answers::AskedFilter;
+use cli_answers::printing::{Unprinted, send_last};
 use cli_text::sending::send;
 use filter_meaning::Verdict;
 use savefile::laws::given_so_far;
 use savefile::{Fault, PacketRef, Reader, Source};
 use std::alloc::Global;
-use std::io;
 use std::io::Write;
 
 /// How many packets a filter was asked, and how many of these it answered Yes, No and Abort.
@@ -30,31 +29,6 @@ pub struct VerdictCounts {
     pub yes: u64,
     pub no: u64,
     pub abort: u64,
-}
-
-/// Why what was to be printed is not, or not all of it.
-#[derive(Debug, Drop)]
-pub enum Unprinted {
-    /// Memory was refused.
-    NoMemory,
-    /// The writer failed.
-    Output(io::Error),
-}
-
-impl From<NoMemory> for Unprinted {
-    ghost from_gives = { λ _ e. e ≡ NoMemory };
-
-    fn from(_refused: NoMemory) -> Unprinted {
-        Unprinted::NoMemory
-    }
-}
-
-impl From<io::Error> for Unprinted {
-    ghost from_gives = { λ error e. e ≡ Output error };
-
-    fn from(error: io::Error) -> Unprinted {
-        Unprinted::Output(error)
-    }
 }
 
 /// What explaining a capture came to.
@@ -301,14 +275,6 @@ pub fn print_counts<O: Write>(
     put_counts(line, form, counts)?;
     send_last(line.as_bytes(), out)?;
     Ok(())
-}
-
-/// Sends a text, and all that the writer has gathered.
-pub fn send_last<O: Write>(text: &[u8], out: &mut O) -> io::Result<()>
-    ensures { Takes (O.contents out.old) (O.contents out.new) result text.now }
-{
-    send(text, out)?;
-    out.flush()
 }
 
 /// Puts the line of the counts in place of what the line has.

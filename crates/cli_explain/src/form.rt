@@ -3,7 +3,7 @@
 ghost use Rattle.std.specs.Prelude.{◌≡◌, [], string_bytes};
 ghost use Rattle.cli_explain.specs.Forms.{of_capture};
 
-use crate::filter::AskedFilter;
+use cli_answers::AskedFilter;
 use std::alloc::Global;
 
 /// The form of the lines of packets.

@@ -4,13 +4,13 @@ ghost use Rattle.std.specs.Prelude.{◌≡◌, ◌++◌, ℕ, List, length, IfOk
 ghost use Rattle.filterlang.specs.Trees.{tree_of};
 ghost use Rattle.filter_explain.specs.Asking.{question_of};
 ghost use Rattle.bpfvm.specs.Images.{brief_text};
-ghost use Rattle.cli_explain.specs.Answers.{answer, EndsRunAs};
+ghost use Rattle.cli_answers.specs.Answers.{answer, EndsRunAs};
 ghost use Rattle.cli_explain.specs.Forms.{answer_json, at_json, cause_json, end_json, instruction_json, lengths_json, packet_json, place_json, question_json, returned_json, run_json, time_json, verdict_json, DecidesInJson, IsJsonAnswer, PutsInJson};
 
-use crate::filter::AskedFilter;
 use crate::form::LineBuffer;
-use crate::line::{end_of_run, ended_as};
 use bpfvm::{Brief, Insn, NoMemory, Program};
+use cli_answers::AskedFilter;
+use cli_answers::run_end::{end_of_run, ended_as};
 use cli_json::put_string;
 use filter_explain::{AskedPart, decide, put_part};
 use filter_meaning::{AbortCause, Verdict};

@@ -6,10 +6,11 @@ ghost use Rattle.savefile.specs.declared.header.Header.{Header};
 ghost use Rattle.savefile.specs.Reader.{HasGiven, Lends};
 ghost use Rattle.cli_explain.specs.Explained.{Finds, GoesTo, PrintsFound, PrintsMore, PrintsWhole};
 
-use crate::each::{Unprinted, print_line, send_last};
+use crate::each::print_line;
 use crate::form::{Asking, LineBuffer, PacketForm};
 use crate::program::FilterWithProgram;
 use crate::whole::whole_text;
+use cli_answers::printing::{Unprinted, send_last};
 use savefile::laws::given_so_far;
 use savefile::{Fault, PacketRef, Reader, Source};
 use std::alloc::Global;

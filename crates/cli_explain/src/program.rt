@@ -1,10 +1,10 @@
 //! A filter with its program, whose run is printed of a packet in full.
 
 ghost use Rattle.std.specs.Prelude.{◌≡◌};
-ghost use Rattle.cli_explain.specs.Filter.{HasProgram};
+ghost use Rattle.cli_explain.specs.Programs.{HasProgram};
 
-use crate::filter::AskedFilter;
 use bpfvm::Program;
+use cli_answers::AskedFilter;
 use filtergen_code::compile;
 use filtergen_facts::Refusal;
 

@@ -7,9 +7,9 @@ ghost use Rattle.savefile.specs.declared.packet.Packet.{Packet};
 ghost use Rattle.savefile.specs.Reader.{HasGiven, Lends};
 ghost use Rattle.cli_explain.specs.Range.{FindsRange, PrintsRange, ShowsRange};
 
-use crate::each::Unprinted;
 use crate::one::{Found, go_to, print_whole};
 use crate::program::FilterWithProgram;
+use cli_answers::printing::Unprinted;
 use savefile::laws::given_so_far;
 use savefile::{Fault, Reader, Source};
 use std::alloc::Global;

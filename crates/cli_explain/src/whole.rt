@@ -1,9 +1,9 @@
 //! One packet in full.
 
-use crate::dump::{put_blanks, put_dump};
-use crate::filter::AskedFilter;
 use crate::program::FilterWithProgram;
 use bpfvm::{Executed, Insn, NoMemory, PlacedInsn, Program, Traced, code, trace};
+use cli_answers::AskedFilter;
+use cli_answers::dump::{put_blanks, put_dump};
 use filter_explain::{AskedPart, decide, put_cause, put_part, verdict_text};
 use filter_meaning::{Look, Verdict, looks_of};
 use filter_print::Canonical;

@@ -1,6 +1,7 @@
 use Rattle.std.proofs.Common.{inl, refl, ◌++◌}
 use Rattle.std.proofs.KnownBytes.{Consumes-trans, Keeps-refl}
-use Rattle.cli_explain.proofs.Printing.{finds-it, unopened}
+use Rattle.cli_answers.proofs.Reading.{unopened}
+use Rattle.cli_explain.proofs.Printing.{finds-it}
 use Rattle.cli_explain.proofs.one.explain_one.Goals as goal
 
 pub returns-in-Err-clause-finds : goal.returns-in-Err-clause-finds

@@ -4,7 +4,8 @@ use Rattle.std.proofs.KnownBytes.{Consumes-nil, Consumes-trans}
 use Rattle.savefile.specs.declared.packet.Packet.{Packet}
 use Rattle.savefile.specs.Reader.{HasGiven}
 use Rattle.cli_explain.specs.Explained.{PrintsWhole}
-use Rattle.cli_explain.proofs.Printing.{lends-it, still-works, works-on}
+use Rattle.cli_answers.proofs.Reading.{still-works, works-on}
+use Rattle.cli_explain.proofs.Printing.{lends-it}
 use Rattle.cli_explain.proofs.Ranging.{each-last, whole-one, range-broken, range-whole, range-ended, range-stopped}
 use Rattle.cli_explain.proofs.range.print_range.Goals as goal
 

@@ -1,6 +1,6 @@
 use Rattle.std.proofs.Common.{Ok, ◌≡◌, ◌∙◌, ◌↔◌, ◌≢◌, ◌++◌, inl, ap, subst}
 use Rattle.std.proofs.KnownBytes.{Consumes-trans}
-use Rattle.cli_explain.proofs.Printing.{still-works}
+use Rattle.cli_answers.proofs.Reading.{still-works}
 use Rattle.cli_explain.proofs.Ranging.{goes-found, shows-none, shows-stopped}
 use Rattle.cli_explain.proofs.range.show_range.Goals as goal
 

@@ -1,0 +1,4 @@
+pub mod Reading
+pub mod Seeking
+pub mod Rows
+pub mod Visits
