@@ -4,4 +4,3 @@ pub mod Explained
 pub mod Telling
 pub mod Captures
 pub mod Range
-pub mod Programs

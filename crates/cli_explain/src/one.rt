@@ -36,7 +36,7 @@ pub struct Found<R> {
 pub fn explain_one<R: Source, O: Write>(
     alloc: Global,
     from: R,
-    filter: &FilterWithProgram<'_>,
+    filter: &FilterWithProgram<'_, '_>,
     place: u64,
     out: &mut O,
 ) -> Found<R>
@@ -90,7 +90,7 @@ pub(crate) fn go_to<R: Source>(reader: &mut Reader<R>, place: u64) -> Result<boo
 /// Prints the packet that a reader went on to, where it did.
 fn print_found<R: Source, O: Write>(
     alloc: Global,
-    filter: &FilterWithProgram<'_>,
+    filter: &FilterWithProgram<'_, '_>,
     place: u64,
     read: Result<bool, Fault>,
     reader: &Reader<R>,
@@ -109,7 +109,7 @@ fn print_found<R: Source, O: Write>(
 /// Prints a packet's line, and then everything else about it.
 pub(crate) fn print_whole<O: Write>(
     alloc: Global,
-    filter: &FilterWithProgram<'_>,
+    filter: &FilterWithProgram<'_, '_>,
     place: u64,
     packet: &PacketRef<'_>,
     out: &mut O,
@@ -128,7 +128,7 @@ pub(crate) fn print_whole<O: Write>(
 /// Prints what follows a packet's line.
 fn print_rest<O: Write>(
     alloc: Global,
-    filter: &FilterWithProgram<'_>,
+    filter: &FilterWithProgram<'_, '_>,
     place: u64,
     packet: &PacketRef<'_>,
     out: &mut O,

@@ -24,7 +24,7 @@ use std::io::Write;
 pub fn explain_range<R: Source, O: Write>(
     alloc: Global,
     from: R,
-    filter: &FilterWithProgram<'_>,
+    filter: &FilterWithProgram<'_, '_>,
     first: u64,
     last: u64,
     out: &mut O,
@@ -57,7 +57,7 @@ pub fn explain_range<R: Source, O: Write>(
 /// Goes on to the first place, and prints the packets from there.
 fn show_range<R: Source, O: Write>(
     alloc: Global,
-    filter: &FilterWithProgram<'_>,
+    filter: &FilterWithProgram<'_, '_>,
     first: u64,
     last: u64,
     reader: &mut Reader<R>,
@@ -90,7 +90,7 @@ fn outcome(read: Result<bool, Fault>, printed: Result<(), Unprinted>) -> Found<(
 /// Prints the packet that a reader lends, which is the first, and those after it, up to the last place.
 fn print_range<R: Source, O: Write>(
     alloc: Global,
-    filter: &FilterWithProgram<'_>,
+    filter: &FilterWithProgram<'_, '_>,
     first: u64,
     last: u64,
     reader: &mut Reader<R>,

@@ -7,7 +7,7 @@ use cli_answers::dump::{put_blanks, put_dump};
 use filter_explain::{AskedPart, decide, put_cause, put_part, verdict_text};
 use filter_meaning::{Look, Verdict, looks_of};
 use filter_print::Canonical;
-use filtergen_facts::Refusal;
+use filtergen::Refusal;
 use filterlang::Expr;
 use savefile::PacketRef;
 use std::alloc::{AllocError, Global};
@@ -258,7 +258,7 @@ fn put_run(
 fn put_program(
     alloc: Global,
     text: &mut String,
-    program: &Result<Program, Refusal>,
+    program: Result<&Program, Refusal>,
     packet: &PacketRef<'_>,
 ) -> Result<(), NoMemory> {
     match program {
@@ -271,7 +271,7 @@ fn put_program(
 fn put_whole(
     alloc: Global,
     text: &mut String,
-    filter: &FilterWithProgram<'_>,
+    filter: &FilterWithProgram<'_, '_>,
     place: u64,
     packet: &PacketRef<'_>,
 ) -> Result<(), NoMemory> {
@@ -289,13 +289,13 @@ fn put_whole(
         AskedFilter::Program(_) => text.push_str("\nbytes:\n")?,
     }
     put_dump(text, noted.as_slice(), packet.bytes)?;
-    put_program(alloc, text, &filter.program, packet)
+    put_program(alloc, text, filter.program, packet)
 }
 
 /// What follows a packet's line.
 pub(crate) fn whole_text(
     alloc: Global,
-    filter: &FilterWithProgram<'_>,
+    filter: &FilterWithProgram<'_, '_>,
     place: u64,
     packet: &PacketRef<'_>,
 ) -> Result<String, NoMemory> {

@@ -7,6 +7,7 @@ use cli_answers::printing::Unprinted;
 use cli_explain::each::explain_each;
 use cli_explain::one::explain_one;
 use cli_explain::{FilterWithProgram, PacketForm};
+use filtergen::Refusal;
 use std::process::Abort;
 use test_fixtures::captures::{ARP_RECORD, HEADER, concat};
 use test_fixtures::devices::UnflushedWriter;
@@ -47,7 +48,10 @@ fn a_packet_that_is_not_sent_on_is_a_fault(rt: HostRuntime) {
     let (capture, filter) = asked(&rt);
     let taken = Vec::new(rt.alloc());
     let mut out = UnflushedWriter { taken };
-    let filter = FilterWithProgram::new(&filter, 262_144);
+    let filter = FilterWithProgram {
+        filter: &filter,
+        program: Err(Refusal::TooLong),
+    };
     let found = explain_one(rt.alloc(), capture.as_slice(), &filter, 0, &mut out);
     same(&rt, is_output(&found.printed), true);
     assert!(rt; out.taken.starts_with(b"place 0 time 1.000000000 "));
