@@ -6,10 +6,11 @@ ghost use Rattle.savefile.specs.declared.header.Header.{Header};
 ghost use Rattle.savefile.specs.Reader.{HasGiven};
 ghost use Rattle.cli_text.specs.Sending.{Takes};
 ghost use Rattle.cli_explain.specs.Captures.{plus};
-ghost use Rattle.cli_explain.specs.Explained.{Explains, ExplainsLines, PrintsAll, PrintsLines, PrintsLine, IsLineBroken, counted};
+ghost use Rattle.cli_explain.specs.Explained.{Explains, ExplainsLines, PrintsLines, PrintsLine, IsLineBroken, counted};
 ghost use Rattle.cli_explain.specs.Forms.{counts_in, counts_json};
 ghost use Rattle.cli_explain.specs.Printed.{counts_text};
 
+use crate::captures::{ExplainedTotals, print_totals};
 use crate::form::{Asking, LineBuffer, PacketForm};
 use crate::line::put_line;
 use bpfvm::NoMemory;
@@ -111,25 +112,25 @@ pub fn explain_each<R: Source, O: Write>(
     ensures gave { (given : List ℕ) × Consumes (R.left from) (R.left result.source) given }
     ensures source_broke { (result.read ≡ Err Fault.Device) ↔ (R.failures result.source ≢ R.failures from) }
 {
-    let mut reader = match Reader::open(alloc, from) {
-        Ok(reader) => reader,
-        Err((source, fault)) => {
-            return Explained {
-                source,
-                opened: false,
-                counts: VerdictCounts::NONE,
-                read: Err(fault),
-                printed: Ok(()),
-            };
-        }
+    let Explained {
+        source,
+        opened,
+        counts,
+        read,
+        printed,
+    } = explain_lines(alloc, from, filter, form, out);
+    let totals = ExplainedTotals {
+        opened,
+        counts,
+        printed,
     };
-    let ended = print_all(alloc, &mut reader, &Asking { filter, form }, out);
+    let printed = print_totals(alloc, totals, form, out);
     Explained {
-        source: reader.close(),
-        opened: true,
-        counts: ended.counts,
-        read: ended.read,
-        printed: ended.printed,
+        source,
+        opened,
+        counts,
+        read,
+        printed,
     }
 }
 
@@ -186,33 +187,6 @@ fn outcome(
         opened: true,
         counts,
         read,
-        printed,
-    }
-}
-
-/// Prints the line of each packet, and the counts.
-fn print_all<R: Source, O: Write>(
-    alloc: Global,
-    reader: &mut Reader<R>,
-    asking: &Asking<'_>,
-    out: &mut O,
-) -> Explained<()>
-    ensures prints { (from : Option (List ℕ)) (header : Header) → HasGiven R.left from header [] reader.old →
-        PrintsAll asking.now.form asking.now.filter.now from (R.left reader.new.source) header (O.contents out.old) (O.contents out.new) result.counts result.read result.printed }
-    ensures taken { (bytes : List ℕ) × Consumes (R.left reader.old.source) (R.left reader.new.source) bytes }
-    ensures source_broke { (result.read ≡ Err Fault.Device) ↔ (R.failures reader.new.source ≢ R.failures reader.old.source) }
-{
-    let mut buffer = LineBuffer::new(alloc);
-    let ended = print_lines(reader, asking, &mut buffer, out);
-    if ended.printed.is_err() {
-        return ended;
-    }
-    let printed = print_counts(ended.counts, asking.form, &mut buffer.line, out);
-    Explained {
-        source: (),
-        opened: true,
-        counts: ended.counts,
-        read: ended.read,
         printed,
     }
 }

@@ -24,6 +24,6 @@ pub(crate) fn read_filter<R: Files + AllocGlobal, E: HintSink>(
     match (words.expr, words.listing) {
         (Some(_), Some(_)) => refuse_two(err),
         (None, Some(path)) => Ok(AskedFilter::Program(program_of_file(rt, path, err)?)),
-        (expr, None) => read_expression(rt, expr.unwrap_or(""), err),
+        (expr, None) => read_expression(rt, None, expr.unwrap_or(""), err),
     }
 }
