@@ -24,11 +24,6 @@ pub record Answer : Type 0 where
 abbrev pub answer : Packet → Verdict → List ℕ → Answer
 answer p verdict reason = record { packet = p; verdict = verdict; reason = reason }
 
-abbrev pub is_yes : Verdict → Bool
-is_yes Yes = true
-is_yes No = false
-is_yes Abort = false
-
 -- a packet as an expression is asked of it
 abbrev pub frame_of : Packet → Frame
 frame_of p = packet_of p.bytes p.len

@@ -21,10 +21,6 @@ abbrev pub read_of : Result Bool Stop → Result (Unit {0}) Stop
 read_of (Ok is_over) = Ok tt
 read_of (Err stop) = Err stop
 
--- the sum of two counts, up to 2^64 - 1
-abbrev pub sum_of : ℕ → ℕ → ℕ
-sum_of a b = min (a + b) (2 ^ 64 - 1)
-
 -- ---- A packet that is looked for
 
 -- the next capture is read if this one has no such packet

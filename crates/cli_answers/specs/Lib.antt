@@ -1,6 +1,8 @@
 pub mod Filter
 pub mod Printed
+pub mod Verdicts
 pub mod Answers
+pub mod Counts
 pub mod Reading
 pub mod Seeking
 pub mod Captures

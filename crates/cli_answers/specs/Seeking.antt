@@ -11,7 +11,8 @@ use Rattle.filter_meaning.specs.Meaning.{meaning}
 use Rattle.cli_answers.specs.declared.filter.AskedFilter.{AskedFilter}
 use Rattle.cli_answers.specs.declared.filter.AskedFilter.TheVariants.{Expression, Program}
 use Rattle.cli_answers.specs.declared.seek.Sought.{Sought}
-use Rattle.cli_answers.specs.Answers.{frame_of, is_yes}
+use Rattle.cli_answers.specs.Verdicts.{is_yes}
+use Rattle.cli_answers.specs.Answers.{frame_of}
 use Rattle.cli_answers.specs.Reading.{IsUnopened}
 
 -- whether a filter accepts a packet: an expression does if its meaning is Yes, a program if it returns a number other than 0

@@ -2,8 +2,10 @@
 #![tactic(auto)]
 
 pub mod captures;
+pub mod counts;
 pub mod dump;
 pub mod filter;
+pub mod form;
 pub mod hints;
 pub mod line;
 pub mod plan;
@@ -13,3 +15,4 @@ pub mod run_end;
 pub mod seek;
 
 pub use filter::AskedFilter;
+pub use form::PacketForm;

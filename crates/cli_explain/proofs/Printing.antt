@@ -13,18 +13,19 @@ use Rattle.savefile.specs.Reader.{HasGiven, IsCause, Leaves, Lends, Reading, Was
 use Rattle.filter_meaning.specs.declared.verdict.Verdict.{Verdict}
 use Rattle.cli_text.specs.Sending.{Takes, TakesPart}
 use Rattle.cli_text.proofs.Taking.{TakesPart-more, TakesPart-then}
-use Rattle.cli_explain.specs.declared.each.VerdictCounts.{VerdictCounts}
+use Rattle.cli_answers.specs.declared.counts.VerdictCounts.{VerdictCounts}
 use Rattle.cli_answers.specs.declared.printing.Unprinted.{Unprinted}
 use Rattle.cli_answers.specs.declared.printing.Unprinted.TheVariants as unprinted
 use Rattle.cli_answers.specs.declared.filter.AskedFilter.{AskedFilter}
 use Rattle.cli_explain.specs.declared.each.Explained.{Explained}
 use Rattle.cli_explain.specs.declared.one.Found.{Found}
-use Rattle.cli_explain.specs.declared.form.PacketForm.{PacketForm}
-use Rattle.cli_explain.specs.declared.form.PacketForm.TheVariants.{Text, Json}
+use Rattle.cli_answers.specs.declared.form.PacketForm.{PacketForm}
+use Rattle.cli_answers.specs.declared.form.PacketForm.TheVariants.{Text, Json}
 use Rattle.cli_explain.specs.Printed.{answer_line}
 use Rattle.cli_answers.specs.Answers.{Answer, answer}
-use Rattle.cli_explain.specs.Forms.{IsAnswerIn, counts_in}
-use Rattle.cli_explain.specs.Explained.{AreCounts, counts_line, answer_lines, packets_of, Explains, ExplainsLines, IsLineBroken, PrintsLine, PrintsLines, PrintsAll, PrintsFound, PrintsMore, PrintsWhole, GoesTo, Finds}
+use Rattle.cli_answers.specs.Counts.{counts_in, AreCounts}
+use Rattle.cli_explain.specs.Forms.{IsAnswerIn}
+use Rattle.cli_explain.specs.Explained.{counts_line, answer_lines, packets_of, Explains, ExplainsLines, IsLineBroken, PrintsLine, PrintsLines, PrintsAll, PrintsFound, PrintsMore, PrintsWhole, GoesTo, Finds}
 
 -- it broke off
 pub broken-off : {A : Type 0} (form : PacketForm) (f : AskedFilter) (from left : Option (List ℕ)) (header : Header) (old new : Option (List ℕ)) (c : VerdictCounts) (read : Result A Fault) (done : Result A Unprinted) (x : A) (u : Unprinted) (told : List Answer) →

@@ -6,19 +6,12 @@ use Rattle.cli_walk.specs.Walking.{Walked, visited}
 use Rattle.cli_explain.specs.declared.captures.ExplainedCaptures.{ExplainedCaptures}
 use Rattle.cli_explain.specs.declared.captures.ExplainedTotals.{ExplainedTotals}
 use Rattle.cli_explain.specs.declared.each.Explained.{Explained}
-use Rattle.cli_explain.specs.declared.each.VerdictCounts.{VerdictCounts}
+use Rattle.cli_answers.specs.declared.counts.VerdictCounts.{VerdictCounts}
 use Rattle.cli_answers.specs.declared.filter.AskedFilter.{AskedFilter}
-use Rattle.cli_explain.specs.declared.form.PacketForm.{PacketForm}
-use Rattle.cli_answers.specs.Captures.{goes_on, read_of, sum_of}
+use Rattle.cli_answers.specs.declared.form.PacketForm.{PacketForm}
+use Rattle.cli_answers.specs.Counts.{sum_of, no_counts, plus, of_capture}
+use Rattle.cli_answers.specs.Captures.{goes_on, read_of}
 use Rattle.cli_explain.specs.Explained.{ExplainsLines}
-use Rattle.cli_explain.specs.Forms.{of_capture}
-
-abbrev pub plus : VerdictCounts → VerdictCounts → VerdictCounts
-plus a b = record { packets = sum_of a.packets b.packets; yes = sum_of a.yes b.yes; no = sum_of a.no b.no; abort = sum_of a.abort b.abort }
-
--- the counts of no packets
-abbrev pub no_counts : VerdictCounts
-no_counts = record { packets = 0; yes = 0; no = 0; abort = 0 }
 
 -- nothing was printed so far
 abbrev pub no_totals : ExplainedTotals

@@ -11,47 +11,20 @@ use Rattle.filter_meaning.specs.declared.verdict.Verdict.{Verdict}
 use Rattle.filter_meaning.specs.declared.verdict.Verdict.TheVariants.{Yes, No, Abort}
 use Rattle.cli_text.specs.Sending.{TakesPart}
 use Rattle.cli_text.specs.Texts.{numbered}
-use Rattle.cli_explain.specs.declared.each.VerdictCounts.{VerdictCounts}
+use Rattle.cli_answers.specs.declared.counts.VerdictCounts.{VerdictCounts}
 use Rattle.cli_explain.specs.declared.each.Explained.{Explained}
 use Rattle.cli_answers.specs.declared.printing.Unprinted.{Unprinted}
 use Rattle.cli_answers.specs.declared.printing.Unprinted.TheVariants as unprinted
 use Rattle.cli_explain.specs.declared.one.Found.{Found}
 use Rattle.cli_answers.specs.declared.filter.AskedFilter.{AskedFilter}
-use Rattle.cli_explain.specs.declared.form.PacketForm.{PacketForm}
-use Rattle.cli_explain.specs.declared.form.PacketForm.TheVariants.{Text}
-use Rattle.cli_answers.specs.Answers.{Answer, answer, IsAnswer, is_yes}
+use Rattle.cli_answers.specs.declared.form.PacketForm.{PacketForm}
+use Rattle.cli_answers.specs.declared.form.PacketForm.TheVariants.{Text}
+use Rattle.cli_answers.specs.Verdicts.{is_yes, is_no, is_abort}
+use Rattle.cli_answers.specs.Answers.{Answer, answer, IsAnswer}
+use Rattle.cli_answers.specs.Counts.{AreCounts, count_of, counts_in}
 use Rattle.cli_answers.specs.Reading.{IsUnopened, ReadsTo}
-use Rattle.cli_explain.specs.Forms.{IsAnswerIn, counts_in, line_in}
+use Rattle.cli_explain.specs.Forms.{IsAnswerIn, line_in}
 use Rattle.cli_explain.specs.Printed.{answer_line}
-
--- ---- The counts
-
-abbrev pub is_no : Verdict → Bool
-is_no Yes = false
-is_no No = true
-is_no Abort = false
-
-abbrev pub is_abort : Verdict → Bool
-is_abort Yes = false
-is_abort No = false
-is_abort Abort = true
-
--- how many answers are of a kind
-abbrev pub count_of : (Verdict → Bool) → List Answer → ℕ
-count_of is answers = length (filter (λ a. is a.verdict) answers)
-
--- how many packets were answered, and how many of them Yes, No and Abort
-pub record AreCounts (counts : VerdictCounts) (answers : List Answer) : Type 0 where
-  pub packets : counts.packets ≡ length answers
-  pub yes : counts.yes ≡ count_of is_yes answers
-  pub no : counts.no ≡ count_of is_no answers
-  pub abort : counts.abort ≡ count_of is_abort answers
-
--- one packet more was answered so
-abbrev pub counted : Verdict → VerdictCounts → VerdictCounts
-counted Yes c = record { packets = c.packets + 1; yes = c.yes + 1; no = c.no; abort = c.abort }
-counted No c = record { packets = c.packets + 1; yes = c.yes; no = c.no + 1; abort = c.abort }
-counted Abort c = record { packets = c.packets + 1; yes = c.yes; no = c.no; abort = c.abort + 1 }
 
 -- ---- What is printed
 

@@ -16,9 +16,9 @@ use Rattle.cli_json.specs.Strings.{json_string}
 use Rattle.cli_text.specs.Telling.{end_of_line}
 use Rattle.cli_answers.specs.declared.filter.AskedFilter.{AskedFilter}
 use Rattle.cli_answers.specs.declared.filter.AskedFilter.TheVariants.{Expression, Program}
-use Rattle.cli_explain.specs.declared.form.PacketForm.{PacketForm}
-use Rattle.cli_explain.specs.declared.form.PacketForm.TheVariants.{Text, Json}
-use Rattle.cli_explain.specs.Printed.{counts_text}
+use Rattle.cli_answers.specs.declared.form.PacketForm.{PacketForm}
+use Rattle.cli_answers.specs.declared.form.PacketForm.TheVariants.{Text, Json}
+use Rattle.cli_answers.specs.Counts.{counts_text}
 use Rattle.cli_explain.specs.Printed.{answer_line}
 use Rattle.cli_answers.specs.Answers.{Answer, answer, EndsRunAs, IsAnswer, frame_of}
 
@@ -107,18 +107,3 @@ answer_json capture place a = packet_json capture place a.packet ++ verdict_json
 abbrev pub line_in : PacketForm → ℕ → Answer → List ℕ
 line_in Text place a = answer_line place a
 line_in (Json capture) place a = answer_json capture place a
-
--- `{"packets":N,"yes":Y,"no":N,"abort":A}`
-unfoldable pub counts_json : (packets accepted rejected aborted : ℕ) → List ℕ
-counts_json packets accepted rejected aborted = codes "{\"packets\":" ++ decimal packets ++ codes ",\"yes\":" ++ decimal accepted
-    ++ codes ",\"no\":" ++ decimal rejected ++ codes ",\"abort\":" ++ decimal aborted ++ codes "}" ++ end_of_line
-
--- the line of the counts
-abbrev pub counts_in : PacketForm → (packets accepted rejected aborted : ℕ) → List ℕ
-counts_in Text packets accepted rejected aborted = counts_text packets accepted rejected aborted
-counts_in (Json capture) packets accepted rejected aborted = counts_json packets accepted rejected aborted
-
--- the form of the lines of the capture of this number
-abbrev pub of_capture : PacketForm → ℕ → PacketForm
-of_capture Text number = Text
-of_capture (Json capture) number = Json number

@@ -9,8 +9,3 @@ use Rattle.cli_answers.specs.Printed.{packet_text}
 -- the line of a packet at a place
 abbrev pub answer_line : ℕ → Answer → List ℕ
 answer_line place a = packet_text place a.packet ++ (verdict_text a.verdict ++ codes " ") ++ a.reason ++ end_of_line
-
--- `N packets: Y Yes, N No, A Abort`
-unfoldable pub counts_text : (packets accepted rejected aborted : ℕ) → List ℕ
-counts_text packets accepted rejected aborted = decimal packets ++ codes " packets: " ++ decimal accepted ++ codes " Yes, " ++ decimal rejected
-    ++ codes " No, " ++ decimal aborted ++ codes " Abort" ++ end_of_line

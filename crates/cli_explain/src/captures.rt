@@ -2,14 +2,14 @@
 
 ghost use Rattle.std.specs.Prelude.{◌≡◌, ◌||◌, false, true, IsErr, IsOk};
 ghost use Rattle.cli_text.specs.Sending.{Takes};
-ghost use Rattle.cli_explain.specs.Forms.{counts_in};
-ghost use Rattle.cli_explain.specs.Captures.{ExplainsIn, ExplainsNext, plus};
+ghost use Rattle.cli_answers.specs.Counts.{counts_in, plus};
+ghost use Rattle.cli_explain.specs.Captures.{ExplainsIn, ExplainsNext};
 
-use crate::each::{Explained, VerdictCounts, explain_lines, print_counts};
-use crate::form::PacketForm;
-use cli_answers::AskedFilter;
+use crate::each::{Explained, explain_lines};
 use cli_answers::captures::{goes_on, read_of};
+use cli_answers::counts::{VerdictCounts, print_counts};
 use cli_answers::printing::Unprinted;
+use cli_answers::{AskedFilter, PacketForm};
 use cli_walk::{Stop, Visited, Visitor, Walk, visit_captures};
 use savefile::Source;
 use std::alloc::Global;

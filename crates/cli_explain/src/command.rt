@@ -1,17 +1,17 @@
 //! `bpftap explain`, over files.
 
+use crate::FilterWithProgram;
 use crate::captures::{ExplainedCaptures, explain_captures, print_totals};
 use crate::hints::hint_place;
 use crate::paths::check_paths;
 use crate::plan::read_filter;
 use crate::range::explain_range;
 use crate::report::{report_one, report_sought};
-use crate::{FilterWithProgram, PacketForm};
 use bpfvm::Program;
-use cli_answers::AskedFilter;
 use cli_answers::captures::{SoughtCaptures, find_in_captures};
 use cli_answers::hints::{hint_capture, hint_stop};
 use cli_answers::report::report_captures;
+use cli_answers::{AskedFilter, PacketForm};
 use cli_args::explain::ExplainWords;
 use cli_args::places::PlaceRange;
 use cli_files::captures::output_buffer;

@@ -1,36 +1,23 @@
 //! A line for each packet of a capture: the function under `bpftap explain`.
 
-ghost use Rattle.std.specs.Prelude.{◌≡◌, ◌≢◌, ◌↔◌, ◌<◌, ◌≤◌, ◌+◌, ◌^◌, ℕ, List, Option, [], Err, IfOk, IfErr, OnOk, string_bytes};
+ghost use Rattle.std.specs.Prelude.{◌≡◌, ◌≢◌, ◌↔◌, ℕ, List, Option, [], Err, IfOk, IfErr};
 ghost use Rattle.std.specs.Io.KnownBytes.{Consumes};
 ghost use Rattle.savefile.specs.declared.header.Header.{Header};
 ghost use Rattle.savefile.specs.Reader.{HasGiven};
-ghost use Rattle.cli_text.specs.Sending.{Takes};
-ghost use Rattle.cli_explain.specs.Captures.{plus};
-ghost use Rattle.cli_explain.specs.Explained.{Explains, ExplainsLines, PrintsLines, PrintsLine, IsLineBroken, counted};
-ghost use Rattle.cli_explain.specs.Forms.{counts_in, counts_json};
-ghost use Rattle.cli_explain.specs.Printed.{counts_text};
+ghost use Rattle.cli_explain.specs.Explained.{Explains, ExplainsLines, PrintsLines, PrintsLine, IsLineBroken};
 
 use crate::captures::{ExplainedTotals, print_totals};
-use crate::form::{Asking, LineBuffer, PacketForm};
+use crate::form::{Asking, LineBuffer};
 use crate::line::put_line;
-use bpfvm::NoMemory;
-use cli_answers::AskedFilter;
-use cli_answers::printing::{Unprinted, send_last};
+use cli_answers::counts::VerdictCounts;
+use cli_answers::printing::Unprinted;
+use cli_answers::{AskedFilter, PacketForm};
 use cli_text::sending::send;
 use filter_meaning::Verdict;
 use savefile::laws::given_so_far;
 use savefile::{Fault, PacketRef, Reader, Source};
 use std::alloc::Global;
 use std::io::Write;
-
-/// How many packets a filter was asked, and how many of these it answered Yes, No and Abort.
-#[derive(Clone, Copy, Debug, PartialEq, Eq)]
-pub struct VerdictCounts {
-    pub packets: u64,
-    pub yes: u64,
-    pub no: u64,
-    pub abort: u64,
-}
 
 /// What explaining a capture came to.
 #[derive(Debug, Drop)]
@@ -44,44 +31,6 @@ pub struct Explained<R> {
     pub read: Result<(), Fault>,
     /// Whether all was printed.
     pub printed: Result<(), Unprinted>,
-}
-
-impl VerdictCounts {
-    /// Of no packets.
-    pub const NONE: VerdictCounts = VerdictCounts {
-        packets: 0,
-        yes: 0,
-        no: 0,
-        abort: 0,
-    };
-
-    /// The counts of the packets of both, each up to 2^64 - 1.
-    pub fn plus(self, other: VerdictCounts) -> VerdictCounts
-        ensures { result ≡ plus self other }
-    {
-        VerdictCounts {
-            packets: self.packets.saturating_add(other.packets),
-            yes: self.yes.saturating_add(other.yes),
-            no: self.no.saturating_add(other.no),
-            abort: self.abort.saturating_add(other.abort),
-        }
-    }
-
-    /// Counts one packet more.
-    fn count(&mut self, verdict: Verdict)
-        requires room { self.now.packets + 1 < 2 ^ 64 }
-        requires yes { self.now.yes ≤ self.now.packets }
-        requires no { self.now.no ≤ self.now.packets }
-        requires abort { self.now.abort ≤ self.now.packets }
-        ensures { self.new ≡ counted verdict self.old }
-    {
-        self.packets += 1;
-        match verdict {
-            Verdict::Yes => self.yes += 1,
-            Verdict::No => self.no += 1,
-            Verdict::Abort => self.abort += 1,
-        }
-    }
 }
 
 /// Prints a line for each packet of a capture, and then one with the counts.
@@ -235,52 +184,4 @@ pub(crate) fn print_line<O: Write>(
     let verdict = put_line(buffer, asking, place, packet)?;
     send(buffer.line.as_bytes(), out)?;
     Ok(verdict)
-}
-
-/// Prints the counts, and all that the writer has gathered; the line that it is put together in may have any text.
-pub fn print_counts<O: Write>(
-    counts: VerdictCounts,
-    form: PacketForm,
-    line: &mut String,
-    out: &mut O,
-) -> Result<(), Unprinted>
-    ensures { Takes (O.contents out.old) (O.contents out.new) result (counts_in form counts.packets counts.yes counts.no counts.abort) }
-{
-    put_counts(line, form, counts)?;
-    send_last(line.as_bytes(), out)?;
-    Ok(())
-}
-
-/// Puts the line of the counts in place of what the line has.
-fn put_counts(line: &mut String, form: PacketForm, counts: VerdictCounts) -> Result<(), NoMemory>
-    ensures { OnOk result (string_bytes line.new ≡ counts_in form counts.packets counts.yes counts.no counts.abort) }
-{
-    match form {
-        PacketForm::Text => put_counts_text(line, counts),
-        PacketForm::Json(_) => put_counts_object(line, counts),
-    }
-}
-
-#[tactic(auto, unfolding(crate::specs::Printed::counts_text))]
-fn put_counts_text(line: &mut String, counts: VerdictCounts) -> Result<(), NoMemory>
-    ensures { OnOk result (string_bytes line.new ≡ counts_text counts.packets counts.yes counts.no counts.abort) }
-{
-    line.clear();
-    write!(line, "{} packets: {} Yes, ", counts.packets, counts.yes)?;
-    write!(line, "{} No, {} Abort\n", counts.no, counts.abort)?;
-    Ok(())
-}
-
-#[tactic(auto, unfolding(crate::specs::Forms::counts_json))]
-fn put_counts_object(line: &mut String, counts: VerdictCounts) -> Result<(), NoMemory>
-    ensures { OnOk result (string_bytes line.new ≡ counts_json counts.packets counts.yes counts.no counts.abort) }
-{
-    line.clear();
-    write!(
-        line,
-        "{{\"packets\":{},\"yes\":{}",
-        counts.packets, counts.yes
-    )?;
-    write!(line, ",\"no\":{},\"abort\":{}}}\n", counts.no, counts.abort)?;
-    Ok(())
 }

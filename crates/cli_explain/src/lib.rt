@@ -4,7 +4,7 @@
 pub mod captures;
 pub mod command;
 pub mod each;
-pub mod form;
+mod form;
 mod hints;
 mod json;
 pub mod line;
@@ -16,5 +16,4 @@ pub mod range;
 pub mod report;
 mod whole;
 
-pub use form::PacketForm;
 pub use program::FilterWithProgram;

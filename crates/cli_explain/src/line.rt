@@ -5,11 +5,11 @@ ghost use Rattle.cli_answers.specs.Answers.{answer, IsAnswer};
 ghost use Rattle.cli_explain.specs.Forms.{line_in, IsAnswerIn};
 ghost use Rattle.cli_explain.specs.Printed.{answer_line};
 
-use crate::form::{Asking, LineBuffer, PacketForm};
+use crate::form::{Asking, LineBuffer};
 use crate::json::put_object;
 use bpfvm::NoMemory;
-use cli_answers::AskedFilter;
 use cli_answers::line::{put_answer, put_packet};
+use cli_answers::{AskedFilter, PacketForm};
 use filter_meaning::Verdict;
 use savefile::PacketRef;
 

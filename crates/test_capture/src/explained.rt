@@ -1,9 +1,10 @@
 //! The caller that the page of `cli_explain` shows, crates/cli_explain/README.md.
 
 use crate::same::same;
+use cli_answers::PacketForm;
+use cli_answers::counts::VerdictCounts;
 use cli_answers::filter::of_expression;
-use cli_explain::PacketForm;
-use cli_explain::each::{VerdictCounts, explain_each};
+use cli_explain::each::explain_each;
 use filterlang::Fault;
 use std::alloc::Global;
 

@@ -2,10 +2,9 @@
 
 use crate::same::same;
 use bpfvm::Program;
-use cli_answers::AskedFilter;
+use cli_answers::{AskedFilter, PacketForm};
 use cli_compare::FilterPair;
 use cli_compare::captures::compare_captures;
-use cli_explain::PacketForm;
 use cli_explain::captures::explain_captures;
 use cli_explain::each::explain_each;
 use cli_filter::filter;

@@ -1,12 +1,12 @@
 //! `explain` into an output that takes all and sends nothing on.
 
 use crate::same::same;
-use cli_answers::AskedFilter;
 use cli_answers::filter::of_expression;
 use cli_answers::printing::Unprinted;
+use cli_answers::{AskedFilter, PacketForm};
+use cli_explain::FilterWithProgram;
 use cli_explain::each::explain_each;
 use cli_explain::one::explain_one;
-use cli_explain::{FilterWithProgram, PacketForm};
 use filtergen::Refusal;
 use std::process::Abort;
 use test_fixtures::captures::{ARP_RECORD, HEADER, concat};

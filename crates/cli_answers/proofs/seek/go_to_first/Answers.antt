@@ -1,8 +1,7 @@
 use Rattle.std.proofs.Common.{◌≡◌, Ok, ◌++◌, ◌∷◌, [], ◌∙◌, ap, false, refl, subst, sym, true}
 use Rattle.std.proofs.KnownBytes.{Consumes-nil, Consumes-trans}
 use Rattle.savefile.specs.declared.packet.Packet.{Packet}
-use Rattle.cli_answers.proofs.Reading.{all-more}
-use Rattle.cli_answers.proofs.Reading.{still-works}
+use Rattle.cli_answers.proofs.Reading.{all-more, still-works}
 use Rattle.cli_answers.proofs.seek.go_to_first.Goals as goal
 
 pub loop-reader-init : goal.loop-reader-init

@@ -1,6 +1,6 @@
 use Rattle.std.proofs.Common.{subst, sym}
 use Rattle.std.proofs.lemmas.Result.{err_from_is_err_and}
-use Rattle.cli_explain.specs.declared.form.PacketForm.TheVariants.{Text}
+use Rattle.cli_answers.specs.declared.form.PacketForm.TheVariants.{Text}
 use Rattle.cli_explain.specs.Explained.{IsLineBroken}
 use Rattle.cli_explain.proofs.Printing.{broken-line, prints-whole}
 use Rattle.cli_explain.proofs.one.print_whole.Goals as goal
