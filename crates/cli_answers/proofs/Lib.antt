@@ -2,4 +2,4 @@ pub mod Reading
 pub mod Seeking
 pub mod Rows
 pub mod Visits
-pub mod Counts
+pub mod Counting

@@ -7,7 +7,7 @@ use Rattle.cli_answers.specs.Counts.{AreCounts}
 use Rattle.cli_explain.specs.Explained.{packets_of}
 use Rattle.cli_answers.proofs.Reading.{still-works, works-on, gave-more, room-for-one}
 use Rattle.cli_explain.proofs.Printing.{broken-off, read-whole, read-part}
-use Rattle.cli_answers.proofs.Counts.{counted-packets, counted-yes, counted-no, counted-abort}
+use Rattle.cli_answers.proofs.Counting.{counted-packets, counted-yes, counted-no, counted-abort}
 use Rattle.cli_explain.proofs.Answered.{goes-on, breaks-off, packets-last}
 use Rattle.cli_explain.proofs.each.print_lines.Goals as goal
 
