@@ -14,6 +14,8 @@ pub(crate) enum Argument {
     Text(&'static str, char, &'static str, &'static str),
     /// An option whose value is a number.
     Number(&'static str, char, &'static str, &'static str),
+    /// An option of a name without a letter, whose value is a number.
+    LongNumber(&'static str, &'static str, &'static str),
     /// The path of a file.
     Path(&'static str, &'static str),
     /// The paths of one file or more.
@@ -54,6 +56,7 @@ impl Argument {
             Argument::Number(name, short, value, help) => Ok(number(
                 alloc, name, short, value, help,
             )),
+            Argument::LongNumber(name, value, help) => Ok(long_number(alloc, name, value, help)),
             Argument::Path(name, help) => Ok(path(alloc, name, help)),
             Argument::Paths(name, help) => Ok(paths(alloc, name, help)),
             Argument::Optional(name, help) => Ok(Arg::new(alloc, name).help(help)),
@@ -83,6 +86,15 @@ fn option<'a>(alloc: Global, name: &'a str, short: char, value: &'a str, help: &
 /// An option whose value is a number; one with a sign is a value too, and refused as one.
 fn number<'a>(alloc: Global, name: &'a str, short: char, value: &'a str, help: &'a str) -> Arg<'a> {
     option(alloc, name, short, value, help).allow_negative_numbers(true)
+}
+
+/// An option of a name without a letter, whose value is a number; one with a sign is a value too, and refused as one.
+fn long_number<'a>(alloc: Global, name: &'a str, value: &'a str, help: &'a str) -> Arg<'a> {
+    Arg::new(alloc, name)
+        .long(name)
+        .value_name(value)
+        .help(help)
+        .allow_negative_numbers(true)
 }
 
 /// An option without a value.

@@ -1,6 +1,7 @@
 //! The words of the command line, by `clap`.
 use crate::check::{CheckWords, bad_check_words, check_usage, check_words};
 use crate::compare::{CompareWords, bad_compare_words, compare_usage, compare_words};
+use crate::counting::{CountWords, asks_counts, count_words};
 use crate::cut::{CutWords, bad_cut_words, cut_usage, cut_words};
 use crate::explain::{ExplainWords, bad_explain_words, explain_usage, explain_words};
 use crate::info::{InfoWords, info_usage, info_words};
@@ -20,6 +21,8 @@ use std::convert::AsStr;
 pub enum Request<'a> {
     Check(CheckWords<'a>),
     Explain(ExplainWords<'a>),
+    /// `explain` with `-c`, `-l`, or a bound.
+    Count(CountWords<'a>),
     Compare(CompareWords<'a>),
     Cut(CutWords<'a>),
     Info(InfoWords<'a>),
@@ -31,7 +34,7 @@ pub enum Request<'a> {
 }
 
 /// What the program calls itself, and in which logic it was proved, as `rt version` names it. Kits share one.
-const VERSION: &str = "2.1.0, proved in the logic dac8208d650f15bf";
+const VERSION: &str = "2.2.0, proved in the logic dac8208d650f15bf";
 
 const ABOUT: &str =
     "Filters captures offline, and replays them to listeners that keep and drop packets";
@@ -139,7 +142,11 @@ fn explain_request_of<'a>(
     alloc: Global,
     words: &ArgMatches<'a>,
 ) -> Result<Option<Request<'a>>, AllocError> {
-    Ok(explain_words(alloc, words)?.map(Request::Explain))
+    if asks_counts(words) {
+        Ok(count_words(alloc, words)?.map(Request::Count))
+    } else {
+        Ok(explain_words(alloc, words)?.map(Request::Explain))
+    }
 }
 
 /// What the words of `compare` ask for; nothing if one is missing or invalid.
@@ -194,7 +201,7 @@ fn request_of<'a>(
 }
 
 /// The error of words that `clap` took and a subcommand refuses. For `check` it is the snapshot length, for `cut` that or OUT, for
-/// `explain` that or the place, for `compare` that or a missing IN. For the others a word is missing, which `clap` has reported.
+/// `explain` that, the place or a bound, for `compare` that or a missing IN. For the others a word is missing, which `clap` has reported.
 fn bad_words(
     alloc: Global,
     name: &str,

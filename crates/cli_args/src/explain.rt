@@ -1,6 +1,7 @@
 //! The words of `bpftap explain`, by `clap`.
 
 use crate::arguments::Argument;
+use crate::counting::objection_to_bounds;
 use crate::places::{PLACES_WANTED, PlaceRange, place_range};
 use crate::snap::{SNAP_WANTED, snap_of};
 use crate::subcommand::{bad_value, subcommand};
@@ -31,6 +32,8 @@ const EXPLAIN_EXAMPLES: &str = "Examples:
   bpftap explain -p 2 -e 'tcp dst port 80 or 443' examples/veth.pcap
   bpftap explain -p 2-4 -e 'tcp dst port 80 or 443' examples/veth.pcap
   tcpdump -y EN10MB -ddd 'udp port 53' | bpftap explain -f /dev/stdin examples/veth.pcap
+  bpftap explain -c -e 'tcp port 80 or 8080' examples/*.pcap
+  bpftap explain -q --exactly 120 -e 'tcp port 80 or 8080' examples/veth.pcap
 
 explain prints a line for each packet: its place, time and lengths; Yes, No or Abort; and the
 primitive or relation that decided, after not if one applies to it. Abort means that a test needed
@@ -43,12 +46,15 @@ IN; tcpdump and Wireshark count packets from 1. Several IN are read in order, up
 fault, and the counts are of all; -p explains the packet at PLACE of each. With -q the first packet
 that is accepted ends the reading, as with grep -q:
   if bpftap explain -q -e 'tcp port 8080' examples/veth.pcap; then echo seen; fi
+-c prints only the counts, after the path of each IN, and -l the paths of those IN that have an
+accepted packet. --exactly, --at-least and --at-most ask how many packets of all IN are accepted;
+then all IN are read.
 With --json each packet is an object on a line of its own, and so are the counts; -p has no JSON:
   bpftap explain --json -e 'tcp port 8080' examples/veth.pcap | jq -r '.answer // empty' | sort | uniq -c
 
-Exit status: 0 clean, with -q: a packet is accepted; 1 bad usage, invalid input, no packet at
-PLACE, or out of memory; 2 a torn or bad record, after the packets before it; 3 a file or device
-failed; 4 with -q: no packet is accepted.";
+Exit status: 0 clean, with -q and -l: a packet is accepted; 1 bad usage, invalid input, no packet
+at PLACE, or out of memory; 2 a torn or bad record, after the packets before it; 3 a file or device
+failed; 4 with -q and -l: no packet is accepted; with a bound: not that many are.";
 
 /// A filter is wanted: an expression, a listing, or both.
 fn filter_group<'a>(alloc: Global) -> Result<ArgGroup<'a>, AllocError> {
@@ -59,7 +65,7 @@ fn filter_group<'a>(alloc: Global) -> Result<ArgGroup<'a>, AllocError> {
         .arg("listing")
 }
 
-static ARGUMENTS: [Argument; 7] = [
+static ARGUMENTS: [Argument; 12] = [
     Argument::DefaultSnap,
     Argument::Text(
         "expr",
@@ -74,7 +80,32 @@ static ARGUMENTS: [Argument; 7] = [
         "PLACE",
         "Explain only this packet, counted from 0, in full; FIRST-LAST is several",
     ),
+    Argument::Flag(
+        "counted",
+        'c',
+        "Print only the counts: of each IN after its path, and of several their sum",
+    ),
+    Argument::Flag(
+        "listed",
+        'l',
+        "Print only the path of each IN that has an accepted packet, as grep -l does",
+    ),
     Argument::Quiet("Print nothing, and end with status 0 if a packet is accepted, else with 4"),
+    Argument::LongNumber(
+        "exactly",
+        "N",
+        "With -q or -c: end with status 0 if N packets of all IN are accepted, else with 4",
+    ),
+    Argument::LongNumber(
+        "at-least",
+        "N",
+        "With -q or -c: the same of N packets or more",
+    ),
+    Argument::LongNumber(
+        "at-most",
+        "N",
+        "With -q or -c: the same of N packets or fewer",
+    ),
     Argument::Json,
     Argument::Paths(
         "IN",
@@ -82,9 +113,13 @@ static ARGUMENTS: [Argument; 7] = [
     ),
 ];
 
-/// One packet in full, or nothing but a status: at most one of these.
+/// One packet in full, the counts, paths, or nothing but a status: at most one of these.
 fn shown_group<'a>(alloc: Global) -> Result<ArgGroup<'a>, AllocError> {
-    ArgGroup::new(alloc, "shown").arg("place")?.arg("quiet")
+    ArgGroup::new(alloc, "shown")
+        .arg("place")?
+        .arg("quiet")?
+        .arg("counted")?
+        .arg("listed")
 }
 
 /// One packet in full has no form in JSON.
@@ -144,15 +179,18 @@ pub fn explain_words<'a>(
     }))
 }
 
-/// What a snapshot length or a place has to be that was found to be none.
+/// What a place, a bound or a snapshot length has to be that is invalid.
 fn range_of_value(matches: &ArgMatches<'_>) -> &'static str {
     match places_of(matches) {
+        Some(_) if snap_of(matches).is_some() => {
+            objection_to_bounds(matches).unwrap_or(SNAP_WANTED)
+        }
         Some(_) => SNAP_WANTED,
         None => PLACES_WANTED,
     }
 }
 
-/// The error of a snapshot length or a place that has more than digits.
+/// The error of a snapshot length, a place or a bound that is invalid.
 pub fn bad_explain_words(alloc: Global, matches: &ArgMatches<'_>) -> Result<Error, AllocError> {
     bad_value(
         explain_usage(alloc),

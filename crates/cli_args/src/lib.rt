@@ -5,6 +5,7 @@ mod arguments;
 pub mod check;
 pub mod command_line;
 pub mod compare;
+pub mod counting;
 pub mod cut;
 pub mod explain;
 pub mod hints;

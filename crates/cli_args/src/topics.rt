@@ -43,11 +43,16 @@ VLAN tag. Names of hosts and services are not read either. tcpdump compiles all 
 answers. docs/LANGUAGE.md has the grammar and the meaning of each test.
 ";
 
-/// The page that the arguments ask for, the program's name first: by `help` and the page's name.
+/// The names of the page on expressions.
+static EXPRESSION_NAMES: [&str; 5] = ["expressions", "expression", "filters", "language", "syntax"];
+
+/// The page that the arguments ask for, the program's name first: by `help` and a name of the page.
 pub(crate) fn topic_of<S: AsStr>(words: &[S]) -> Option<&'static str> {
     match (words.get(1), words.get(2), words.get(3)) {
         (Some(help), Some(topic), None)
-            if help.as_str() == "help" && topic.as_str() == "expressions" => { Some(EXPRESSIONS) }
+            if help.as_str() == "help" && EXPRESSION_NAMES.contains(&topic.as_str()) => {
+            Some(EXPRESSIONS)
+        }
         _ => None,
     }
 }
