@@ -258,7 +258,7 @@ struct bpftap_reason {
 
 /* Says what an expression answers to a packet, and writes the answer and the primitive or relation that decides: `No tcp port 80`.
  * ABORT means that a byte past the captured ones was wanted, or that a divisor was 0; a filter rejects the packet then.
- * Faults: those of bpftap_print. */
+ * The expression may be one that is too long or too deep to compile. Faults: those of bpftap_print. */
 struct bpftap_reason bpftap_why(const char *text, size_t text_size, const uint8_t *packet, size_t captured, uint32_t wire, char *to,
                                 size_t room);
 
@@ -297,7 +297,7 @@ struct bpftap_comparison {
  * `budget` is how many nodes the diagrams of one header length may have, and a sixth of the steps that are taken in all: `bpftap compare`
  * takes 2,000,000. The more of it is needed, the more memory and time are taken. A relation is decided if one side is a constant, and the
  * other is `len` or the bytes of a layer at a constant index, under a constant mask or none.
- * Faults: those of bpftap_print, of expression `number`. */
+ * The expressions may be too long or too deep to compile. Faults: those of bpftap_print, of expression `number`. */
 struct bpftap_comparison bpftap_compare(const char *first, size_t first_size, const char *second, size_t second_size, size_t budget,
                                         uint8_t *to, size_t room);
 
