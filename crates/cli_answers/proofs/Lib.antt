@@ -1,0 +1,5 @@
+pub mod Reading
+pub mod Seeking
+pub mod Rows
+pub mod Visits
+pub mod Counting

@@ -1,0 +1,10 @@
+pub mod Filter
+pub mod Printed
+pub mod Verdicts
+pub mod Answers
+pub mod Counts
+pub mod Reading
+pub mod Seeking
+pub mod Captures
+pub mod Dumps
+pub mod Telling

@@ -1,0 +1,106 @@
+//! How many packets a filter answered so.
+
+ghost use Rattle.std.specs.Prelude.{◌≡◌, ◌<◌, ◌≤◌, ◌+◌, ◌^◌, OnOk, string_bytes};
+ghost use Rattle.cli_text.specs.Sending.{Takes};
+ghost use Rattle.cli_answers.specs.Counts.{counted, counts_in, counts_json, counts_text, plus};
+
+use crate::form::PacketForm;
+use crate::printing::{Unprinted, send_last};
+use bpfvm::NoMemory;
+use filter_meaning::Verdict;
+use std::io::Write;
+
+/// How many packets a filter was asked, and how many of these it answered Yes, No and Abort.
+#[derive(Clone, Copy, Debug, PartialEq, Eq)]
+pub struct VerdictCounts {
+    pub packets: u64,
+    pub yes: u64,
+    pub no: u64,
+    pub abort: u64,
+}
+
+impl VerdictCounts {
+    /// Of no packets.
+    pub const NONE: VerdictCounts = VerdictCounts {
+        packets: 0,
+        yes: 0,
+        no: 0,
+        abort: 0,
+    };
+
+    /// The counts of the packets of both, each up to 2^64 - 1.
+    pub fn plus(self, other: VerdictCounts) -> VerdictCounts
+        ensures { result ≡ plus self other }
+    {
+        VerdictCounts {
+            packets: self.packets.saturating_add(other.packets),
+            yes: self.yes.saturating_add(other.yes),
+            no: self.no.saturating_add(other.no),
+            abort: self.abort.saturating_add(other.abort),
+        }
+    }
+
+    /// Counts one packet more.
+    pub fn count(&mut self, verdict: Verdict)
+        requires room { self.now.packets + 1 < 2 ^ 64 }
+        requires yes { self.now.yes ≤ self.now.packets }
+        requires no { self.now.no ≤ self.now.packets }
+        requires abort { self.now.abort ≤ self.now.packets }
+        ensures { self.new ≡ counted verdict self.old }
+    {
+        self.packets += 1;
+        match verdict {
+            Verdict::Yes => self.yes += 1,
+            Verdict::No => self.no += 1,
+            Verdict::Abort => self.abort += 1,
+        }
+    }
+}
+
+/// Prints the counts, and all that the writer has gathered; the line that it is put together in may have any text.
+pub fn print_counts<O: Write>(
+    counts: VerdictCounts,
+    form: PacketForm,
+    line: &mut String,
+    out: &mut O,
+) -> Result<(), Unprinted>
+    ensures { Takes (O.contents out.old) (O.contents out.new) result (counts_in form counts.packets counts.yes counts.no counts.abort) }
+{
+    put_counts(line, form, counts)?;
+    send_last(line.as_bytes(), out)?;
+    Ok(())
+}
+
+/// Puts the line of the counts in place of what the line has.
+fn put_counts(line: &mut String, form: PacketForm, counts: VerdictCounts) -> Result<(), NoMemory>
+    ensures { OnOk result (string_bytes line.new ≡ counts_in form counts.packets counts.yes counts.no counts.abort) }
+{
+    match form {
+        PacketForm::Text => put_counts_text(line, counts),
+        PacketForm::Json(_) => put_counts_object(line, counts),
+    }
+}
+
+#[tactic(auto, unfolding(crate::specs::Counts::counts_text))]
+fn put_counts_text(line: &mut String, counts: VerdictCounts) -> Result<(), NoMemory>
+    ensures { OnOk result (string_bytes line.new ≡ counts_text counts.packets counts.yes counts.no counts.abort) }
+{
+    line.clear();
+    write!(line, "{} packets: {} Yes, ", counts.packets, counts.yes)?;
+    write!(line, "{} No, {} Abort\n", counts.no, counts.abort)?;
+    Ok(())
+}
+
+#[tactic(auto, unfolding(crate::specs::Counts::counts_json))]
+fn put_counts_object(line: &mut String, counts: VerdictCounts) -> Result<(), NoMemory>
+    ensures { OnOk result (string_bytes line.new ≡ counts_json counts.packets counts.yes counts.no counts.abort) }
+{
+    line.clear();
+    write!(
+        line,
+        "{{\"packets\":{},\"yes\":{}",
+        counts.packets, counts.yes
+    )?;
+    write!(line, ",\"no\":{},\"abort\":{}}}\n", counts.no, counts.abort)?;
+    Ok(())
+}

@@ -1,0 +1,18 @@
+//! What a filter answers to packets, and why: what the commands that ask filters share.
+#![tactic(auto)]
+
+pub mod captures;
+pub mod counts;
+pub mod dump;
+pub mod filter;
+pub mod form;
+pub mod hints;
+pub mod line;
+pub mod plan;
+pub mod printing;
+pub mod report;
+pub mod run_end;
+pub mod seek;
+
+pub use filter::AskedFilter;
+pub use form::PacketForm;
