@@ -29,7 +29,12 @@ complete -c bpftap -n '__fish_seen_subcommand_from explain; and not __fish_seen_
 complete -c bpftap -n '__fish_seen_subcommand_from explain; and not __fish_seen_subcommand_from help' -s e -x -d 'Filter expression'
 complete -c bpftap -n '__fish_seen_subcommand_from explain; and not __fish_seen_subcommand_from help' -s f -r -F -d 'Filter program'
 complete -c bpftap -n '__fish_seen_subcommand_from explain; and not __fish_seen_subcommand_from help' -s p -x -d 'Explain only this packet, in full'
+complete -c bpftap -n '__fish_seen_subcommand_from explain; and not __fish_seen_subcommand_from help' -s c -d 'Print only the counts'
+complete -c bpftap -n '__fish_seen_subcommand_from explain; and not __fish_seen_subcommand_from help' -s l -d 'Print only the paths of captures with an accepted packet'
 complete -c bpftap -n '__fish_seen_subcommand_from explain; and not __fish_seen_subcommand_from help' -s q -d 'Print nothing; the status says whether a packet is accepted'
+complete -c bpftap -n '__fish_seen_subcommand_from explain; and not __fish_seen_subcommand_from help' -l exactly -x -d 'Status 0 if N packets are accepted'
+complete -c bpftap -n '__fish_seen_subcommand_from explain; and not __fish_seen_subcommand_from help' -l at-least -x -d 'Status 0 if N packets or more are accepted'
+complete -c bpftap -n '__fish_seen_subcommand_from explain; and not __fish_seen_subcommand_from help' -l at-most -x -d 'Status 0 if N packets or fewer are accepted'
 complete -c bpftap -n '__fish_seen_subcommand_from explain; and not __fish_seen_subcommand_from help' -l json -d 'Print objects of JSON'
 complete -c bpftap -n '__fish_seen_subcommand_from explain; and not __fish_seen_subcommand_from help' -s h -l help -d 'Print help'
 

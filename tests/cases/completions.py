@@ -62,6 +62,8 @@ OFFERED = [
     (["split", ""], ["FILES"]),
     (["split", "lines.txt", "i"], ["FILES"]),
     (["explain", "-p", ""], []),
+    (["explain", "--at-least", ""], []),
+    (["explain", "--a"], ["--at-least", "--at-most"]),
     (["explain", "-f", ""], ["FILES"]),
     (["explain", "-e", "ip", ""], ["FILES"]),
     (["explain", "-e", "ip", "in.pcap", ""], ["FILES"]),

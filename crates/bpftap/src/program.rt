@@ -6,6 +6,7 @@ use cli_args::command_line::{Request, read_words};
 use cli_args::refusal::printed_error;
 use cli_args::report::{print_page, report_words_fault};
 use cli_compare::command::compare_command;
+use cli_count::command::count_command;
 use cli_cut::command::{check_command, cut_command};
 use cli_explain::command::explain_command;
 use cli_files::late::reserve_std_fd;
@@ -15,12 +16,14 @@ use cli_json::LineForm;
 use cli_report::commands::{
     hint_command, hint_dash_output, hint_failed_words, hint_missing, hint_option,
 };
+use cli_report::stream::give_hint;
 use cli_report::{ErrorStream, HintSink};
 use cli_run::command::{NamesFiles, run_command};
 use cli_split::command::split_command;
 use cli_steps::command::steps_command;
 use cli_text::Status;
 use cli_watch::Screen;
+use filter_hints::is_word;
 use std::alloc::Global;
 use std::convert::AsStr;
 use std::fs::Files;
@@ -62,6 +65,11 @@ fn dispatch<
         Ok(Request::Explain(asked)) => {
             err.set_form(LineForm::asked(asked.json));
             let status = explain_command(rt, &asked, out, err);
+            hint_several(rt.alloc(), words, asked.inputs.as_slice(), status, err)
+        }
+        Ok(Request::Count(asked)) => {
+            err.set_form(LineForm::asked(asked.json));
+            let status = count_command(rt, &asked, out, err);
             hint_several(rt.alloc(), words, asked.inputs.as_slice(), status, err)
         }
         Ok(Request::Compare(words)) => compare_command(rt, &words, out, err),
@@ -122,17 +130,60 @@ fn report_usage<S: AsStr, O: Write, E: HintSink>(
     match error.kind() {
         ErrorKind::UnknownArgument => {
             hint_option(words, err);
-            hint_unquoted(alloc, words, err)
+            if may_lack_quotes(words) {
+                hint_unquoted(alloc, words, err)
+            }
         }
         ErrorKind::TooManyValues => {
             hint_failed_words(words, err);
             hint_unquoted(alloc, words, err)
         }
-        ErrorKind::InvalidSubcommand => hint_command(words, err),
+        ErrorKind::InvalidSubcommand => hint_unknown_command(words, err),
         ErrorKind::MissingRequiredArgument => hint_missing_word(alloc, words, err),
         _ => {}
     }
     status
+}
+
+/// Hints on a command that there is not: on one of another name, and on an expression.
+fn hint_unknown_command<S: AsStr, E: HintSink>(words: &[S], err: &mut E) {
+    hint_command(words, err);
+    if let Some(name) = words.get(1) {
+        if is_word(name.as_str()) {
+            give_hint(
+                "an expression goes to a command: bpftap explain -e EXPR IN, or bpftap check EXPR",
+                err,
+            );
+        }
+    }
+}
+
+/// Whether a word is the name of a capture, or of standard input.
+fn names_capture<S: AsStr>(word: &S) -> bool {
+    let word = word.as_str();
+    word == "-" || word.ends_with(".pcap") || word.ends_with(".cap")
+}
+
+/// Whether a word is an option.
+fn is_option<S: AsStr>(word: &S) -> bool {
+    word.as_str().starts_with("-")
+}
+
+/// Whether an expression among these arguments may lack quotes: `compare` takes two that are a word each.
+fn may_lack_quotes<S: AsStr>(words: &[S]) -> bool {
+    let Some(command) = words.get(1) else {
+        return false;
+    };
+    let mut count: usize = 0;
+    for word in words.iter().skip(2) {
+        if names_capture(word) {
+            break;
+        }
+        if !is_option(word) {
+            count = count.saturating_add(1);
+        }
+    }
+    command.as_str() != "compare" || count > 2
 }
 
 /// Hints on arguments of which one is missing.

@@ -1,2 +1,5 @@
 pub mod Filter
 pub mod Counting
+pub mod Lines
+pub mod Captures
+pub mod Telling

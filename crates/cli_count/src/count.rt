@@ -4,10 +4,11 @@ ghost use Rattle.std.specs.Prelude.{◌≡◌, ◌≢◌, ◌↔◌, ℕ, List, 
 ghost use Rattle.std.specs.Io.KnownBytes.{Consumes};
 ghost use Rattle.savefile.specs.declared.header.Header.{Header};
 ghost use Rattle.savefile.specs.Reader.{HasGiven};
+ghost use Rattle.cli_answers.specs.Counts.{no_counts};
 ghost use Rattle.cli_count.specs.Counting.{Counts, CountsTo};
 
-use crate::counts::VerdictCounts;
 use crate::filter::CountedFilter;
+use cli_answers::counts::VerdictCounts;
 use filter_meaning::Verdict;
 use savefile::{Fault, Reader, Source};
 use std::alloc::Global;
@@ -64,7 +65,7 @@ fn count_all<R: Source>(
     filter: &CountedFilter,
     counts: &mut VerdictCounts,
 ) -> Result<(), Fault>
-    requires { counts.now ≡ record { packets = 0; yes = 0; no = 0; abort = 0 } }
+    requires { counts.now ≡ no_counts }
     ensures counts { (from : Option (List ℕ)) (header : Header) → HasGiven R.left from header [] reader.old →
         CountsTo from (R.left reader.new.source) header filter.now counts.new result }
     ensures taken { (bytes : List ℕ) × Consumes (R.left reader.old.source) (R.left reader.new.source) bytes }

@@ -1,13 +1,16 @@
 //! A filter whose answers are counted.
 
-ghost use Rattle.std.specs.Prelude.{◌≡◌, IfOk, IfErr};
-ghost use Rattle.filter_tree.specs.Trees.{tree_of};
-ghost use Rattle.cli_count.specs.Filter.{accepts, ended_as, Answers, AnswersAs, AnswersByTwo};
+ghost use Rattle.std.specs.Prelude.{◌≡◌, IfOk};
+ghost use Rattle.cli_answers.specs.declared.filter.AskedFilter.TheVariants.{Expression};
+ghost use Rattle.cli_count.specs.Filter.{program_accepts, Answers, IsVerdictByTwo, StandsFor, passes};
 
-use bpfvm::{How, Program, run, run_to_end};
+use bpfvm::{Program, run};
+use cli_answers::AskedFilter;
+use cli_answers::run_end::{end_of_run, ended_as};
+use cli_answers::seek::PacketTest;
 use filter_meaning::{Verdict, evaluate};
 use filter_tree::Expr;
-use filtergen_code::compile;
+use filtergen::compile;
 use savefile::PacketRef;
 use std::alloc::{AllocError, Global};
 
@@ -19,15 +22,13 @@ const SNAP: u32 = 1;
 pub enum CountedFilter {
     /// The two programs of an expression: the first accepts what the expression answers Yes to, the second what it answers No to.
     Programs(Program, Program),
-    /// An expression without a program.
-    Expression(Expr),
-    /// The program of a listing.
-    Listing(Program),
+    /// A filter that is asked itself: a program, or an expression without one.
+    Asked(AskedFilter),
 }
 
 /// Whether a program accepts a packet.
-fn accepts(program: &Program, packet: &PacketRef<'_>) -> bool
-    ensures { result ≡ accepts program.now packet.now }
+fn program_accepts(program: &Program, packet: &PacketRef<'_>) -> bool
+    ensures { result ≡ program_accepts program.now packet.now }
 {
     run(program, packet.bytes, packet.len) > 0
 }
@@ -40,43 +41,47 @@ fn judge_by_two(
     packet: &PacketRef<'_>,
     likely: Verdict,
 ) -> Verdict
-    ensures { AnswersByTwo accepting.now rejecting.now packet.now result }
+    ensures { IsVerdictByTwo accepting.now rejecting.now packet.now result }
 {
-    if likely == Verdict::Yes && accepts(accepting, packet) {
+    if likely == Verdict::Yes && program_accepts(accepting, packet) {
         Verdict::Yes
-    } else if accepts(rejecting, packet) {
+    } else if program_accepts(rejecting, packet) {
         Verdict::No
-    } else if accepts(accepting, packet) {
+    } else if program_accepts(accepting, packet) {
         Verdict::Yes
     } else {
         Verdict::Abort
     }
 }
 
-/// What a run that ends so counts as: a run that no return ends is an Abort.
-fn ended_as(how: How) -> Verdict
-    ensures { result ≡ ended_as how }
+/// The filter of an expression. If the expression and its negation have programs, these answer in its place: only so No and Abort are told
+/// apart.
+fn of_expression(alloc: Global, expr: Expr) -> Result<CountedFilter, AllocError>
+    ensures { IfOk result (StandsFor (Expression expr)) }
 {
-    match how {
-        How::Returned(0) => Verdict::No,
-        How::Returned(_) => Verdict::Yes,
-        How::NotCaptured | How::ZeroDivisor => Verdict::Abort,
+    let Ok(accepting) = compile(&expr, SNAP) else {
+        return Ok(CountedFilter::Asked(AskedFilter::Expression(expr)));
+    };
+    let negation = Expr::Not(Box::new(alloc, expr)?);
+    match compile(&negation, SNAP) {
+        Ok(rejecting) => Ok(CountedFilter::Programs(accepting, rejecting)),
+        // The negation of a negation answers as the expression.
+        Err(_) => Ok(CountedFilter::Asked(AskedFilter::Expression(Expr::Not(Box::new(
+            alloc, negation,
+        )?)))),
     }
 }
 
 impl CountedFilter {
-    /// The filter of an expression. If the expression and its negation have programs, these answer in its place.
-    pub fn of_expression(alloc: Global, expr: Expr) -> Result<CountedFilter, AllocError>
-        ensures { IfOk result (AnswersAs (tree_of expr)) }
+    /// The filter that answers every packet as this one does. It is faster for an expression that has a program.
+    pub fn of(alloc: Global, filter: AskedFilter) -> Result<CountedFilter, AllocError>
+        ensures { IfOk result (StandsFor filter) }
     {
-        let Ok(accepting) = compile(&expr, SNAP) else {
-            return Ok(CountedFilter::Expression(expr));
-        };
-        let negation = Expr::Not(Box::new(alloc, expr)?);
-        match compile(&negation, SNAP) {
-            Ok(rejecting) => Ok(CountedFilter::Programs(accepting, rejecting)),
-            // The negation of a negation answers as the expression.
-            Err(_) => Ok(CountedFilter::Expression(Expr::Not(Box::new(alloc, negation)?))),
+        match filter {
+            AskedFilter::Expression(expr) => of_expression(alloc, expr),
+            AskedFilter::Program(program) => {
+                Ok(CountedFilter::Asked(AskedFilter::Program(program)))
+            }
         }
     }
 
@@ -89,10 +94,25 @@ impl CountedFilter {
             CountedFilter::Programs(accepting, rejecting) => {
                 judge_by_two(accepting, rejecting, packet, likely)
             }
-            CountedFilter::Expression(expr) => evaluate(expr, packet.bytes, packet.len),
-            CountedFilter::Listing(program) => {
-                ended_as(run_to_end(program, packet.bytes, packet.len).how)
+            CountedFilter::Asked(AskedFilter::Expression(expr)) => {
+                evaluate(expr, packet.bytes, packet.len)
             }
+            CountedFilter::Asked(AskedFilter::Program(program)) => {
+                let end = end_of_run(program, packet);
+                ended_as(&end.insn, end.number)
+            }
+        }
+    }
+}
+
+/// A packet passes if the filter accepts it.
+impl PacketTest for CountedFilter {
+    ghost passed = { λ filter p. passes filter p };
+
+    fn passes(&self, packet: &PacketRef<'_>) -> bool {
+        match self {
+            CountedFilter::Programs(accepting, _) => program_accepts(accepting, packet),
+            CountedFilter::Asked(filter) => filter.passes(packet),
         }
     }
 }

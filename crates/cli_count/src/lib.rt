@@ -1,8 +1,14 @@
-//! `bpftap explain -c` and `-l`: how many packets of captures a filter accepts.
+//! `bpftap explain` with `-c`, `-l`, or a bound: how many packets of captures a filter accepts.
 #![tactic(auto)]
 
+pub mod captures;
+pub mod command;
 pub mod count;
-pub mod counts;
 pub mod filter;
+mod line;
+pub mod list;
+mod paths;
+mod plan;
+pub mod report;
 
 pub use filter::CountedFilter;

@@ -3,19 +3,21 @@ use Rattle.std.specs.List.{AllByRecursion}
 use Rattle.std.specs.Io.KnownBytes.{Consumes}
 use Rattle.savefile.specs.declared.header.Header.{Header}
 use Rattle.savefile.specs.Reader.{HasGiven}
-use Rattle.cli_count.specs.Counting.{Judged, IsJudged, AreCounts, packets_of}
+use Rattle.cli_answers.specs.Answers.{Answer}
+use Rattle.cli_answers.specs.Counts.{AreCounts}
+use Rattle.cli_count.specs.Counting.{IsAnswered, packets_of}
 use Rattle.cli_count.proofs.count.count_all.Given as goal
 
--- the packets that were read so far were judged and counted, and the source did not fail
+-- the packets that were read so far were answered and counted, and the source did not fail
 abbrev pub invariant-loop-reader : goal.invariant-loop-reader
 invariant-loop-reader g l =
     record {
       counts : (from : Option (List ℕ)) (header : Header) → HasGiven g.R.Source.left from header [] l.fn.reader →
-          (js : List Judged) × HasGiven g.R.Source.left from header (packets_of js) l.reader × AllByRecursion (IsJudged l.filter) js × AreCounts l.counts js;
+          (answers : List Answer) × HasGiven g.R.Source.left from header (packets_of answers) l.reader × AllByRecursion (IsAnswered l.filter) answers × AreCounts l.counts answers;
       packets : l.counts.packets ≤ l.reader.given;
-      accepted : l.counts.yes ≤ l.counts.packets;
-      rejected : l.counts.no ≤ l.counts.packets;
-      aborted : l.counts.abort ≤ l.counts.packets;
+      yes : l.counts.yes ≤ l.counts.packets;
+      no : l.counts.no ≤ l.counts.packets;
+      abort : l.counts.abort ≤ l.counts.packets;
       taken : (bytes : List ℕ) × Consumes (g.R.Source.left l.fn.reader.source) (g.R.Source.left l.reader.source) bytes;
       source_works : g.R.Source.failures l.reader.source ≡ g.R.Source.failures l.fn.reader.source;
     }

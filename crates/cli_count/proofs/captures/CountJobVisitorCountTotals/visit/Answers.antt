@@ -1,0 +1,18 @@
+use Rattle.std.proofs.Common.{ap}
+use Rattle.cli_walk.specs.Walking.{visited}
+use Rattle.cli_answers.proofs.Visits.{broke-so}
+use Rattle.cli_count.proofs.captures.CountJobVisitorCountTotals.visit.Goals as goal
+
+pub returns-clause-visits : goal.returns-clause-visits
+returns-clause-visits g c =
+    let e = c.count_packets-source.result in (
+      e,
+      c.count_packets-source.ensures.counts,
+      ap (visited e.source) c.goes_on-goes_on.ensures,
+      c.show-printed.ensures,
+      refl,
+      c.plus.ensures,
+    )
+
+pub returns-clause-source_broke : goal.returns-clause-source_broke
+returns-clause-source_broke g c = broke-so c.count_packets-source.result.read c.show-printed.result c.goes_on-goes_on.result _ c.goes_on-goes_on.ensures c.count_packets-source.ensures.source_broke

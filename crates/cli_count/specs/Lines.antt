@@ -1,0 +1,32 @@
+-- The lines that are printed of captures whose packets are counted.
+use Rattle.std.specs.Prelude.{ℕ, List, ◌++◌, codes}
+use Rattle.std.specs.Fmt.{decimal}
+use Rattle.cli_json.specs.Strings.{json_string}
+use Rattle.cli_json.specs.declared.form.LineForm.{LineForm}
+use Rattle.cli_json.specs.declared.form.LineForm.TheVariants.{Text, Json}
+use Rattle.cli_text.specs.Telling.{end_of_line}
+use Rattle.cli_answers.specs.declared.counts.VerdictCounts.{VerdictCounts}
+use Rattle.cli_answers.specs.Counts.{counts_text}
+
+-- `PATH N packets: Y Yes, N No, A Abort`
+unfoldable pub count_text : List ℕ → VerdictCounts → List ℕ
+count_text path c = path ++ codes " " ++ counts_text c.packets c.yes c.no c.abort
+
+-- `{"file":"PATH","packets":N,"yes":Y,"no":N,"abort":A}`
+unfoldable pub count_json : List ℕ → VerdictCounts → List ℕ
+count_json path c = codes "{\"file\":" ++ json_string path ++ codes ",\"packets\":" ++ decimal c.packets ++ codes ",\"yes\":" ++ decimal c.yes
+    ++ codes ",\"no\":" ++ decimal c.no ++ codes ",\"abort\":" ++ decimal c.abort ++ codes "}" ++ end_of_line
+
+-- the line of the counts of the capture at a path
+abbrev pub count_line : LineForm → List ℕ → VerdictCounts → List ℕ
+count_line Text path c = count_text path c
+count_line Json path c = count_json path c
+
+-- `{"file":"PATH"}`
+unfoldable pub path_json : List ℕ → List ℕ
+path_json path = codes "{\"file\":" ++ json_string path ++ codes "}" ++ end_of_line
+
+-- the line of a path
+abbrev pub path_line : LineForm → List ℕ → List ℕ
+path_line Text path = path ++ end_of_line
+path_line Json path = path_json path

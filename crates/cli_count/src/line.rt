@@ -1,0 +1,111 @@
+//! The lines of captures whose packets are counted.
+
+ghost use Rattle.std.specs.Prelude.{◌≡◌, ◌++◌, IfOk, OnOk, Some, string_bytes};
+ghost use Rattle.cli_text.specs.Sending.{Takes};
+ghost use Rattle.cli_count.specs.Lines.{count_json, count_line, count_text, path_json, path_line};
+
+use cli_answers::counts::VerdictCounts;
+use cli_answers::printing::Unprinted;
+use cli_json::{LineForm, put_string};
+use cli_text::sending::send;
+use std::alloc::{AllocError, Global};
+use std::io::Write;
+
+/// Appends the counts of the capture at a path, in words.
+#[tactic(auto, unfolding(crate::specs::Lines::count_text))]
+fn put_count_text(line: &mut String, path: &str, counts: VerdictCounts) -> Result<(), AllocError>
+    ensures { OnOk result (string_bytes line.new ≡ string_bytes line.old ++ count_text path.now counts) }
+{
+    line.push_str(path)?;
+    write!(line, " {} packets: {} Yes, ", counts.packets, counts.yes)?;
+    write!(line, "{} No, {} Abort\n", counts.no, counts.abort)
+}
+
+/// Appends the counts of the capture at a path, as an object.
+#[tactic(auto, unfolding(crate::specs::Lines::count_json))]
+fn put_count_object(line: &mut String, path: &str, counts: VerdictCounts) -> Result<(), AllocError>
+    ensures { OnOk result (string_bytes line.new ≡ string_bytes line.old ++ count_json path.now counts) }
+{
+    line.push_str("{\"file\":")?;
+    put_string(line, path)?;
+    write!(
+        line,
+        ",\"packets\":{},\"yes\":{}",
+        counts.packets, counts.yes
+    )?;
+    write!(line, ",\"no\":{},\"abort\":{}}}\n", counts.no, counts.abort)
+}
+
+/// The line of the counts of the capture at a path.
+fn count_line(
+    alloc: Global,
+    path: &str,
+    counts: VerdictCounts,
+    form: LineForm,
+) -> Result<String, AllocError>
+    ensures { IfOk result (λ line. string_bytes line ≡ count_line form path.now counts) }
+{
+    let mut line = String::new(alloc);
+    match form {
+        LineForm::Text => put_count_text(&mut line, path, counts)?,
+        LineForm::Json => put_count_object(&mut line, path, counts)?,
+    }
+    Ok(line)
+}
+
+/// Appends a path as an object.
+#[tactic(auto, unfolding(crate::specs::Lines::path_json))]
+fn put_path_object(line: &mut String, path: &str) -> Result<(), AllocError>
+    ensures { OnOk result (string_bytes line.new ≡ string_bytes line.old ++ path_json path.now) }
+{
+    line.push_str("{\"file\":")?;
+    put_string(line, path)?;
+    line.push_str("}\n")
+}
+
+/// The line of a path.
+fn path_line(alloc: Global, path: &str, form: LineForm) -> Result<String, AllocError>
+    ensures { IfOk result (λ line. string_bytes line ≡ path_line form path.now) }
+{
+    let mut line = String::new(alloc);
+    match form {
+        LineForm::Text => {
+            line.push_str(path)?;
+            line.push_str("\n")?;
+        }
+        LineForm::Json => put_path_object(&mut line, path)?,
+    }
+    Ok(line)
+}
+
+/// Prints the counts of the capture at a path: `a.pcap 253 packets: 67 Yes, 186 No, 0 Abort`, or in JSON
+/// `{"file":"a.pcap","packets":253,"yes":67,"no":186,"abort":0}`, on one line.
+pub(crate) fn print_count<O: Write>(
+    alloc: Global,
+    path: &str,
+    counts: VerdictCounts,
+    form: LineForm,
+    out: &mut O,
+) -> Result<(), Unprinted>
+    ensures { Takes (O.contents out.old) (O.contents out.new) result (count_line form path.now counts) }
+{
+    match count_line(alloc, path, counts, form) {
+        Ok(line) => Ok(send(line.as_bytes(), out)?),
+        Err(AllocError) => Err(Unprinted::NoMemory),
+    }
+}
+
+/// Prints a path: `a.pcap`, or in JSON `{"file":"a.pcap"}`, on one line.
+pub(crate) fn print_path<O: Write>(
+    alloc: Global,
+    path: &str,
+    form: LineForm,
+    out: &mut O,
+) -> Result<(), Unprinted>
+    ensures { Takes (O.contents out.old) (O.contents out.new) result (path_line form path.now) }
+{
+    match path_line(alloc, path, form) {
+        Ok(line) => Ok(send(line.as_bytes(), out)?),
+        Err(AllocError) => Err(Unprinted::NoMemory),
+    }
+}

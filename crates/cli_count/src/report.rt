@@ -1,0 +1,65 @@
+//! What counting came to, as it is reported, and its exit status.
+
+ghost use Rattle.std.specs.Prelude.{◌≡◌};
+ghost use Rattle.cli_text.specs.Status.{greater};
+ghost use Rattle.cli_answers.specs.Telling.{printed_status, stop_status};
+ghost use Rattle.cli_count.specs.Telling.{bounds_status, listed_status};
+
+use cli_answers::printing::Unprinted;
+use cli_answers::report::report_captures;
+use cli_args::counting::CountBounds;
+use cli_text::Status;
+use cli_walk::Stop;
+use fault_report::FaultSink;
+
+/// The exit status of captures of which N packets are accepted; without bounds it is [`Status::Clean`].
+fn bounds_status(bounds: Option<CountBounds>, accepted: u64) -> Status
+    ensures { result ≡ bounds_status bounds accepted }
+{
+    match bounds {
+        Some(bounds) if !bounds.contains(accepted) => Status::Negative,
+        _ => Status::Clean,
+    }
+}
+
+/// The exit status of captures of which one has an accepted packet, or none has.
+fn listed_status(found: bool) -> Status
+    ensures { result ≡ listed_status found }
+{
+    if found {
+        Status::Clean
+    } else {
+        Status::Negative
+    }
+}
+
+/// Reports what was not printed and then the capture that ended the reading, if there are these, and returns the greatest exit status that
+/// applies: [`Status::Negative`] if the number of accepted packets is not within the bounds.
+pub fn report_counts<E: FaultSink>(
+    printed: &Result<(), Unprinted>,
+    read: Result<(), Stop>,
+    accepted: u64,
+    bounds: Option<CountBounds>,
+    paths: &[&str],
+    err: &mut E,
+) -> Status
+    ensures { result ≡ greater (greater (printed_status printed.now) (stop_status read)) (bounds_status bounds accepted) }
+{
+    let status = report_captures(printed, read, paths, err);
+    status.max(bounds_status(bounds, accepted))
+}
+
+/// Reports what was not printed and then the capture that ended the reading, if there are these, and returns the greatest exit status that
+/// applies: [`Status::Negative`] if no capture has an accepted packet.
+pub fn report_listed<E: FaultSink>(
+    printed: &Result<(), Unprinted>,
+    read: Result<(), Stop>,
+    found: bool,
+    paths: &[&str],
+    err: &mut E,
+) -> Status
+    ensures { result ≡ greater (greater (printed_status printed.now) (stop_status read)) (listed_status found) }
+{
+    let status = report_captures(printed, read, paths, err);
+    status.max(listed_status(found))
+}
