@@ -3,7 +3,7 @@ use Rattle.filter_words.specs.Words.{number, word_bit, value, HasValue}
 use Rattle.filter_words.proofs.Nodes.{grew_more, is_bit_grown, word_grown, value-as}
 use Rattle.filter_words.proofs.Shifts.{product-start}
 use Rattle.filter_words.proofs.Values.{product-value, product-calculates}
-use Rattle.filter_words.proofs.word.Words.multiply.Goals as goal
+use Rattle.filter_words.proofs.word.Words.multiply_each.Goals as goal
 
 pub loop-i-init : goal.loop-i-init
 loop-i-init c =

@@ -1,7 +1,7 @@
 use Rattle.std.proofs.Common.{◌*◌, ◌%◌, ◌^◌}
 use Rattle.filter_bdd.specs.Diagrams.{Grew}
 use Rattle.filter_words.specs.Words.{number, word_bit, value, HasValue}
-use Rattle.filter_words.proofs.word.Words.multiply.Given as goal
+use Rattle.filter_words.proofs.word.Words.multiply_each.Given as goal
 
 abbrev pub invariant-loop-i : goal.invariant-loop-i
 invariant-loop-i l = record {
