@@ -19,6 +19,7 @@ use Rattle.cli_answers.specs.declared.form.PacketForm.{PacketForm}
 use Rattle.cli_answers.specs.Answers.{Answer, answer}
 use Rattle.cli_explain.specs.Forms.{IsAnswerIn, line_in}
 use Rattle.cli_answers.proofs.Counting.{counts-by}
+use Rattle.cli_answers.proofs.Reading.{all-more}
 use Rattle.cli_answers.specs.Verdicts.{is_yes, is_no, is_abort}
 use Rattle.cli_answers.specs.Counts.{count_of, counted, AreCounts}
 use Rattle.cli_explain.specs.Explained.{answer_lines, packets_of, PrintsLine, IsLineBroken}
