@@ -105,7 +105,7 @@ enum bpftap_fault {
     BPFTAP_NO_LISTENER = 91     /* step `place`, from 0, names a listener that does not exist */
 };
 
-#define BPFTAP_VERSION_NUMBER 20100 /* major * 10,000 + minor * 100 + patch */
+#define BPFTAP_VERSION_NUMBER 20200 /* major * 10,000 + minor * 100 + patch */
 
 #define BPFTAP_MAX_INSNS 512        /* instructions of a program */
 #define BPFTAP_MAX_SNAP 262144      /* captured bytes of a packet */
@@ -258,7 +258,7 @@ struct bpftap_reason {
 
 /* Says what an expression answers to a packet, and writes the answer and the primitive or relation that decides: `No tcp port 80`.
  * ABORT means that a byte past the captured ones was wanted, or that a divisor was 0; a filter rejects the packet then.
- * Faults: those of bpftap_print. */
+ * The expression may be one that is too long or too deep to compile. Faults: those of bpftap_print. */
 struct bpftap_reason bpftap_why(const char *text, size_t text_size, const uint8_t *packet, size_t captured, uint32_t wire, char *to,
                                 size_t room);
 
@@ -297,7 +297,7 @@ struct bpftap_comparison {
  * `budget` is how many nodes the diagrams of one header length may have, and a sixth of the steps that are taken in all: `bpftap compare`
  * takes 2,000,000. The more of it is needed, the more memory and time are taken. A relation is decided if one side is a constant, and the
  * other is `len` or the bytes of a layer at a constant index, under a constant mask or none.
- * Faults: those of bpftap_print, of expression `number`. */
+ * The expressions may be too long or too deep to compile. Faults: those of bpftap_print, of expression `number`. */
 struct bpftap_comparison bpftap_compare(const char *first, size_t first_size, const char *second, size_t second_size, size_t budget,
                                         uint8_t *to, size_t room);
 
@@ -523,12 +523,13 @@ struct bpftap_result bpftap_fault_text(uint32_t fault, size_t place, char *to, s
 
 /* Writes what helps to fix an expression that is refused: the sentence that the program prints below the line of such a fault. `fault` and
  * `place` are those that bpftap_compile, or another call that reads expressions, returned for this text. If libpcap's compiler may make a
- * program where this one makes none, a second line says how, after byte 10. If there is nothing to say, as of BPFTAP_BAD_SNAP and of a number
- * that is no fault of an expression, `size` is 0. The words of the text that a sentence has are printable. 1,024 bytes are always room enough.
+ * program where this one makes none, a second line says how, after byte 10. There is nothing to say, and `size` is 0, exactly of BPFTAP_BAD_SNAP and
+ * of a number that is no fault of an expression. In place of a control character of the text a sentence has a blank or `?`; other characters stay
+ * as they are, those that turn the direction of a line too, as U+202E. 1,024 bytes are always room enough.
  * Faults: NOT_TEXT, NO_ROOM, NO_MEMORY. */
 struct bpftap_result bpftap_hint(const char *text, size_t text_size, uint32_t fault, size_t place, char *to, size_t room);
 
-/* Writes the version of the library, as `2.1.0 x86-64-v2`: after a blank the processor that it is made for. 64 bytes are always room enough.
+/* Writes the version of the library, as `2.2.0 x86-64-v2`: after a blank the processor that it is made for. 64 bytes are always room enough.
  * Faults: NO_ROOM. */
 struct bpftap_result bpftap_version(char *to, size_t room);
 

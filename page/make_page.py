@@ -10,6 +10,7 @@ hands to clang for x86-64 is kept (`keeper`), compiled for 64-bit memory by the 
 import base64
 import gzip
 import hashlib
+import json
 import pathlib
 import re
 import shlex
@@ -20,7 +21,9 @@ HERE = pathlib.Path(__file__).resolve().parent
 sys.path.insert(0, str(HERE / "module"))
 import lower
 
-EXAMPLE = HERE.parent / "examples" / "veth.pcap"
+EXAMPLES = {"example": HERE.parent / "examples" / "veth.pcap", "options": HERE.parent / "examples" / "lessons" / "options.pcap"}
+# Where the program has its hints on captures and on lines of files: the page prints the same texts.
+CAPTURE_HINTS, LINE_HINTS = (HERE.parent / "crates" / "cli_report" / "src" / name for name in ("captures.rt", "files.rt"))
 # No scripts but the page's own, no styles but its own, no request, no form; a worker only of the page's own text.
 POLICY = ("default-src 'none'; script-src 'sha256-{script}' 'wasm-unsafe-eval'; style-src 'sha256-{style}'; worker-src blob:; "
           "base-uri 'none'; form-action 'none'")
@@ -147,6 +150,27 @@ def script():
     return f'// SPDX-License-Identifier: MIT OR Apache-2.0\n"use strict";\n(() => {{\n{joined}}})();\n'
 
 
+def bytes_of(literal):
+    """The bytes of a literal of Rust: `&[0x1f, b'7']` or `b"text"`."""
+    if text := re.fullmatch(r'b"(.*)"', literal):
+        return [*text[1].encode().decode("unicode_escape").encode("latin-1")]
+    return [int(number, 0) if number else ord(character) for number, character in re.findall(r"(0x\w+)|b'(.)'", literal)]
+
+
+def hints():
+    """What the program prints below faults that the library has no hints on: what files of other formats begin with, and what to do with them; the
+    forms of lines. A page has no standard input."""
+    captures, lines = CAPTURE_HINTS.read_text(), LINE_HINTS.read_text()
+    named = dict(re.findall(r'const (\w+): &str =\s+"((?:[^"\\]|\\.)*)";', captures + lines))
+    table = re.search(r"static OTHER_FORMATS: .*?= \[(.*?)\n\];", captures, re.S)
+    rows = re.findall(r'\(\s*(&\[.*?\]|b".*?"),\s*(?:"(.*?)"|(\w+)),?\s*\)', table[1] if table else "", re.S)
+    other, link = (re.search(form, captures) for form in (r'"(not a classic .*?)\{\}"', r'"link type \{number\}\{\}(; .*?)"'))
+    if not (rows and len(rows) == table[1].count("(") and other and link and {"LISTENERS_OF_STEPS", "SCRIPT"} <= set(named)):
+        raise Refused(f"the hints of {CAPTURE_HINTS.parent} have another form, which this does not know")
+    formats = [[bytes_of(begins), (text or named[name]).removesuffix(", and read it from /dev/stdin")] for begins, text, name in rows]
+    return {"formats": formats, "other": other[1], "link": link[1], "listeners": named["LISTENERS_OF_STEPS"], "script": named["SCRIPT"]}
+
+
 def packed(content):
     return base64.b64encode(gzip.compress(content, 9, mtime=0)).decode()
 
@@ -157,11 +181,13 @@ def digest(text):
 
 def page_of(module, scripts=None):
     """The page of a module, with its own scripts if no others are named."""
-    parts = {"script": scripts or script(), "style": (HERE / "style.css").read_text(), "module": packed(module), "example": packed(EXAMPLE.read_bytes())}
+    parts = {"script": scripts or script(), "style": (HERE / "style.css").read_text(), "module": packed(module)}
+    parts["hints"] = json.dumps(hints(), separators=(",", ":")).replace("<", "\\u003c")
+    parts.update({name: packed(path.read_bytes()) for name, path in EXAMPLES.items()})
     parts["policy"] = POLICY.format(script=digest(parts["script"]), style=digest(parts["style"]))
     if "</script" in parts["script"] or "</style" in parts["style"]:
         raise Refused("a script or the style ends the element that it is in")
-    return re.sub(r"@(policy|style|module|example|script)@", lambda found: parts[found[1]], (HERE / "page.html").read_text())
+    return re.sub(r"@(policy|style|module|hints|example|options|script)@", lambda found: parts[found[1]], (HERE / "page.html").read_text())
 
 
 def make(bitcode, kit, work, out):

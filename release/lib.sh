@@ -4,12 +4,15 @@
 # release/files lists what is released: the mode, the path here, and the path below a prefix. What ./build makes is in a folder `out`.
 # release/SHA256SUMS has the checksums of the archives and of the page. Its comments have the key of the sources, the toolchain that built them, and
 # the checksum of each file of an archive.
-main=bpftap-x86_64-linux.tar.gz sums=release/SHA256SUMS page=bpftap.html
+main=bpftap-x86_64-linux.tar.xz sums=release/SHA256SUMS page=bpftap.html
 # A program is unpacked and noted in `out`, or here if that is read-only. A relative path would be another folder at each call; a home that does not
 # exist is not made.
 case ${HOME-} in /*) cache=$HOME/.cache/bpftap home=$HOME ;; *) cache= home=/ ;; esac
 case ${XDG_CACHE_HOME-} in /*) cache=$XDG_CACHE_HOME/bpftap home=${XDG_CACHE_HOME%/*}/ ;; esac
 [ -d "$home" ] || cache=
+# What of glibc starts a program. A clone may be shared with a machine that has an older one, or none.
+loader=/lib64/ld-linux-x86-64.so.2
+[ -e "$loader" ] || loader=
 
 # One line, and a status that is none of the program's own.
 refuse() { printf 'bpftap: %s\n' "$*" >&2; exit 125; }
@@ -22,8 +25,8 @@ listed() { said "in $1:"; }
 # The archives with a program for this machine, the one to be tried first before the other: a static one needs no C library.
 archives() {
   case $(uname -sm) in
-    'Linux x86_64') set -- "$main" bpftap-x86_64-linux-static.tar.gz ;;
-    'Linux aarch64') set -- bpftap-aarch64-linux.tar.gz ;;
+    'Linux x86_64') set -- "$main" bpftap-x86_64-linux-static.tar.xz ;;
+    'Linux aarch64') set -- bpftap-aarch64-linux.tar.xz ;;
     *) set -- ;;
   esac
   for archive; do [ ! -f "$root/release/$archive" ] || echo "$archive"; done
@@ -63,7 +66,7 @@ sources_key() (
 )
 
 # Whether something is released, of the sources with this key.
-is_release_of() { [ "$1" = "$(said sources)" ] && set -- "$root"/release/*.tar.gz && [ -f "$1" ]; }
+is_release_of() { [ "$1" = "$(said sources)" ] && set -- "$root"/release/*.tar.xz && [ -f "$1" ]; }
 
 # Shows that no file of the sources and of the release was changed since this was noted, and first of a program if one is named.
 state() { texts looks "$@" crates.txt release $(others); }
@@ -133,7 +136,7 @@ find_noted() {
     case /$name in */../*) continue ;; esac
     program=$place/$name
     is_closed "$place/noted" "$program" || continue
-    { printf '%s\n' "$name" "$origin" && uname -sm && state "$program"; } | cmp -s - "$place/noted" && return
+    { printf '%s\n' "$name" "$origin" && uname -sm && state "$program" $loader; } | cmp -s - "$place/noted" && return
   done
   false
 }
@@ -142,7 +145,7 @@ find_noted() {
 note_program() (
   umask 022
   cd -- "$place" && [ -O . ] && new=$(mktemp noted.XXXXXX) || exit
-  { printf '%s\n' "$name" "$origin" && uname -sm && (looks "$program") && printf '%s\n' "$noted"; } >"$new" && mv -fT -- "$new" noted && exit
+  { printf '%s\n' "$name" "$origin" && uname -sm && (looks "$program" $loader) && printf '%s\n' "$noted"; } >"$new" && mv -fT -- "$new" noted && exit
   rm -f -- "$new"
 ) 2>/dev/null
 
@@ -175,7 +178,7 @@ choose_released() {
   done
   case $archive in
     "$main") refuse "the released program does not run here: that for x86-64 needs glibc 2.34 or later, and a processor of x86-64-v2. $build" ;;
-    *-static.tar.gz) refuse "neither released program runs here: those for x86-64 need a processor of x86-64-v2. $build" ;;
+    *-static.tar.xz) refuse "neither released program runs here: those for x86-64 need a processor of x86-64-v2. $build" ;;
     *) refuse "the released program does not run here. $build" ;;
   esac
 }
@@ -207,10 +210,25 @@ unpack() { # ARCHIVE
   archive=$1
   is_undamaged "$archive"
   sum=$(sum_of "$archive")
-  { may_make "$root/out" && unpack_in "$root/out"; } || unpack_in "$cache" || unpack_in "$root/out" ||
+  { may_make "$root/out" && unpack_in "$root/out"; } || unpack_in "$cache" || unpack_in "$root/out" || {
+    { command -v xz || command -v dpkg-deb || command -v python3; } >/dev/null || refuse "release/$1 is packed by xz, which is not here: install xz-utils"
     refuse "no program can be put in $root/out or ${cache:-a cache}: set XDG_CACHE_HOME to a folder that only you can write to"
+  }
   [ "$(contents "$unpacked")" = "$(listed "$archive")" ] || refuse "$unpacked is not what $sums says: remove it"
 }
+
+# Prints the tar archive in a packed one. A small container may have no xz: dpkg has its own for packages, so it is given one, and Python has one too.
+tar_in() { # ARCHIVE
+  if command -v xz >/dev/null; then
+    xz -dc -- "$1"
+  elif command -v dpkg-deb >/dev/null; then
+    { printf '!<arch>\n' && of_package debian-binary 4 && echo 2.0 && of_package control.tar 0 && of_package data.tar.xz "$(wc -c <"$1")" && cat -- "$1"
+    } | dpkg-deb --fsys-tarfile -
+  else
+    python3 -c 'import lzma, shutil, sys; shutil.copyfileobj(lzma.open(sys.stdin.buffer), sys.stdout.buffer)' <"$1"
+  fi
+}
+of_package() { printf '%-16s%-12s%-6s%-6s%-8s%-10s`\n' "$1" 0 0 0 100644 "$2"; } # NAME SIZE
 
 # Prints the folder of what an archive has.
 unpacked_path() { unpack "$1" && printf '%s\n' "$unpacked"; }
@@ -223,7 +241,7 @@ unpack_in() { # FOLDER
     umask 022
     may_make "$1" && mkdir -p -- "$1/released" && real_place "$1" && is_ours "$place/released" && cd -- "$place/released" || exit
     new=$(mktemp -d "$sum.XXXXXX") || exit
-    tar -xzf "$root/release/$archive" -C "$new" && mv -T -- "$new" "$sum"
+    tar_in "$root/release/$archive" | tar -xf - -C "$new" && mv -T -- "$new" "$sum"
     rm -rf -- "$new"
   ) 2>/dev/null
   real_place "$1" && unpacked=$place/released/$sum && [ -x "$unpacked/bin/bpftap" ] && is_ours "$unpacked/bin/bpftap"
@@ -262,10 +280,10 @@ is_same_page() { [ ! -f "$root/release/$page" ] || cmp -- "$root/release/$page" 
 
 # Whether each released program for another target is that of `./build --targets`. One that was not made here is not compared, which is printed.
 are_same_targets() {
-  for path in "$root"/release/*.tar.gz; do
+  for path in "$root"/release/*.tar.xz; do
     archive=${path##*/}
     [ "$archive" != "$main" ] || continue
-    folder=${archive#bpftap-} folder=$root/out/targets/$key/${folder%.tar.gz}
+    folder=${archive#bpftap-} folder=$root/out/targets/$key/${folder%.tar.xz}
     if [ ! -d "$folder" ]; then
       echo "release/$archive is not compared: ./build --targets makes its program"
     elif [ "$(contents "$folder")" != "$(listed "$archive")" ]; then
@@ -279,31 +297,33 @@ are_same_targets() {
 pack() {
   key=$(sources_key)
   [ -d "$root/out/built/$key" ] || refuse 'these sources are not built'
-  earlier=$(cd -- "$root/release" && ls -- *.tar.gz 2>/dev/null)
-  rm -f -- "$root"/release/*.tar.gz "$root/release/$page"
+  earlier=$(cd -- "$root/release" && ls -- *.tar.xz 2>/dev/null)
+  rm -f -- "$root"/release/*.tar.[gx]z "$root/release/$page"
   pack_in "$main" "$root/out/built/$key"
   for folder in "$root/out/targets/$key"/*/; do
-    [ ! -d "$folder" ] || pack_in "bpftap-$(basename -- "$folder").tar.gz" "$folder"
+    [ ! -d "$folder" ] || pack_in "bpftap-$(basename -- "$folder").tar.xz" "$folder"
   done
   for archive in $earlier; do
-    name=${archive#bpftap-} name=${name%.tar.gz}
+    name=${archive#bpftap-} name=${name%.tar.xz}
     [ -f "$root/release/$archive" ] || echo "bpftap: no program for $name is packed: ./build --targets makes it" >&2
   done
   [ ! -f "$root/out/page/$page" ] || install -m 644 -- "$root/out/page/$page" "$root/release/$page"
   { echo "# sources $key"
     echo "# toolchain $(rt version)"
     for path in "$root/out/targets/$key"/*/; do [ ! -f "${path%/}.by" ] || sed "s/^/# $(basename -- "$path") /" "${path%/}.by"; done
-    (cd -- "$root/release" && for path in *.tar.gz *.html; do [ ! -f "$path" ] || sha256sum "$path"; done)
-    for path in "$root"/release/*.tar.gz; do contents_of "$path" | sed "s/^/# in ${path##*/}: /"; done
+    (cd -- "$root/release" && for path in *.tar.xz *.html; do [ ! -f "$path" ] || sha256sum "$path"; done)
+    for path in "$root"/release/*.tar.xz; do contents_of "$path" | sed "s/^/# in ${path##*/}: /"; done
   } >"$root/$sums"
-  echo "$(du -cb -- "$root"/release/*.tar.gz | tail -n 1 | cut -f 1) bytes in archives; $sums says:"
+  echo "$(du -cb -- "$root"/release/*.tar.xz | tail -n 1 | cut -f 1) bytes in archives; $sums says:"
   cat -- "$root/$sums"
 }
+# No filter for a processor, which would save a few percent: busybox's xz knows none.
 pack_in() { # ARCHIVE FOLDER
-  tar -I 'gzip -9n' --sort=name --mtime=@0 --owner=0 --group=0 --numeric-owner --mode=u=rwX,go=rX -cf "$root/release/$1" -C "$2" . || exit
+  tar -I 'xz -T1 --check=crc32 --lzma2=preset=9e,dict=4MiB' --sort=name --mtime=@0 --owner=0 --group=0 --numeric-owner --mode=u=rwX,go=rX \
+    -cf "$root/release/$1" -C "$2" . || exit
 }
 contents_of() ( # ARCHIVE
-  new=$(mktemp -d) && tar -xzf "$1" -C "$new" && contents "$new"
+  new=$(mktemp -d) && tar_in "$1" | tar -xf - -C "$new" && contents "$new"
   rm -rf -- "$new"
 )
 

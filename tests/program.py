@@ -91,10 +91,10 @@ def run_with_own_program():
 
 def released_programs(top):
     """The name of each released program, and its path: one for another processor is called by a script that emulates that, or is `None`."""
-    for archive in sorted((ROOT / "release").glob("*-linux*.tar.gz")):
-        name = archive.name.removesuffix(".tar.gz")
+    for archive in sorted((ROOT / "release").glob("*-linux*.tar.xz")):
+        name = archive.name.removesuffix(".tar.xz")
         machine = re.search(r"-(\w+)-linux", name)[1]
-        subprocess.run(["tar", "-xzf", archive, "--one-top-level=" + str(top / name)], check=True)
+        subprocess.run(["tar", "-xJf", archive, "--one-top-level=" + str(top / name)], check=True)
         program, emulator = top / name / "bin" / "bpftap", shutil.which(f"qemu-{machine}")
         if machine == platform.machine():
             yield name, program

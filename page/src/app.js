@@ -10,8 +10,9 @@ import { ListenersView } from "./listeners.js";
 import { OK } from "./library.js";
 import { PacketView } from "./packet.js";
 import { Stopped } from "./memory.js";
-import { captureOf, cutCapture } from "./captures.js";
-import { find, settled } from "./dom.js";
+import { captureOf, cutCapture, exampleOf } from "./captures.js";
+import { captureHint } from "./hints.js";
+import { counted, find, settled } from "./dom.js";
 import { linkTo, readState } from "./state.js";
 
 /** @typedef {import("./library.js").Library} Library */
@@ -23,23 +24,21 @@ import { linkTo, readState } from "./state.js";
  * @typedef {{ name: string, file: Uint8Array, records: Records }} Capture
  */
 
-const EXAMPLE = "examples/veth.pcap";
-
 export class App {
   /**
    * @param {Library} library
    * @param {() => Worker} startWorker
-   * @param {Uint8Array} example the capture that the page carries
+   * @param {Map<string, Uint8Array>} examples the captures that the page carries
    */
-  constructor(library, startWorker, example) {
+  constructor(library, startWorker, examples) {
     this.library = library;
-    this.example = example;
+    this.examples = examples;
     this.state = readState(location.hash);
     /** @type {Filter | null} */
     this.filter = null;
     /** @type {Capture | null} */
     this.capture = null;
-    this.source = { name: EXAMPLE, file: example };
+    this.source = exampleOf(examples, this.state.example);
     const desk = (/** @type {boolean} */ yields) => new Desk(startWorker, library.module, yields);
     this.packetDesk = desk(true);
     this.write = settled(150, () => this.writeLink());
@@ -61,14 +60,15 @@ export class App {
 
   listen() {
     const open = async (/** @type {File | undefined} */ file) => {
-      if (file) this.openFile(file.name, new Uint8Array(await file.arrayBuffer()));
+      if (file) this.open({ name: file.name, file: new Uint8Array(await file.arrayBuffer()) });
     };
-    window.addEventListener("hashchange", () => this.go(readState(location.hash)));
+    // By now `writeLink` may have written the state before it into the address again.
+    window.addEventListener("hashchange", (event) => this.go(readState(new URL(event.newURL).hash)));
     window.addEventListener("error", (event) => this.takeTrap(event, event.error));
     window.addEventListener("unhandledrejection", (event) => this.takeTrap(event, event.reason));
     document.addEventListener("keydown", (event) => this.key(event));
     find("file").addEventListener("change", (event) => open(/** @type {any} */ (event.target).files[0]));
-    find("example-file").addEventListener("click", () => this.openFile(EXAMPLE, this.example));
+    find("example-file").addEventListener("click", () => this.open(exampleOf(this.examples, "")));
     find("cut").addEventListener("change", () => this.cut());
     find("stop-packets").addEventListener("click", () => this.packetDesk.stop());
     find("show-filters").addEventListener("click", () => this.view("filters"));
@@ -90,7 +90,8 @@ export class App {
    * @param {PageState} state
    */
   go(state) {
-    const isCutAnew = this.capture === null || state.cut !== this.state.cut;
+    const isOther = state.example !== this.state.example, isCutAnew = isOther || this.capture === null || state.cut !== this.state.cut;
+    if (isOther) this.source = exampleOf(this.examples, state.example);
     this.state = state;
     this.listeners.write(state);
     this.lessons.show(state);
@@ -136,13 +137,10 @@ export class App {
     this.write();
   }
 
-  /**
-   * @param {string} name
-   * @param {Uint8Array} file
-   */
-  openFile(name, file) {
-    this.source = { name, file };
-    this.state.packet = -1;
+  /** @param {{ name: string, file: Uint8Array }} source */
+  open(source) {
+    this.source = source;
+    Object.assign(this.state, { packet: -1, example: "" });
     this.openCapture();
   }
 
@@ -175,7 +173,8 @@ export class App {
   /** @param {Capture} capture */
   showName({ name, records }) {
     const { fault, place, count } = records, text = fault === OK ? "" : `: ${this.library.faultText(fault, place)}`;
-    find("capture-name").textContent = `${name}, ${count} packets${text}${fault !== OK && count ? "; the packets before it are shown" : ""}`;
+    find("capture-name").textContent = `${name}, ${counted(count, "packet")}${text}${fault !== OK && count ? "; the packets before it are shown" : ""}`;
+    find("capture-hint").textContent = captureHint(this.source.file, fault);
     find("capture-name").classList.toggle("fault", fault !== OK);
     find("counts").textContent = "";
   }
@@ -257,7 +256,7 @@ export class App {
    */
   openWitness(packet, wire) {
     this.state.cut = 0;
-    this.openFile("the packet that shows the difference", captureOf(this.library, packet, wire));
+    this.open({ name: "the packet that shows the difference", file: captureOf(this.library, packet, wire) });
   }
 
   /** @param {KeyboardEvent} event */

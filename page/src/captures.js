@@ -1,4 +1,4 @@
-// Captures: what the library reads of one, and a capture of one packet.
+// Captures: those that the page carries, what the library reads of one, and a capture of one packet.
 
 import { END, MOST_SNAP, OK } from "./library.js";
 import { words } from "./memory.js";
@@ -92,6 +92,17 @@ export function readRecords(library, capture) {
     resize(records, records.count);
     return records;
   });
+}
+
+/**
+ * A capture that the page carries.
+ * @param {Map<string, Uint8Array>} examples by the names that links have; a link without one has the first, of the name `""`
+ * @param {string} wanted
+ */
+export function exampleOf(examples, wanted) {
+  const file = examples.get(wanted);
+  if (file && wanted) return { name: `examples/lessons/${wanted}.pcap`, file };
+  return { name: "examples/veth.pcap", file: /** @type {Uint8Array} */ (examples.get("")) };
 }
 
 /**

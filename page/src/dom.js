@@ -58,6 +58,15 @@ export function find(id) {
 }
 
 /**
+ * A number of things.
+ * @param {number} count
+ * @param {string} thing
+ */
+export function counted(count, thing) {
+  return `${count} ${thing}${count === 1 ? "" : "s"}`;
+}
+
+/**
  * Calls once no further call came for this many milliseconds.
  * @param {number} wait
  * @param {() => void} work

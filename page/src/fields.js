@@ -39,8 +39,9 @@ const ETHERNET = [
 ];
 /** @type {Row[]} */
 const IPV4_HEADER = [
-  [14, 1, "IPv4 version and header length", hex], [16, 2, "IPv4 length", decimal], [20, 2, "fragment offset", hex], [22, 1, "time to live", decimal],
-  [23, 1, "protocol", protocolName], [26, 4, "source address", dotted], [30, 4, "destination address", dotted],
+  [14, 1, "IPv4 version and header length", hex], [16, 2, "IPv4 length", decimal], [18, 2, "identification", hex],
+  [20, 2, "fragment offset", hex], [22, 1, "time to live", decimal], [23, 1, "protocol", protocolName],
+  [26, 4, "source address", dotted], [30, 4, "destination address", dotted],
 ];
 /** @type {Row[]} */
 const ARP_PACKET = [
@@ -118,6 +119,15 @@ export function valueAt(packet, at, size) {
 }
 
 /**
+ * What the flags and the fragment offset of an IPv4 header say, with the offset in bytes.
+ * @type {Show}
+ */
+function fragmentText(value) {
+  const offset = 8 * (value & 0x1fff), isMore = (value & 0x2000) !== 0, kind = isMore ? "more fragments" : offset ? "last fragment" : "no fragment";
+  return `${kind}${isMore || offset ? `, offset ${offset}` : ""}${value & 0x4000 ? ", don't fragment" : ""}`;
+}
+
+/**
  * Bytes of a packet, by what the packet is.
  * @param {Uint8Array} packet
  * @param {number} at
@@ -131,5 +141,6 @@ export function packetField(packet, at, size) {
     const found = findRow(rows, at - begin, size);
     if (found) return found;
   }
+  if (type === IPV4 && at === 20 && size === 2) return { name: "flags and fragment offset", show: fragmentText };
   return frameField(at, size, type);
 }

@@ -2,7 +2,7 @@
 
 import { OK } from "./library.js";
 import { decode } from "./program.js";
-import { find, make } from "./dom.js";
+import { counted, find, make } from "./dom.js";
 
 /** @typedef {import("./library.js").Library} Library */
 /** @typedef {import("./program.js").Insn} Insn */
@@ -11,6 +11,9 @@ import { find, make } from "./dom.js";
  * An expression that has a program; the image has its instructions by names.
  * @typedef {{ expression: string, insns: Uint8Array, program: Insn[], image: string[] }} Filter
  */
+
+/** What a hint names that only the command has: another command's words, and its option for files. */
+const OF_COMMAND = /`bpftap |-f f\.bpf/, NO_COMMAND = "\n(That is for the command bpftap; this page reads expressions only.)";
 
 /**
  * Spaces up to a byte of a text, and a caret.
@@ -30,8 +33,8 @@ export function caret(text, place) {
  * @returns {{ fault: string, hint: string }}
  */
 export function explain(library, expression, answer) {
-  const { fault, place } = answer, name = library.faultText(fault, place);
-  return { fault: / \d+$/.test(name) ? `${caret(expression, place)}\n${name}` : name, hint: library.hint(expression, answer) };
+  const { fault, place } = answer, name = library.faultText(fault, place), hint = library.hint(expression, answer);
+  return { fault: / \d+$/.test(name) ? `${caret(expression, place)}\n${name}` : name, hint: hint + (OF_COMMAND.test(hint) ? NO_COMMAND : "") };
 }
 
 export class FilterView {
@@ -81,7 +84,7 @@ export class FilterView {
     find("fault").textContent = fault;
     find("hint").textContent = hint;
     this.input.setAttribute("aria-invalid", String(fault !== ""));
-    const count = `${image.length} instruction${image.length === 1 ? "" : "s"}`;
+    const count = counted(image.length, "instruction");
     find("canonical").replaceChildren(...(fault ? [] : ["read as ", make("code", {}, canonical || "(every packet)"), `: ${count}`]));
     const width = Math.max(0, ...image.map((line) => line.length)) + 2;
     this.lines = image.map((line) => make("span", { class: "insn" }, line.padEnd(width), make("span", { class: "registers" }), "\n"));

@@ -12,6 +12,10 @@ import { linkTo, readState } from "./state.js";
 
 const STEP = { view: "listeners", filter: "icmp", listeners: "64 192 icmp\n" };
 
+const OPTIONS = { example: "options" };
+// The text of which libpcap made a program that is not right.
+const TWICE = "ip and (tcp port 22 or tcp port 21 and tcp port 80 or tcp port 22 or tcp port 65535)";
+
 /**
  * @param {number} arrivals between two reads
  * @param {number} times
@@ -76,6 +80,37 @@ const LESSONS = [
         say: "Who rejects a port lets later fragments in.",
         show: { filter: "not udp port 5353", other: "not udp port 5353 and (not udp or ip[6:2] & 0x1fff = 0)", packet: 116 },
       },
+    ],
+  },
+  {
+    name: "options",
+    title: "How long is the header?",
+    stops: [
+      { say: "The low four bits of the first byte are the length of the header, in words: which frames have options?", show: { ...OPTIONS, filter: "ip[0] & 0xf != 5", packet: 1 } },
+      { say: "The port is looked up after the options. What is X after `ldxb`, on frame 0 and on frame 1?", show: { ...OPTIONS, filter: "udp dst port 53", packet: 1 } },
+      { say: "A filter with fixed places sees padding for a port. Open the packet that shows it.", show: { ...OPTIONS, filter: "udp dst port 53", other: "udp and ether[36:2] = 53", packet: 2 } },
+      { say: "Record Route has type 7. Which frame without it is accepted, and what is its byte 20?", show: { ...OPTIONS, filter: "ip[20] = 7", packet: 1 } },
+      { say: "TCP has options too: is option 2 only in segments with SYN, here and everywhere?", show: { filter: "tcp[12] > 0x5f and tcp[20] = 2", other: "tcp[tcpflags] & tcp-syn != 0" } },
+    ],
+  },
+  {
+    name: "cost",
+    title: "What a filter costs",
+    stops: [
+      { say: "How many instructions run on an ARP frame, and how many on packet 2?", show: { filter: "icmp", packet: 0 } },
+      { say: "Two tests, and each asks for six fields: how many loads does the program execute?", show: { filter: "tcp port 80 or 8080", packet: 123 } },
+      { say: "What does the longer text cost?", show: { filter: "tcp port 8080", other: "ip and tcp and port 8080", packet: 123 } },
+      { say: "`and` asks its second test only after a Yes: which order runs less?", show: { filter: "icmp and greater 1000", other: "greater 1000 and icmp", packet: 2 } },
+      { say: "The order also says what can be shared. How long is the program of each?", show: { filter: "host 192.0.2.1 and tcp port 8080", other: "tcp port 8080 and host 192.0.2.1", packet: 123 } },
+    ],
+  },
+  {
+    name: "libpcap",
+    title: "The same text, two programs",
+    stops: [
+      { say: "How is it read? `and` and `or` bind alike, from the left.", show: { filter: TWICE } },
+      { say: "An optimiser must not change what a filter accepts. Is the shorter text the same?", show: { filter: TWICE, other: "ip and (tcp port 21 and tcp port 80 or tcp port 22 or tcp port 65535)" } },
+      { say: "And this one? Open the packet that shows it.", show: { filter: TWICE, other: "ip and (tcp port 22 or tcp port 65535 or (tcp port 21 and tcp port 80))" } },
     ],
   },
 ];

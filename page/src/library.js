@@ -6,7 +6,11 @@ import { Memory, words } from "./memory.js";
 /** @typedef {import("./memory.js").Take} Take */
 
 /** Numbers of faults, of bpftap.h. */
-export const OK = 0, NO_ROOM = 2, END = 4;
+export const OK = 0, NO_ROOM = 2, END = 4, NOT_SAVEFILE = 65, LINK_TYPE = 67, BAD_CAPACITY = 80, LISTENERS = 88, SCRIPT = 89, NO_LISTENER = 91;
+/** @param {number} fault */
+export const isOfExpression = (fault) => fault >= 32 && fault < 50;
+/** @param {number} fault */
+export const isOfCapture = (fault) => fault >= 64 && fault < 80;
 
 export const NO_CELL = 16, MOST_INSNS = 512, MOST_SNAP = 262144, MOST_TEXT = 8192;
 const INSN_SIZE = 8, EXECUTED_SIZE = 24, LOOK_SIZE = 16, ROOM = 65536;

@@ -1,7 +1,7 @@
 // The list of a capture's packets: only the rows in sight are in the page, so that it scrolls with 100,000 of them.
 
 import { VERDICTS } from "./library.js";
-import { find, make } from "./dom.js";
+import { counted, find, make } from "./dom.js";
 import { lengthText } from "./packet.js";
 
 /** @typedef {import("./captures.js").Records} Records */
@@ -84,7 +84,7 @@ export class ListView {
       option("", "all"),
       ...VERDICTS.map((verdict, number) => option(verdict, `${all[number]} ${verdict}`)),
       ...order.slice(0, 100).map((number) => option("=" + texts[number], `${of[number]}: ${texts[number]}`)));
-    find("counts").textContent = count ? `${count} packets: ${all[1]} Yes, ${all[0]} No, ${all[2]} Abort` : "";
+    find("counts").textContent = count ? `${counted(count, "packet")}: ${all[1]} Yes, ${all[0]} No, ${all[2]} Abort` : "";
   }
 
   /** Takes the packets that are wanted into the list. */

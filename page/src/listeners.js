@@ -1,7 +1,7 @@
 // Listeners and a script: the picture of the steps, gone through one by one, and the reports.
 
 import { Ended } from "./jobs.js";
-import { OK } from "./library.js";
+import { explainSteps } from "./hints.js";
 import { find, make, makeSvg, save, settled } from "./dom.js";
 import { hasReports } from "./steps.js";
 
@@ -118,8 +118,8 @@ export class ListenersView {
 
   /** @param {{ reports: Replay, answers: Replay, picture: Replay }} played */
   show({ reports, answers, picture }) {
-    const { fault, number, place } = reports, library = /** @type {Library} */ (this.library);
-    find("steps-fault").textContent = fault === OK ? "" : `${library.faultText(fault, place)}${number ? ` (listener or capture ${number})` : ""}`;
+    const library = /** @type {Library} */ (this.library), { file } = /** @type {Capture} */ (this.capture);
+    find("steps-fault").textContent = explainSteps(library, this.plan, reports, file).join("\n");
     if (!hasReports(reports)) return;
     find("reports").textContent = reports.text;
     this.steps = stepsOf(answers.text);

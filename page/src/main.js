@@ -17,10 +17,10 @@ async function unpacked(id) {
 
 async function start() {
   try {
-    const [code, example] = await Promise.all([unpacked("module"), unpacked("example")]), module = await WebAssembly.compile(code);
+    const [code, veth, options] = await Promise.all(["module", "example", "options"].map(unpacked)), module = await WebAssembly.compile(code);
     // A worker that is made of a text needs no file beside the page.
     const script = URL.createObjectURL(new Blob([find("script").textContent || ""], { type: "text/javascript" }));
-    new App(new Library(module), () => new Worker(script), example).start();
+    new App(new Library(module), () => new Worker(script), new Map([["", veth], ["options", options]])).start();
     document.body.dataset.ready = "yes";
     performance.mark("ready");
   } catch (why) {

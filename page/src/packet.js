@@ -1,7 +1,7 @@
 // The packet that is chosen: what decides on it, its bytes with those marked that the filter looks at, and the steps of the program's run.
 
 import { NO_CELL, VERDICTS } from "./library.js";
-import { find, make } from "./dom.js";
+import { counted, find, make } from "./dom.js";
 import { hex, packetField, valueAt } from "./fields.js";
 import { registersText } from "./filter.js";
 
@@ -127,8 +127,8 @@ export class PacketView {
   showReason(why) {
     find("reason").replaceChildren(make("strong", { class: VERDICTS[why.verdict] }, why.text));
     if (!this.trace) return;
-    const { answer, steps } = this.trace, count = `${steps.length} instruction${steps.length === 1 ? "" : "s"}`;
-    find("reason").append(`: the program answers ${answer} after ${count}`);
+    const { answer, steps } = this.trace;
+    find("reason").append(`: the program answers ${answer} after ${counted(steps.length, "instruction")}`);
   }
 
   /**

@@ -5,6 +5,7 @@
  * @property {string} view what is shown: `filters` or `listeners`
  * @property {string} filter
  * @property {string} other the second filter
+ * @property {string} example which of the page's captures it is of; the first one, or the user's, if there is no name
  * @property {number} packet the place of the chosen packet, or -1
  * @property {number} cut how many bytes of each packet are kept, or 0 for all
  * @property {string} listeners
@@ -17,6 +18,7 @@ const FIRST = {
   view: "filters",
   filter: "tcp port 8080 or 443",
   other: "",
+  example: "",
   packet: -1,
   cut: 0,
   listeners: "64 192 icmp\n0 262176i arp\n",
@@ -29,7 +31,7 @@ const FIRST = {
  * @type {[keyof PageState, string][]}
  */
 const WORDS = [
-  ["view", "v"], ["filter", "e"], ["other", "o"], ["packet", "p"], ["cut", "c"], ["listeners", "l"], ["script", "s"], ["lesson", "k"],
+  ["view", "v"], ["filter", "e"], ["other", "o"], ["example", "x"], ["packet", "p"], ["cut", "c"], ["listeners", "l"], ["script", "s"], ["lesson", "k"],
 ];
 
 /**

@@ -3,7 +3,7 @@ import random
 import subprocess
 
 from .common import IP, TORN, VETH, WHOLE, case, fault_lines
-from .explain import ARP_HEAD, IP_HEAD, MIXED, TCP_HEAD, UDP_HEAD
+from .explain import ARP_HEAD, FIRST, IP_HEAD, LONG, MIXED, TCP_HEAD, UDP_HEAD, UNCOMPILED
 
 # Two filters, the lines of packets that they treat differently, and the counts.
 COMPARED = [
@@ -39,6 +39,22 @@ def differing_packets_are_printed(scene):
     seen = scene.run("compare -f ip.bpf arp in.pcap").out.decode().splitlines()
     scene.check("a listing", (seen[0], seen[-1]), (line, "4 packets: 4 differ, 1 accepted by the first alone, 3 by the second"))
     scene.expect("compare -s 96 -f ip.bpf ip in.pcap", out="4 packets: 0 differ, 0 accepted by the first alone, 0 by the second\n")
+
+
+@case
+def expressions_without_a_program_are_compared(scene):
+    """Expressions that are read are compared and decided, also if one is too long or too deep to compile."""
+    scene.start({"in.pcap": MIXED, "ip.bpf": IP})
+    line = IP_HEAD + f"first Abort {FIRST}, byte 14 is not captured second Yes ip"
+    counts = "4 packets: 1 differ, 0 accepted by the first alone, 1 by the second"
+    scene.expect(["compare", LONG, "ip", "in.pcap"], out=text(line, counts))
+    scene.expect(["compare", "-q", LONG, "ip", "in.pcap"], 4)
+    scene.expect(["compare", "-q", "-f", "ip.bpf", LONG, "in.pcap"], 4)
+    for expr, fault, _ in UNCOMPILED:
+        scene.refuse(["check", "--", expr], 1, fault)
+        scene.expect(["compare", expr, expr], out="same\n")
+    scene.expect(["compare", UNCOMPILED[2][0], "ip"], out="same\n")
+    scene.expect(["compare", "-f", "ip.bpf", UNCOMPILED[2][0]], out="same\n")
 
 
 def differences(first, second):

@@ -7,7 +7,7 @@ import subprocess
 from .common import KIND, LIMIT, PROGRAM, ROOT, case
 from .install import install, source_in
 from .library import ARCHIVE, LIBRARY, done, is_there
-from .linking import TOOL, version_line
+from .linking import TOOL, version, version_line
 from .targets import in_root, root_of
 
 NAMES = ["bpftap", "libbpftap1", "libbpftap-dev", "python3-bpftap"]
@@ -91,6 +91,40 @@ def packages_are_installed_used_and_removed(scene):
     dpkg(scene, root, "-P", "bpftap")
     said, status = done(scene, ["dpkg", f"--root={root}", "-i", found["libbpftap-dev"]])
     scene.check("the header without the library", ("depends on libbpftap1" in said, status != 0), (True, True))
+
+
+# The architecture of Debian and what the package of a released program depends on, and the tools that make it.
+ARCHIVES = {
+    "x86_64-linux": (["amd64", "libc6 (>= 2.34)"], ""),
+    "x86_64-linux-static": (["amd64", ""], ""),
+    "aarch64-linux": (["arm64", ""], "aarch64-linux-gnu-"),
+}
+
+
+@case
+def only_a_program_for_glibc_depends_on_it(scene):
+    """Of the packages with each released program, and of that of the library: their architecture, and the C library that they ask for."""
+    clone, number = source_in(scene), version()
+    stage = scene.folder / "stage"
+    install(scene, clone, str(stage / "usr"))
+    fields = lambda path: subprocess.run(["dpkg-deb", "-f", path, "Architecture", "Depends"], capture_output=True, text=True, timeout=LIMIT).stdout
+    for name, ((kind, libc), tool) in ARCHIVES.items():
+        archive = ROOT / "release" / f"bpftap-{name}.tar.xz"
+        if not archive.is_file():
+            scene.leave(f"no {archive.name} is released")
+        elif scene.has("dpkg-deb", f"{tool}strip", f"{tool}readelf"):
+            subprocess.run(["tar", "-xJf", archive, "-C", stage / "usr"], check=True, timeout=LIMIT)
+            words = [clone.folder / "packaging" / "deb", stage, number, scene.folder]
+            made, status = done(scene, words, env={**os.environ, "SOURCE_DATE_EPOCH": "946684800"})
+            path = scene.folder / f"bpftap_{number}_{kind}.deb"
+            scene.check(f"{name}: made", (made.splitlines()[0], status), (str(path), 0))
+            scene.check(f"{name}: the program", fields(path), f"Architecture: {kind}\n" + (f"Depends: {libc}\n" if libc else ""))
+            # lintian takes a program for x86-64 that names no C library for a mistake, and no such package is made.
+            if kind == "arm64" and scene.has("lintian"):
+                scene.check(f"{name}: lintian", done(scene, ["lintian", "--allow-root", "--fail-on", "error,warning", path], limit=5 * LIMIT), ("", 0))
+            if "libbpftap1_" in made:
+                scene.check(f"{name}: the library", fields(scene.folder / f"libbpftap1_{number}_{kind}.deb"), f"Architecture: {kind}\n")
+            shutil.rmtree(stage / "usr" / "lib", ignore_errors=True)
 
 
 @case

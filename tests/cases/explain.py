@@ -141,6 +141,36 @@ def one_packet_is_explained_in_full(scene):
     scene.check("a division", seen.endswith("the last instruction was not carried out: its divisor is 0\nanswer 0\n"), True)
 
 
+# Expressions that are read and have no program, as `check` says, with what is printed of the four packets by the tables of LANGUAGE.
+FIRST, LAST = "(ip[0:2] + len) > 0", "(ip[119:2] + len) > 119"
+LONG = " or ".join(f"ip[{at}:2] + len > {at}" for at in range(120))
+DEEP = "1+(" * 16 + "1+1" + ")" * 16 + " = 18"
+UNCOMPILED = [
+    (LONG, "TooLong", [f"No {LAST}", f"Abort {FIRST}, byte 14 is not captured", f"Yes {FIRST}", f"Yes {FIRST}", "2 Yes, 1 No, 1 Abort"]),
+    (DEEP, "TooDeep", ["Yes " + "(1 + " * 17 + "1" + ")" * 17 + " = 18"] * 4 + ["4 Yes, 0 No, 0 Abort"]),
+    ("ip" + "||ip" * 599, "TooLong", ["No ip", "Yes ip", "Yes ip", "Yes ip", "3 Yes, 1 No, 0 Abort"]),
+]
+
+
+@case
+def expressions_without_a_program_are_explained(scene):
+    """An expression that is read is explained, also if it is too long or too deep to compile: only the run of `-p` is left out, and said so."""
+    scene.start({"in.pcap": MIXED})
+    for expr, fault, ends in UNCOMPILED:
+        scene.refuse(["check", "--", expr], 1, fault)
+        scene.expect(["explain", "-e", expr, "in.pcap"], out=lines(*ends))
+        scene.expect(["explain", "-q", "-e", expr, "in.pcap"])
+        answers = scene.run(["explain", "--json", "-e", expr, "in.pcap"]).out.decode().splitlines()[:-1]
+        scene.check(f"answers of {fault} in JSON", [re.search('"answer":"([a-z]*)"', line)[1].capitalize() for line in answers],
+                    [end.split()[0] for end in ends[:-1]])
+        seen = scene.run(["explain", "-p", "1-2", "-e", expr, "in.pcap"])
+        first, *others = seen.out.decode().split(f"\nthe expression has no program: {fault}\n")
+        heads = [text.splitlines()[0] for text in (first, others[0])]
+        scene.check(f"packets of {fault} in full", (heads, others[1:], seen.err, seen.status),
+                    ([IP_HEAD + ends[1], TCP_HEAD + ends[2]], [""], b"", 0))
+        scene.check(f"no run of {fault}", "registers" in seen.out.decode(), False)
+
+
 def dumped(scene, words):
     """The bytes that `explain -p` shows, without the lines of marks."""
     lines = scene.run(words).out.decode().splitlines(keepends=True)

@@ -241,7 +241,8 @@ def expect_expression_faults(scene, page):
         scene.put({"steps.txt": f"0 1048576\n0 1048576 {text}\n", "run.txt": f"0 0 0 1048576 2 out.pcap {text}\n",
                    "split.txt": f"0 out.pcap\n0 other.pcap {text}\n"})
         expect_fault(scene, page, ["check", text], fault, 1)
-        expect_fault(scene, page, ["explain", "-e", text, "none.pcap"], fault, 1)
+        if fault not in COMPILED:
+            expect_fault(scene, page, ["explain", "-e", text, "none.pcap"], fault, 1)
         expect_fault(scene, page, ["cut", "-s", "0", "-e", text, "none.pcap", "out.pcap"], fault, 1)
         expect_fault(scene, page, "split split.txt in.pcap", f"{where} 1 {fault}", 1)
         expect_fault(scene, page, "steps steps.txt arrive.txt in.pcap", f"{where} 1 {fault}", 1)

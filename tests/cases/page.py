@@ -217,6 +217,25 @@ class Visit:
         self.run("document.getElementById(arguments[0]).click()", place)
 
 
+class Below(list):
+    """The lines that the program prints below a fault, and that of the fault."""
+    fault = ""
+
+
+def below_fault(scene, *words):
+    fault, *lines = scene.run(["--hints", *words]).err.decode().splitlines()
+    said = Below(line.removeprefix("  ") for line in lines)
+    said.fault = fault
+    return said
+
+
+# Files that are no captures, by what they begin with. Of some the program also says that standard input takes them.
+OTHER_FILES = {"in.gz": b"\x1f\x8b\x08", "in.xz": b"\xfd7zXZ\0", "in.snoop": b"snoop\0\0\0", "in.txt": b"some text of no format",
+               "cooked.pcap": HEADER[:20] + b"\x65\0\0\0"}
+# Listeners and scripts that are refused, with a word of help.
+STEPS_REFUSED = [("foo\n", "arrive\n"), ("64 192 icmp\n", "arrive\nbla\n"), ("64 192 icmp and proot 17\n", "arrive\n")]
+
+
 def look_at_packet(visit):
     """A student's question: why is packet 123 of the example accepted by `tcp port 8080 or 443`?"""
     visit.open("#e=tcp%20port%208080%20or%20443&p=123")
@@ -260,6 +279,9 @@ def type_filters(visit):
     visit.filter("icmp and proot 17")
     visit.check("a fault with its caret", visit.text("fault").splitlines(), [" " * 9 + "^", "BadWord 9"])
     visit.check("its hint", visit.text("hint"), "did you mean `proto`?")
+    visit.filter("ip6")
+    visit.check_has("a hint of the command", "hint", "-f f.bpf with cut, check or explain\n(That is for the command bpftap; this page reads expressions only.)")
+    visit.filter("icmp and proot 17")
     visit.filter("udp port 5353")
     visit.check_has("another filter", "counts", "253 packets: 67 Yes, 186 No, 0 Abort")
     visit.check("no fault is left", visit.text("fault") + visit.text("hint"), "")
@@ -312,7 +334,8 @@ def see_difference(visit):
     visit.check_has("they differ", "same", "Differ")
     visit.check_has("both answers", "same", "Yes tcp")
     visit.click("open-witness")
-    visit.check_has("the packet", "capture-name", "the packet that shows the difference, 1 packets")
+    visit.check_has("the packet", "capture-name", "the packet that shows the difference, 1 packet")
+    visit.check_has("one packet", "counts", "1 packet: 1 Yes, 0 No, 0 Abort")
     visit.check_has("the first filter's answer", "reason", "Yes tcp")
 
 
@@ -321,16 +344,24 @@ def give_files(visit):
     visit.open("#e=ip")
     visit.scene.put({"one.pcap": HEADER + IP_RECORD, "torn.pcap": TORN, "none.pcap": b"\n\r\r\n" + bytes(100)})
     visit.browser.give_file("file", visit.scene.folder / "one.pcap")
-    visit.check_has("a file", "capture-name", "one.pcap, 1 packets")
+    visit.check_has("a file", "capture-name", "one.pcap, 1 packet")
     visit.browser.give_file("file", visit.scene.folder / "torn.pcap")
-    visit.check_has("a torn file", "capture-name", "torn.pcap, 1 packets: TornRecord 1; the packets before it are shown")
+    visit.check_has("a torn file", "capture-name", "torn.pcap, 1 packet: TornRecord 1; the packets before it are shown")
     visit.browser.give_file("file", visit.scene.folder / "none.pcap")
     visit.check_has("no capture", "capture-name", "none.pcap, 0 packets: NotSavefile")
+    visit.check("what it is, as the program says it", visit.text("capture-hint"), below_fault(visit.scene, "explain", "-e", "ip", "none.pcap")[0])
     visit.run("""
         const data = new DataTransfer(), bytes = Uint8Array.from(arguments[0]);
         data.items.add(new File([bytes], 'dropped.pcap'));
         document.dispatchEvent(new DragEvent('drop', { dataTransfer: data, bubbles: true, cancelable: true }))""", list(HEADER + 2 * IP_RECORD))
     visit.check_has("a dropped file", "capture-name", "dropped.pcap, 2 packets")
+    visit.check("nothing is said of it", visit.text("capture-hint"), "")
+    for name, first in OTHER_FILES.items():
+        visit.scene.put({name: first + bytes(40)})
+        visit.browser.give_file("file", visit.scene.folder / name)
+        visit.check_has(name, "capture-name", f"{name}, 0 packets: ")
+        said = below_fault(visit.scene, "explain", "-e", "ip", name)[0].replace(" (raw IP)", "")
+        visit.check(f"what {name} is", said.startswith(visit.text("capture-hint") or "nothing"), True)
 
 
 def give_many_packets(visit):
@@ -371,6 +402,14 @@ def play_steps(visit):
     visit.check("drops in the picture", drawn, 3)
     visit.browser.type_into("listeners-text", "64 95 icmp\n0 262176i arp")
     visit.check_has("a listener that is refused", "steps-fault", "BadCapacity")
+    visit.check_has("its line", "steps-fault", "line 1 is: 64 95 icmp")
+    for listeners, script in STEPS_REFUSED:
+        visit.scene.put({"listeners.txt": listeners, "script.txt": script})
+        visit.browser.type_into("listeners-text", listeners)
+        visit.browser.type_into("script-text", script)
+        said = below_fault(visit.scene, "steps", "listeners.txt", "script.txt", VETH)
+        wanted = "\n".join([said.fault.removeprefix("bpftap: "), *said]) if "line" in said[0] else f"{said[0]}\n{said[1]}\nBadWord 9\n{said[2]}"
+        visit.check_has(f"{listeners!r} and {script!r}", "steps-fault", wanted)
 
 
 def follow_lesson(visit):
@@ -380,9 +419,29 @@ def follow_lesson(visit):
     visit.check_has("and a byte that is not there", "looks", "not captured")
     visit.run("document.querySelectorAll('#lesson li a')[3].click()")
     visit.check_has("the next stop: a later fragment", "reason", "No udp port 5353")
-    visit.check_has("its name", "looks", "fragment offset")
+    visit.check_has("its name", "looks", "flags and fragment offset: more fragments, offset 1480")
+    for place, wanted in [(115, "more fragments, offset 0"), (117, "last fragment, offset 2960"), (2, "no fragment, don't fragment")]:
+        visit.open(f"#e=ip%5B6:2%5D%20!=%201&p={place}")
+        visit.check_has(f"the flags of packet {place}", "looks", f"fragment offset: {wanted}")
     count = visit.run("return document.querySelectorAll('#lessons a').length")
-    visit.check("lessons", count >= 4, True)
+    visit.check("lessons", count, len([*(ROOT / "examples" / "lessons").glob("*.md")]) - 2)
+    names = visit.run("return [...document.querySelectorAll('#lessons a')].map((link) => new URLSearchParams(link.hash.slice(1)).get('k'))")
+    for name in names:
+        visit.check(f"the lesson {name} has a page", (ROOT / "examples" / "lessons" / f"{name}.md").is_file(), True)
+        visit.run("document.querySelector(`#lessons a[href*='k=${arguments[0]}']`).click()", name)
+        visit.check_has(f"the lesson {name}", "lesson", f"examples/lessons/{name}.md")
+        for place in range(visit.run("return document.querySelectorAll('#lesson li a').length")):
+            visit.run("document.querySelectorAll('#lesson li a')[arguments[0]].click()", place)
+            visit.wait("return document.querySelectorAll('#lesson li a')[arguments[0]].getAttribute('aria-current') === 'step'", place)
+            shown = "fault" if name == "filters" and place == 4 else ""
+            visit.check(f"stop {place} of {name}", ("fault" if visit.text("fault") else "") + visit.text("steps-fault"), shown)
+    visit.open("#k=options&e=ip%5B0%5D+%26+0xf+!%3D+5&x=options&p=1")
+    visit.check_has("a capture of its own", "capture-name", "examples/lessons/options.pcap, 4 packets")
+    visit.check_has("its packets", "counts", "4 packets: 3 Yes, 1 No, 0 Abort")
+    visit.click("example-file")
+    visit.check_has("the example", "capture-name", "examples/veth.pcap, 253 packets")
+    visit.open("#x=constructor")
+    visit.check_has("no such capture", "capture-name", "examples/veth.pcap, 253 packets")
 
 
 def survive_trap(visit):

@@ -11,7 +11,7 @@ import time
 from .build import MADE, STALE, Source
 from .common import LIMIT, ROOT, Seen, case
 
-ARCHIVE = "release/bpftap-x86_64-linux.tar.gz"
+ARCHIVE = "release/bpftap-x86_64-linux.tar.xz"
 RELEASED, BUILT = b"bpftap 1.2.3, a stand-in\nreleased, reproduced by the gate\n", b"bpftap 1.2.3, a stand-in\nbuilt and proved here\n"
 # A program that needs another system.
 OLD = "#!/bin/sh\necho \"libc.so.6: version \\`GLIBC_2.34' not found\" >&2\nexit 1\n"
@@ -205,7 +205,7 @@ def an_archive_has_what_is_listed_and_no_more(scene):
     (clone.home / "elsewhere").write_text(MARKS)
     (clone.home / "elsewhere").chmod(0o755)
     (tree / "bin" / "bpftap").symlink_to(clone.home / "elsewhere")
-    subprocess.run(["tar", "-czf", clone.folder / ARCHIVE, "-C", tree, "."], check=True, timeout=LIMIT)
+    subprocess.run(["tar", "-cJf", clone.folder / ARCHIVE, "-C", tree, "."], check=True, timeout=LIMIT)
     digest, name = hashlib.sha256((clone.folder / ARCHIVE).read_bytes()).hexdigest(), ARCHIVE.removeprefix("release/")
     sums.write_text("".join(f"{digest}  {name}\n" if line.endswith(f"  {name}\n") else line for line in named.splitlines(True)))
     seen = clone.call("check", "ip")
@@ -275,7 +275,7 @@ def each_machine_runs_the_program_for_it(scene):
     scene.check("how it was made", "# aarch64-linux made by hand\n" in sums, True)
     words = ["sha256sum", "--quiet", "--check", "SHA256SUMS"]
     scene.check("checksums", subprocess.run(words, cwd=clone.folder / "release", timeout=LIMIT).returncode, 0)
-    wanted = b"bpftap 1.2.3, static\nreleased, of bpftap-x86_64-linux-static.tar.gz\n"
+    wanted = b"bpftap 1.2.3, static\nreleased, of bpftap-x86_64-linux-static.tar.xz\n"
     scene.check("static", (clone.call("--version").out, clone.call("--version").out), (wanted, wanted))
     tools = scene.folder / "tools"
     tools.mkdir()
@@ -283,17 +283,40 @@ def each_machine_runs_the_program_for_it(scene):
     (tools / "uname").chmod(0o755)
     shutil.rmtree(clone.folder / "out")
     there = {**clone.bare(), "PATH": f"{tools}:/usr/bin:/bin"}
-    wanted = b"bpftap 1.2.3, of another machine\nreleased, of bpftap-aarch64-linux.tar.gz\n"
+    wanted = b"bpftap 1.2.3, of another machine\nreleased, of bpftap-aarch64-linux.tar.xz\n"
     scene.check("another machine", clone.run("--version", program="bpftap", env=there).out, wanted)
     shutil.rmtree(clone.folder / "out")
-    change(clone.folder / "release" / "bpftap-x86_64-linux-static.tar.gz", 4)
-    damaged = "release/bpftap-x86_64-linux-static.tar.gz is damaged: its SHA-256 is not the one in release/SHA256SUMS"
+    change(clone.folder / "release" / "bpftap-x86_64-linux-static.tar.xz", 4)
+    damaged = "release/bpftap-x86_64-linux-static.tar.xz is damaged: its SHA-256 is not the one in release/SHA256SUMS"
     refused(scene, clone, "a damaged one", damaged)
     also_released(clone, {"x86_64-linux-static": OLD, "aarch64-linux": OLD})
     build = "./build proves and builds one, with the toolchain"
     refused(scene, clone, "neither", f"neither released program runs here: those for x86-64 need a processor of x86-64-v2. {build}")
     seen = clone.run(program="bpftap", env=there)
     scene.check("another old machine", seen, Seen(b"", f"bpftap: the released program does not run here. {build}\n".encode(), 125))
+
+
+# What unpacks an archive, the one that is tried first before the others.
+UNPACKERS = ["xz", "dpkg-deb", "python3"]
+
+
+@case
+def an_archive_is_unpacked_by_what_is_there(scene):
+    """By xz; in a container without it by dpkg, or by Python; and if none is there, one line says what to install."""
+    clone = Clone(scene)
+    for place, name in enumerate([*UNPACKERS, None]):
+        tools = scene.folder / f"without {place}"
+        tools.mkdir()
+        for path in pathlib.Path("/usr/bin").iterdir():
+            if path.name not in UNPACKERS[:place]:
+                (tools / path.name).symlink_to(path)
+        shutil.rmtree(clone.folder / "out", ignore_errors=True)
+        there = {**clone.bare(), "PATH": str(tools)}
+        if name is None:
+            line = f"bpftap: {ARCHIVE} is packed by xz, which is not here: install xz-utils\n"
+            scene.check("by none", clone.run(program="bpftap", env=there), Seen(b"", line.encode(), 125))
+        elif scene.has(name):
+            scene.check(f"by {name}", clone.run("-c", program="bpftap", env=there), clone.answer("-c"))
 
 
 @case
@@ -336,7 +359,7 @@ def plant(clone, place, name="released/planted/bin/bpftap"):
     program.parent.mkdir(parents=True, exist_ok=True)
     program.write_text(PLANTED)
     program.chmod(0o755)
-    script = 'root=$1 && . "$1/release/lib.sh" && { printf "%s\\n" "$3" "released, reproduced by the gate"; uname -sm; state "$2/$3"; } >"$2/noted"; true'
+    script = 'root=$1 && . "$1/release/lib.sh" && { printf "%s\\n" "$3" "released, reproduced by the gate"; uname -sm; state "$2/$3" $loader; } >"$2/noted"; true'
     subprocess.run(["sh", "-c", script, "sh", clone.folder, place, name], check=True, timeout=LIMIT)
     (place / "noted").chmod(0o600)
 

@@ -28,3 +28,51 @@ def calls_of_handover_do_not_wait(scene):
     for line in ["for _ in 0..u64::MAX {", "let x = loop {", "while full {", "use std::sync::Mutex;", "use std::{mem, sync::Mutex};",
                  "(0..u64::MAX).any(|_| is_free(&lock))", "table.peek(TURN)"]:
         scene.check(line, waiting_lines(line), [line])
+
+
+# ---- Functions without a contract
+
+# A function's head, up to its body, and the line that begins the impl block around it.
+HEAD = re.compile(r"\s*(?:pub(?:\([a-z]+\))? )?(?:const )?fn (\w+)")
+UNSTATED = ROOT / "tests" / "unstated.txt"
+
+
+def without_contract(text):
+    """The functions of a source that promise nothing. Those of a trait's impl promise what the trait does, and a closure what its caller asks."""
+    names, of_trait, lines = [], False, iter(text.splitlines())
+    for line in lines:
+        if line.startswith(("impl", "}")):
+            of_trait = line.startswith("impl") and " for " in line
+        found = HEAD.match(line)
+        if not found:
+            continue
+        head = [line]
+        while not head[-1].rstrip().endswith(("{", "{}", ";")) or re.match(r"\s*(ensures|requires|ghost)\b", head[-1]):
+            head.append(next(lines))
+        if not of_trait and not any(re.match(r"\s*ensures\b", one) for one in head):
+            names.append(found[1])
+    return names
+
+
+def stated_reasons():
+    """What tests/unstated.txt lists: the names of each source, or `*` for a source or a crate whose functions are all without a contract."""
+    rows = [line.split("|") for line in UNSTATED.read_text().splitlines() if line and line[0] != "#"]
+    return {place.strip(): names.split() for place, _, names in rows}
+
+
+@case
+def each_function_has_a_contract_or_a_reason(scene):
+    """A function outside tests promises something, or tests/unstated.txt says why it does not."""
+    listed, met = stated_reasons(), set()
+    for source in sorted(ROOT.glob("crates/*/src/**/*.rt")):
+        crate, place = source.parts[len(ROOT.parts) + 1], "/".join(source.with_suffix("").parts[len(ROOT.parts) + 1:]).replace("/src/", "/")
+        names = without_contract(source.read_text())
+        if crate.startswith("test_") or not names:
+            continue
+        key = f"{crate}/*" if f"{crate}/*" in listed else place
+        met.add(key)
+        if listed.get(key) != ["*"]:
+            scene.check(place, sorted(set(names)), sorted(listed.get(key, [])))
+    scene.check("lines of no source", sorted(set(listed) - met), [])
+    # The search finds what it is for.
+    scene.check("a source", without_contract("impl A {\n    fn a(\n        x: u32,\n    ) -> u32 {\n    }\n\n    fn b()\n        ensures { x }\n    {\n    }\n}\nimpl T for A {\n    fn c() {\n    }\n}\n"), ["a"])

@@ -12,7 +12,7 @@ import types
 
 from .build import MADE, Source
 from .common import KIND, LIMIT, PROGRAM, ROOT, Seen, case
-from .release import BUILT, Clone, also_released, change
+from .release import RELEASED, Clone, also_released, change
 
 sys.path.insert(0, str(ROOT / "release"))
 import targets
@@ -113,12 +113,12 @@ def targets_are_released_and_compared(scene):
     source.run("--targets")
     scene.check("the status", source.run("--release").status, 0)
     release = source.folder / "release"
-    archives = [f"bpftap-{name}.tar.gz" for name in ["x86_64-linux", *NAMES]]
-    scene.check("archives", sorted(path.name for path in release.glob("*.gz")), sorted(archives))
+    archives = [f"bpftap-{name}.tar.xz" for name in ["x86_64-linux", *NAMES]]
+    scene.check("archives", sorted(path.name for path in release.glob("*.xz")), sorted(archives))
     digest = hashlib.sha256((source.musl / "usr" / "lib" / "aarch64-linux-musl" / "libc.a").read_bytes()).hexdigest()
     sums = (release / "SHA256SUMS").read_text().splitlines()
     scene.check("what it was linked with", f"# aarch64-linux is linked with musl 1.2.3, libc.a {digest}" in sums, True)
-    scene.check("what it is made of", made_of(source), [(f"bpftap-{name}.tar.gz", f"musl-{name}", digest) for name in sorted(NAMES)])
+    scene.check("what it is made of", made_of(source), [(f"bpftap-{name}.tar.xz", f"musl-{name}", digest) for name in sorted(NAMES)])
     same = b"the released program is what these sources give\n"
     scene.check("compared", source.run().err, same)
     first = [(release / name).read_bytes() for name in archives]
@@ -232,7 +232,7 @@ def the_launcher_needs_no_c_library(scene):
     also_released(clone, {"x86_64-linux-static": MADE.replace("a stand-in", "static")})
     there = root / "home" / "clone"
     shutil.move(clone.folder, there)
-    wanted = Seen(b"bpftap 1.2.3, static\nreleased, of bpftap-x86_64-linux-static.tar.gz\n", b"", 0)
+    wanted = Seen(b"bpftap 1.2.3, static\nreleased, of bpftap-x86_64-linux-static.tar.xz\n", b"", 0)
     call = lambda *words: in_root(root, "/home/clone/bpftap", *words)
     scene.check("the first call", call("--version"), wanted)
     scene.check("noted", sorted(path.name for path in (there / "out").iterdir()), ["noted", "released"])
@@ -246,9 +246,31 @@ def the_launcher_needs_no_c_library(scene):
 
 
 @case
+def a_note_of_another_c_library_is_not_taken(scene):
+    """A clone that machines share: what was noted where glibc is newer is not run where it is older, or where there is none."""
+    root = root_of(scene)
+    if root is None:
+        return
+    needs_new = MADE.replace("#!/bin/sh\n", "#!/bin/sh\nread -r has </lib64/ld-linux-x86-64.so.2 && [ \"$has\" = new ] || exit 1\n")
+    clone = Clone(scene, needs_new)
+    also_released(clone, {"x86_64-linux-static": MADE.replace("a stand-in", "static")})
+    shutil.move(clone.folder, root / "home" / "clone")
+    loader = root / "lib64" / "ld-linux-x86-64.so.2"
+    loader.parent.mkdir()
+    static = b"bpftap 1.2.3, static\nreleased, of bpftap-x86_64-linux-static.tar.xz\n"
+    for machine, has, wanted in [("new", "new\n", RELEASED), ("old", "old\n", static), ("new again", "new\n", RELEASED), ("none", None, static)]:
+        loader.unlink(missing_ok=True)
+        if has:
+            loader.write_text(has)
+        for call in ("first", "second"):
+            seen = in_root(root, "/home/clone/bpftap", "--version")
+            scene.check(f"{machine} glibc, the {call} call", seen, Seen(wanted, b"", 0))
+
+
+@case
 def the_static_program_runs_where_nothing_else_is(scene):
     """In a folder with nothing but a capture and the program, the released static one checks, explains and cuts."""
-    archive = ROOT / "release" / "bpftap-x86_64-linux-static.tar.gz"
+    archive = ROOT / "release" / "bpftap-x86_64-linux-static.tar.xz"
     if os.geteuid() != 0 or not archive.is_file():
         return scene.leave("only root can change the root folder" if archive.is_file() else "no static program is released")
     with tarfile.open(archive) as packed:

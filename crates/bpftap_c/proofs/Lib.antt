@@ -1,11 +1,12 @@
 pub mod Buffering
 pub mod EndedText
 pub mod FoundCut
+pub mod Hinting
+pub mod Joined
 pub mod Lending
 pub mod Played
 pub mod Prepared
 pub mod Rejecting
-pub mod UnreadText
-pub mod Stepping
-pub mod Joined
 pub mod SpanReading
+pub mod Stepping
+pub mod UnreadText

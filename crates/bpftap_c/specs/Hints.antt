@@ -1,7 +1,8 @@
 -- What helps to fix an expression that is refused.
-use Rattle.std.specs.Prelude.{◌≡◌, ◌⊎◌, ◌==◌, ◌&&◌, ◌||◌, ℕ, Bool, false, nat_le, List, [], ◌∷◌, ◌++◌, Option, Some, None, Result, Ok, Err, IsUtf8}
-use Rattle.filter_hints.specs.Advising.{second_line, sentence}
+use Rattle.std.specs.Prelude.{◌≡◌, ◌≢◌, ◌⊎◌, ◌==◌, ◌&&◌, ◌||◌, ℕ, Bool, true, false, nat_le, List, [], ◌∷◌, ◌++◌, Option, Some, None, Result, Ok, Err, IsUtf8}
+use Rattle.filter_hints.specs.Advising.{IsSaying, deep_relation, long_program, long_text, second_line, sentence}
 use Rattle.filter_hints.specs.declared.advice.Advice.{Advice}
+use Rattle.filter_hints.specs.declared.advice.Advice.TheVariants.{LongProgram}
 use Rattle.filtergen_facts.specs.declared.refusal.Refusal.{Refusal}
 use Rattle.filtergen_facts.specs.declared.refusal.Refusal.TheVariants as uncompiled
 use Rattle.filterlang.specs.declared.fault.Fault.{Fault}
@@ -36,8 +37,27 @@ with_second said (Some line) = said ++ 10 ∷ line
 abbrev pub Says : Advice → List ℕ → Type 0
 Says advice line = (said : List ℕ) → sentence advice ≡ Some said → line ≡ with_second said (second_line advice)
 
--- What helps; nothing for a number at which nothing does. Or the text is not UTF-8, or memory was refused.
+-- what helps at a fault of which the number alone says it: a text that is too long, a program that is too long, a relation that is too deep
+abbrev pub IsAdviceOn : ℕ → Option Advice → Type 0
+IsAdviceOn code None = (code ≢ text_code misread.TextTooLong) × (code ≢ tree_code uncompiled.TooLong) × (code ≢ tree_code uncompiled.TooDeep)
+IsAdviceOn code (Some advice) =
+    (code ≡ text_code misread.TextTooLong → IsSaying long_text advice)
+    × (code ≡ tree_code uncompiled.TooLong → advice ≡ LongProgram)
+    × (code ≡ tree_code uncompiled.TooDeep → IsSaying deep_relation advice)
+
+-- the text of a hint at a fault of which the number alone says it
+abbrev pub IsSettled : ℕ → List ℕ → Type 0
+IsSettled code line =
+    (code ≡ text_code misread.TextTooLong → line ≡ long_text)
+    × (code ≡ tree_code uncompiled.TooLong → line ≡ with_second long_program (second_line LongProgram))
+    × (code ≡ tree_code uncompiled.TooDeep → line ≡ deep_relation)
+
+-- There is a text exactly if something helps at faults with this number, and it is the one that is settled.
+abbrev pub IsHintOn : ℕ → List ℕ → Type 0
+IsHintOn code line = (has_hint code ≡ false → line ≡ []) × (has_hint code ≡ true → line ≢ []) × IsSettled code line
+
+-- What helps. Or the text is not UTF-8, or memory was refused.
 abbrev pub IsHinted : List ℕ → ℕ → Result (List ℕ) Failure → Type 0
-IsHinted text code (Ok line) = IsUtf8 text × (has_hint code ≡ false → line ≡ [])
+IsHinted text code (Ok line) = IsUtf8 text × IsHintOn code line
 IsHinted text code (Err NoMemory) = IsUtf8 text
 IsHinted text code (Err failure) = IsNotText text failure

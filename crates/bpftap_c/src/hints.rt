@@ -1,8 +1,8 @@
 //! What helps to fix an expression that is refused.
 
-ghost use Rattle.std.specs.Prelude.{◌≡◌, IfErr, IfNone, IfOk, IfSome, Result, List, [], false, string_bytes, ℕ};
+ghost use Rattle.std.specs.Prelude.{◌≡◌, ◌≢◌, IfErr, IfNone, IfOk, IfSome, Result, List, [], true, false, string_bytes, ℕ};
 ghost use Rattle.bpftap_c.specs.declared.outcome.Failure.{Failure};
-ghost use Rattle.bpftap_c.specs.Hints.{has_hint, IsHinted, IsNoRefusal, IsNoTextFault, IsPlaced, Says};
+ghost use Rattle.bpftap_c.specs.Hints.{has_hint, IsAdviceOn, IsHinted, IsHintOn, IsNoRefusal, IsNoTextFault, IsPlaced, IsSettled, Says};
 ghost use Rattle.bpftap_c.specs.Memory.{DeliversText};
 ghost use Rattle.bpftap_c.specs.Outcome.{text_code, tree_code};
 
@@ -13,6 +13,9 @@ use filter_hints::{Advice, advise, advise_refusal};
 use filtergen::Refusal;
 use filterlang::Fault;
 use std::alloc::{AllocError, Global};
+
+/// What is said of a fault with a hint for which an advice has no words.
+const EXPLAINED: &str = "docs/FAULTS.md explains each fault";
 
 /// The fault of a text that has this number, at this place.
 fn text_fault(code: u32, place: usize) -> Option<Fault>
@@ -55,7 +58,9 @@ fn advice_on<'a>(
     text: &'a str,
     code: u32,
     place: usize,
-) -> Result<Option<Advice<'a>>, AllocError> {
+) -> Result<Option<Advice<'a>>, AllocError>
+    ensures { IfOk result (λ found. IsAdviceOn code found) }
+{
     match (text_fault(code, place), refusal_of(code)) {
         (Some(fault), _) => advise(alloc, text, fault),
         (None, Some(refusal)) => Ok(advise_refusal(refusal)),
@@ -80,17 +85,29 @@ fn has_hint(code: u32) -> bool
     (32 <= code && code <= 43) || code == 48 || code == 49
 }
 
-/// What helps at a fault, as a text that is empty if nothing does.
-fn hint_on(alloc: Global, text: &str, code: u32, place: usize) -> Result<String, AllocError>
-    ensures { has_hint code ≡ false → IfOk result (λ line. string_bytes line ≡ []) }
+/// What helps at a fault, as a text; an empty one if there is no advice.
+fn advice_text(alloc: Global, text: &str, code: u32, place: usize) -> Result<String, AllocError>
+    ensures { IfOk result (λ line. IsSettled code (string_bytes line)) }
 {
-    if !has_hint(code) {
-        return Ok(String::new(alloc));
-    }
     match advice_on(alloc, text, code, place) {
         Ok(Some(advice)) => hint_of(alloc, advice),
         Ok(None) => Ok(String::new(alloc)),
         Err(AllocError) => Err(AllocError),
+    }
+}
+
+/// What helps at a fault, as a text that is empty exactly if nothing helps at faults with this number.
+fn hint_on(alloc: Global, text: &str, code: u32, place: usize) -> Result<String, AllocError>
+    ensures { IfOk result (λ line. IsHintOn code (string_bytes line)) }
+{
+    if !has_hint(code) {
+        return Ok(String::new(alloc));
+    }
+    let line = advice_text(alloc, text, code, place)?;
+    if line.is_empty() {
+        format!(in alloc; "{EXPLAINED}")
+    } else {
+        Ok(line)
     }
 }
 

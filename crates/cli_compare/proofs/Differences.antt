@@ -12,12 +12,12 @@ use Rattle.filter_explain.specs.Deciding.{verdict_text}
 use Rattle.filter_meaning.specs.declared.verdict.Verdict.{Verdict}
 use Rattle.cli_text.specs.Sending.{TakesPart}
 use Rattle.cli_text.specs.Telling.{end_of_line}
-use Rattle.cli_explain.specs.Answers.{answer, IsAnswer, PutsAnswer}
-use Rattle.cli_explain.specs.Printed.{packet_text}
+use Rattle.cli_answers.specs.Answers.{answer, IsAnswer, PutsAnswer}
+use Rattle.cli_answers.specs.Printed.{packet_text}
 use Rattle.cli_text.proofs.Taking.{TakesPart-then}
-use Rattle.cli_explain.specs.declared.each.Unprinted.{Unprinted}
-use Rattle.cli_explain.specs.declared.each.Unprinted.TheVariants.{NoMemory, Output}
-use Rattle.cli_explain.proofs.Answered.{all-more}
+use Rattle.cli_answers.specs.declared.printing.Unprinted.{Unprinted}
+use Rattle.cli_answers.specs.declared.printing.Unprinted.TheVariants.{NoMemory, Output}
+use Rattle.cli_answers.proofs.Reading.{all-more}
 use Rattle.cli_compare.specs.declared.each.DifferenceCounts.{DifferenceCounts}
 use Rattle.cli_compare.specs.declared.pair.Agreement.{Agreement}
 use Rattle.cli_compare.specs.declared.pair.Agreement.TheVariants.{Same, FirstOnly, SecondOnly}

@@ -6,7 +6,7 @@ use Rattle.savefile.specs.declared.header.Header.{Header}
 use Rattle.savefile.specs.declared.packet.Packet.{Packet}
 use Rattle.savefile.specs.Reader.{IsCause, WasBegun, WasRead}
 use Rattle.cli_text.specs.Sending.{TakesPart}
-use Rattle.cli_explain.specs.declared.each.Unprinted.{Unprinted}
+use Rattle.cli_answers.specs.declared.printing.Unprinted.{Unprinted}
 use Rattle.cli_compare.specs.declared.each.DifferenceCounts.{DifferenceCounts}
 use Rattle.cli_compare.specs.declared.pair.FilterPair.{FilterPair}
 use Rattle.cli_compare.specs.Compared.{PrintsDifferences}

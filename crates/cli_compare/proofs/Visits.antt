@@ -1,6 +1,6 @@
 -- A visit to one of several captures.
 use Rattle.std.proofs.Common.{◌≡◌, Bool, Result, ap, ◌∙◌}
-use Rattle.cli_explain.specs.declared.each.Unprinted.{Unprinted}
+use Rattle.cli_answers.specs.declared.printing.Unprinted.{Unprinted}
 use Rattle.cli_compare.specs.declared.captures.ComparedTotals.{ComparedTotals}
 use Rattle.cli_compare.specs.declared.each.DifferenceCounts.{DifferenceCounts}
 

@@ -1,8 +1,7 @@
 -- What is printed of two filters that are decided.
 use Rattle.std.proofs.Common.{◌≡◌, ℕ, Bool, List, [], ◌++◌, refl, sym, ap, ◌∙◌, subst}
-use Rattle.std.specs.Prelude.{Option, Some, None, option_map, codes, Result, Err, IfErr}
+use Rattle.std.specs.Prelude.{Option, codes, Result, Err, IfErr}
 use Rattle.savefile.specs.declared.packet.Packet.{Packet}
-use Rattle.filter_tree.specs.declared.tree.Expr.{Expr}
 use Rattle.filter_meaning.specs.declared.verdict.Verdict.{Verdict}
 use Rattle.filter_meaning.specs.Meaning.{Packet as Frame, Test}
 use Rattle.filter_explain.specs.Deciding.{verdict_text}
@@ -12,13 +11,12 @@ use Rattle.filter_same.specs.Same.{HoldsOf}
 use Rattle.std.specs.declared.io.Error.{Error}
 use Rattle.cli_text.specs.Sending.{TakesPart}
 use Rattle.cli_text.specs.Telling.{end_of_line}
-use Rattle.cli_explain.specs.declared.each.Unprinted.{Unprinted}
-use Rattle.cli_explain.specs.declared.each.Unprinted.TheVariants.{Output}
-use Rattle.cli_explain.specs.declared.filter.AskedFilter.{AskedFilter}
-use Rattle.cli_explain.specs.Answers.{Answer, answer, IsAnswer, PutsAnswer}
+use Rattle.cli_answers.specs.declared.printing.Unprinted.{Unprinted}
+use Rattle.cli_answers.specs.declared.printing.Unprinted.TheVariants.{Output}
+use Rattle.cli_answers.specs.Answers.{Answer, answer, IsAnswer, PutsAnswer}
 use Rattle.cli_compare.specs.declared.pair.FilterPair.{FilterPair}
 use Rattle.cli_compare.specs.Compared.{difference}
-use Rattle.cli_compare.specs.Deciding.{HoldsOfPair, IsText, IsUnanswered, PutsWitness, accepts_of, asked_accepts, asked_test, lengths_text, packet_of_witness, test_of}
+use Rattle.cli_compare.specs.Deciding.{HoldsOfPair, IsText, IsUnanswered, PutsWitness, lengths_text, packet_of_witness}
 
 -- both answers were put into the line of a witness
 pub witness-of : (pair : FilterPair) (w : Witness) (p : Packet) (old start one mid two line : List ℕ) (v u : Verdict) → p ≡ packet_of_witness w
@@ -34,13 +32,6 @@ witness-of pair w p old start one mid two line v u same begun (r, is, first) sec
 -- a witness, by the bytes of its slice
 pub witness-packet : (w : Witness) (bytes : List ℕ) → bytes ≡ w.bytes.items → record { sec = 0; nanos = 0; len = w.wire; bytes = bytes } ≡ packet_of_witness w
 witness-packet w bytes same = ap (λ (l : List ℕ). record { sec = 0; nanos = 0; len = w.wire; bytes = l }) same
-
--- a filter that is an expression, or only a program
-pub accepts-some : (filter : AskedFilter) (expr : Option Expr) → expr ≡ filter.expr → asked_accepts filter ≡ accepts_of expr filter.program
-accepts-some filter expr same = ap (λ (e : Option Expr). accepts_of e filter.program) (sym same)
-
-pub test-some : (filter : AskedFilter) (expr : Option Expr) → expr ≡ filter.expr → asked_test filter ≡ test_of expr filter.program
-test-some filter expr same = ap (λ (e : Option Expr). test_of e filter.program) (sym same)
 
 -- what holds of two filters holds of what accepts the same and says the same
 pub holds-as : (f g f' g' : Frame → Bool) (t u t' u' : Test) (s : Sameness) → f ≡ f' → t ≡ t' → g ≡ g' → u ≡ u' → HoldsOf f g t u s → HoldsOf f' g' t' u' s

@@ -3,7 +3,8 @@ use Rattle.std.specs.Prelude.{◌≡◌, ℕ, ◌||◌, Bool, false, List, Optio
 use Rattle.cli_walk.specs.declared.walk.Stop.{Stop}
 use Rattle.cli_walk.specs.declared.walk.Visited.{Visited}
 use Rattle.cli_walk.specs.Walking.{Walked, visited}
-use Rattle.cli_explain.specs.Captures.{goes_on, read_of, sum_of}
+use Rattle.cli_answers.specs.Counts.{sum_of}
+use Rattle.cli_answers.specs.Captures.{goes_on, read_of}
 use Rattle.cli_compare.specs.declared.captures.ComparedCaptures.{ComparedCaptures}
 use Rattle.cli_compare.specs.declared.captures.ComparedTotals.{ComparedTotals}
 use Rattle.cli_compare.specs.declared.each.Compared.{Compared}

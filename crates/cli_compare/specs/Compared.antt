@@ -6,10 +6,10 @@ use Rattle.savefile.specs.declared.header.Header.{Header}
 use Rattle.savefile.specs.declared.packet.Packet.{Packet}
 use Rattle.savefile.specs.Reader.{WasBegun}
 use Rattle.cli_text.specs.Sending.{TakesPart}
-use Rattle.cli_explain.specs.declared.each.Unprinted.{Unprinted}
-use Rattle.cli_explain.specs.declared.each.Unprinted.TheVariants as unprinted
-use Rattle.cli_explain.specs.Answers.{Answer, answer, IsAnswer}
-use Rattle.cli_explain.specs.Explained.{IsUnopened, ReadsTo}
+use Rattle.cli_answers.specs.declared.printing.Unprinted.{Unprinted}
+use Rattle.cli_answers.specs.declared.printing.Unprinted.TheVariants as unprinted
+use Rattle.cli_answers.specs.Answers.{Answer, answer, IsAnswer}
+use Rattle.cli_answers.specs.Reading.{IsUnopened, ReadsTo}
 use Rattle.cli_compare.specs.declared.each.Compared.{Compared}
 use Rattle.cli_compare.specs.declared.each.DifferenceCounts.{DifferenceCounts}
 use Rattle.cli_compare.specs.declared.pair.FilterPair.{FilterPair}

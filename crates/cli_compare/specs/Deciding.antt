@@ -3,8 +3,6 @@ use Rattle.std.specs.Prelude.{◌≡◌, ℕ, Bool, List, [], ◌++◌, length, 
 use Rattle.std.specs.Fmt.{decimal}
 use Rattle.std.specs.Io.KnownBytes.{Appends, Keeps}
 use Rattle.savefile.specs.declared.packet.Packet.{Packet}
-use Rattle.bpfvm.specs.declared.insn.Insn.{Insn}
-use Rattle.filter_tree.specs.declared.tree.Expr.{Expr}
 use Rattle.filterlang.specs.Trees.{tree_of}
 use Rattle.filter_meaning.specs.Meaning.{Packet as Frame, Test, accepts, meaning}
 use Rattle.filter_explain.specs.Deciding.{verdict_text}
@@ -19,10 +17,11 @@ use Rattle.cli_text.specs.declared.status.Status.{Status}
 use Rattle.cli_text.specs.declared.status.Status.TheVariants.{Clean, Negative, Undecided, Refused, Failed}
 use Rattle.cli_text.specs.Sending.{TakesPart}
 use Rattle.cli_text.specs.Telling.{end_of_line}
-use Rattle.cli_explain.specs.Dumps.{dump_text}
-use Rattle.cli_explain.specs.declared.filter.AskedFilter.{AskedFilter}
-use Rattle.cli_explain.specs.declared.each.Unprinted.{Unprinted}
-use Rattle.cli_explain.specs.declared.each.Unprinted.TheVariants.{NoMemory, Output}
+use Rattle.cli_answers.specs.Dumps.{dump_text}
+use Rattle.cli_answers.specs.declared.filter.AskedFilter.{AskedFilter}
+use Rattle.cli_answers.specs.declared.filter.AskedFilter.TheVariants.{Expression, Program}
+use Rattle.cli_answers.specs.declared.printing.Unprinted.{Unprinted}
+use Rattle.cli_answers.specs.declared.printing.Unprinted.TheVariants.{NoMemory, Output}
 use Rattle.cli_compare.specs.declared.pair.FilterPair.{FilterPair}
 use Rattle.cli_compare.specs.Compared.{IsOf}
 use Rattle.cli_compare.specs.Pairs.{Difference}
@@ -47,21 +46,15 @@ packet_of_witness w = record { sec = 0; nanos = 0; len = w.wire; bytes = w.bytes
 
 -- ---- Both filters
 
-abbrev pub accepts_of : Option Expr → List Insn → Frame → Bool
-accepts_of (Some expr) program = accepts (tree_of expr)
-accepts_of None program = keeps program
-
-abbrev pub test_of : Option Expr → List Insn → Test
-test_of (Some expr) program = meaning (tree_of expr)
-test_of None program = program_test program
-
--- a filter accepts a packet: its expression does, or else its program keeps bytes of it
+-- a filter accepts a packet: its expression does, or its program keeps bytes of it
 abbrev pub asked_accepts : AskedFilter → Frame → Bool
-asked_accepts filter = accepts_of filter.expr filter.program
+asked_accepts (Expression expr) = accepts (tree_of expr)
+asked_accepts (Program program) = keeps program
 
 -- what a filter says of a packet
 abbrev pub asked_test : AskedFilter → Test
-asked_test filter = test_of filter.expr filter.program
+asked_test (Expression expr) = meaning (tree_of expr)
+asked_test (Program program) = program_test program
 
 -- what an answer says of both filters
 abbrev pub HoldsOfPair : FilterPair → Sameness → Type 0

@@ -2,8 +2,8 @@
 use Rattle.std.specs.Prelude.{◌≡◌, ℕ, suc, ◌+◌, Bool, true, false, List, [], ◌∷◌, ◌++◌, length, map, filter}
 use Rattle.std.specs.List.{AllByRecursion}
 use Rattle.savefile.specs.declared.packet.Packet.{Packet}
-use Rattle.cli_explain.specs.Answers.{Answer, IsAnswer}
-use Rattle.cli_explain.specs.Seeking.{accepts}
+use Rattle.cli_answers.specs.Answers.{Answer, IsAnswer}
+use Rattle.cli_answers.specs.Seeking.{accepts}
 use Rattle.cli_compare.specs.declared.each.DifferenceCounts.{DifferenceCounts}
 use Rattle.cli_compare.specs.declared.pair.Agreement.{Agreement}
 use Rattle.cli_compare.specs.declared.pair.Agreement.TheVariants.{Same, FirstOnly, SecondOnly}

@@ -4,7 +4,7 @@ use Rattle.std.specs.Fmt.{decimal}
 use Rattle.std.specs.List.{flat_map}
 use Rattle.filter_explain.specs.Deciding.{verdict_text}
 use Rattle.cli_text.specs.Telling.{end_of_line}
-use Rattle.cli_explain.specs.Printed.{packet_text}
+use Rattle.cli_answers.specs.Printed.{packet_text}
 use Rattle.cli_compare.specs.Pairs.{Difference}
 
 -- `place P time S.NNNNNNNNN len W captured C first Yes REASON second No REASON`

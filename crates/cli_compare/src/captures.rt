@@ -7,8 +7,8 @@ ghost use Rattle.cli_compare.specs.Printed.{counts_text};
 
 use crate::each::{Compared, DifferenceCounts, compare_each, print_counts};
 use crate::pair::FilterPair;
-use cli_explain::captures::{goes_on, read_of};
-use cli_explain::each::Unprinted;
+use cli_answers::captures::{goes_on, read_of};
+use cli_answers::printing::Unprinted;
 use cli_walk::{Stop, Visited, Visitor, Walk, visit_captures};
 use savefile::Source;
 use std::alloc::Global;

@@ -11,7 +11,7 @@ ghost use Rattle.cli_compare.specs.Printed.{counts_text};
 
 use crate::line::{put_counts, put_difference};
 use crate::pair::{Agreement, FilterPair};
-use cli_explain::each::{Unprinted, send_last};
+use cli_answers::printing::{Unprinted, send_last};
 use cli_text::sending::send;
 use savefile::laws::given_so_far;
 use savefile::{Fault, PacketRef, Reader, Source};
@@ -90,7 +90,7 @@ impl DifferenceCounts {
 ///
 /// `place 2 time 1600000000.000000000 len 98 captured 98 first Yes tcp port 8080 second No 0 at 3: ret #0`: the packet's place in the
 /// capture, from 0, when it was captured, its length on the wire and how many bytes of it were captured; and what each filter answers and
-/// why, as [`explain_each`](cli_explain::each::explain_each) prints it. No and Abort are the same here, since both reject the packet.
+/// why, as `bpftap explain` prints it. No and Abort are the same here, since both reject the packet.
 /// `counts` are of all packets; [`print_counts`] prints them.
 ///
 /// Each line is sent before the next packet is read. `read` has the header's fault, and then nothing is printed; with
@@ -170,14 +170,7 @@ fn print_differences<R: Source, O: Write>(
             Ok(true) => {
                 // Where the printing breaks off, what was read so far begins what the capture holds.
                 given_so_far(reader);
-                match print_one(
-                    alloc,
-                    pair,
-                    counts.packets,
-                    &reader.packet(),
-                    &mut line,
-                    out,
-                ) {
+                match print_one(pair, counts.packets, &reader.packet(), &mut line, out) {
                     Ok(agreement) => counts.count(agreement),
                     Err(unprinted) => return outcome(counts, Ok(()), Err(unprinted)),
                 }
@@ -190,7 +183,6 @@ fn print_differences<R: Source, O: Write>(
 
 /// Prints the line of a packet, if it is treated differently.
 fn print_one<O: Write>(
-    alloc: Global,
     pair: &FilterPair,
     place: u64,
     packet: &PacketRef<'_>,
@@ -205,7 +197,7 @@ fn print_one<O: Write>(
     if !found.is_different() {
         return Ok(found);
     }
-    put_difference(alloc, line, pair, place, packet)?;
+    put_difference(line, pair, place, packet)?;
     send(line.as_bytes(), out)?;
     Ok(found)
 }

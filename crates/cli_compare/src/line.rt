@@ -7,13 +7,11 @@ ghost use Rattle.cli_compare.specs.Printed.{counts_text, difference_line};
 
 use crate::pair::FilterPair;
 use bpfvm::NoMemory;
-use cli_explain::line::{put_answer, put_packet};
+use cli_answers::line::{put_answer, put_packet};
 use savefile::PacketRef;
-use std::alloc::Global;
 
 /// Puts the line of a packet in place of what the line has: its place and time, and what each filter answers, and why.
 pub(crate) fn put_difference(
-    alloc: Global,
     line: &mut String,
     pair: &FilterPair,
     place: u64,
@@ -23,9 +21,9 @@ pub(crate) fn put_difference(
 {
     put_packet(line, place, packet)?;
     line.push_str("first ")?;
-    put_answer(alloc, line, &pair.first, packet)?;
+    put_answer(line, &pair.first, packet)?;
     line.push_str(" second ")?;
-    put_answer(alloc, line, &pair.second, packet)?;
+    put_answer(line, &pair.second, packet)?;
     line.push_str("\n")?;
     Ok(())
 }

@@ -3,8 +3,8 @@
 ghost use Rattle.std.specs.Prelude.{◌≡◌};
 ghost use Rattle.cli_compare.specs.Pairs.{agreement, differs, is_different};
 
-use cli_explain::AskedFilter;
-use cli_explain::seek::PacketTest;
+use cli_answers::AskedFilter;
+use cli_answers::seek::PacketTest;
 use savefile::PacketRef;
 
 /// Two filters that are compared.

@@ -4,8 +4,8 @@ ghost use Rattle.std.specs.Prelude.{◌≡◌};
 ghost use Rattle.cli_compare.specs.Deciding.{answer_status};
 ghost use Rattle.cli_compare.specs.Telling.{sameness_status};
 
-use cli_explain::each::Unprinted;
-use cli_explain::report::report_capture;
+use cli_answers::printing::Unprinted;
+use cli_answers::report::report_capture;
 use cli_text::Status;
 use cli_walk::Stop;
 use fault_report::FaultSink;

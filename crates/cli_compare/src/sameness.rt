@@ -6,10 +6,10 @@ ghost use Rattle.cli_compare.specs.Deciding.{HoldsOfPair, IsText, IsUnanswered, 
 
 use crate::pair::FilterPair;
 use bpfvm::NoMemory;
-use cli_explain::AskedFilter;
-use cli_explain::dump::put_dump;
-use cli_explain::each::{Unprinted, send_last};
-use cli_explain::line::put_answer;
+use cli_answers::AskedFilter;
+use cli_answers::dump::put_dump;
+use cli_answers::line::put_answer;
+use cli_answers::printing::{Unprinted, send_last};
 use filter_same::{Cause, Filter, Sameness, Witness, decide_filters};
 use savefile::PacketRef;
 use std::alloc::{AllocError, Global};
@@ -38,14 +38,14 @@ fn put_undecided(text: &mut String, budget: usize, cause: Cause) -> Result<(), A
     text.push_str("\n")
 }
 
-/// A filter as it is decided: its expression, or else its program.
+/// A filter as it is decided.
 fn filter_of(filter: &AskedFilter) -> Filter<'_>
     ensures accepts { filter_accepts result ≡ asked_accepts filter.now }
     ensures test { filter_test result ≡ asked_test filter.now }
 {
-    match filter.expression() {
-        Some(expr) => Filter::Expression(expr),
-        None => Filter::Program(filter.program()),
+    match filter {
+        AskedFilter::Expression(expr) => Filter::Expression(expr),
+        AskedFilter::Program(program) => Filter::Program(program),
     }
 }
 
@@ -58,12 +58,7 @@ fn put_lengths(text: &mut String, witness: &Witness) -> Result<(), AllocError>
 }
 
 /// Appends what both filters answer to a witness, and why.
-fn put_witness(
-    alloc: Global,
-    text: &mut String,
-    pair: &FilterPair,
-    witness: &Witness,
-) -> Result<(), NoMemory>
+fn put_witness(text: &mut String, pair: &FilterPair, witness: &Witness) -> Result<(), NoMemory>
     ensures { OnOk result (PutsWitness pair.now witness.now (string_bytes text.old) (string_bytes text.new)) }
 {
     let packet = PacketRef {
@@ -73,9 +68,9 @@ fn put_witness(
         bytes: witness.bytes.as_slice(),
     };
     put_lengths(text, witness)?;
-    put_answer(alloc, text, &pair.first, &packet)?;
+    put_answer(text, &pair.first, &packet)?;
     text.push_str(" second ")?;
-    put_answer(alloc, text, &pair.second, &packet)?;
+    put_answer(text, &pair.second, &packet)?;
     text.push_str("\n")?;
     Ok(())
 }
@@ -94,17 +89,12 @@ fn put_answer_line(text: &mut String, budget: usize, sameness: &Sameness) -> Res
 }
 
 /// Appends the line of the witness, if the answer has one.
-fn put_detail(
-    alloc: Global,
-    text: &mut String,
-    pair: &FilterPair,
-    sameness: &Sameness,
-) -> Result<(), NoMemory>
+fn put_detail(text: &mut String, pair: &FilterPair, sameness: &Sameness) -> Result<(), NoMemory>
     ensures { OnOk result (PutsDetail pair.now sameness.now (string_bytes text.old) (string_bytes text.new)) }
 {
     match sameness {
-        Sameness::Short(witness) => put_witness(alloc, text, pair, witness),
-        Sameness::Differ(witness) => put_witness(alloc, text, pair, witness),
+        Sameness::Short(witness) => put_witness(text, pair, witness),
+        Sameness::Differ(witness) => put_witness(text, pair, witness),
         Sameness::Same | Sameness::SameAsCaptured | Sameness::NotDecided(_) => Ok(()),
     }
 }
@@ -141,7 +131,7 @@ fn text_of(
 {
     let mut text = String::new(alloc);
     put_answer_line(&mut text, budget, sameness)?;
-    put_detail(alloc, &mut text, pair, sameness)?;
+    put_detail(&mut text, pair, sameness)?;
     let dump = dump_of(alloc, sameness)?;
     text.push_str(dump.as_str())?;
     Ok(text)

@@ -11,19 +11,17 @@ use Rattle.filter_meaning.specs.declared.verdict.Verdict.TheVariants.{Yes, No, A
 use Rattle.cli_text.specs.Sending.{TakesPart}
 use Rattle.cli_text.specs.Texts.{numbered}
 use Rattle.cli_text.proofs.Taking.{TakesPart-then}
-use Rattle.cli_explain.specs.declared.each.VerdictCounts.{VerdictCounts}
-use Rattle.cli_explain.specs.declared.each.Unprinted.{Unprinted}
-use Rattle.cli_explain.specs.declared.each.Unprinted.TheVariants.{NoMemory, Output}
-use Rattle.cli_explain.specs.declared.filter.AskedFilter.{AskedFilter}
-use Rattle.cli_explain.specs.declared.form.PacketForm.{PacketForm}
-use Rattle.cli_explain.specs.Answers.{Answer, answer}
+use Rattle.cli_answers.specs.declared.counts.VerdictCounts.{VerdictCounts}
+use Rattle.cli_answers.specs.declared.printing.Unprinted.{Unprinted}
+use Rattle.cli_answers.specs.declared.printing.Unprinted.TheVariants.{NoMemory, Output}
+use Rattle.cli_answers.specs.declared.filter.AskedFilter.{AskedFilter}
+use Rattle.cli_answers.specs.declared.form.PacketForm.{PacketForm}
+use Rattle.cli_answers.specs.Answers.{Answer, answer}
 use Rattle.cli_explain.specs.Forms.{IsAnswerIn, line_in}
-use Rattle.cli_explain.specs.Explained.{is_yes, is_no, is_abort, count_of, counted, AreCounts, answer_lines, packets_of, PrintsLine, IsLineBroken}
-
--- one more of them
-pub all-more : {X : Type 0} (P : X → Type 0) (xs : List X) (x : X) → AllByRecursion P xs → P x → AllByRecursion P (xs ++ x ∷ [])
-all-more P [] x all one = (one, tt)
-all-more P (y ∷ xs) x (first, all) one = (first, all-more P xs x all one)
+use Rattle.cli_answers.proofs.Counting.{counts-by}
+use Rattle.cli_answers.specs.Verdicts.{is_yes, is_no, is_abort}
+use Rattle.cli_answers.specs.Counts.{count_of, counted, AreCounts}
+use Rattle.cli_explain.specs.Explained.{answer_lines, packets_of, PrintsLine, IsLineBroken}
 
 numbered-last : {X : Type 0} (f : ℕ → X → List ℕ) (n : ℕ) (xs : List X) (x : X) → numbered f n (xs ++ x ∷ []) ≡ numbered f n xs ++ f (n + length xs) x
 numbered-last f n [] x =
@@ -41,58 +39,6 @@ lines-last form answers a place here =
 
 pub packets-last : (answers : List Answer) (a : Answer) → packets_of (answers ++ a ∷ []) ≡ packets_of answers ++ a.packet ∷ []
 packets-last answers a = map-append (λ (b : Answer). b.packet) answers (a ∷ [])
-
--- ---- The counts
-
-count-last : (is : Verdict → Bool) (answers : List Answer) (a : Answer) → count_of is (answers ++ a ∷ []) ≡ count_of is answers + count_of is (a ∷ [])
-count-last is answers a =
-    ap length (filter-append (λ (b : Answer). is b.verdict) answers (a ∷ []))
-    ∙ length-append (filter (λ (b : Answer). is b.verdict) answers) (filter (λ (b : Answer). is b.verdict) (a ∷ []))
-
-counts-by : (v : Verdict) (answers : List Answer) (p : Packet) (reason : List ℕ) (c : VerdictCounts) → AreCounts c answers → AreCounts (counted v c) (answers ++ answer p v reason ∷ [])
-counts-by Yes answers p reason c are = record {
-  packets = ap (λ n. n + 1) are.packets ∙ sym (length-append answers (answer p Yes reason ∷ []));
-  yes = ap (λ n. n + 1) are.yes ∙ sym (count-last is_yes answers (answer p Yes reason));
-  no = are.no ∙ omega (arith, count-last is_no answers (answer p Yes reason));
-  abort = are.abort ∙ omega (arith, count-last is_abort answers (answer p Yes reason));
-}
-counts-by No answers p reason c are = record {
-  packets = ap (λ n. n + 1) are.packets ∙ sym (length-append answers (answer p No reason ∷ []));
-  yes = are.yes ∙ omega (arith, count-last is_yes answers (answer p No reason));
-  no = ap (λ n. n + 1) are.no ∙ sym (count-last is_no answers (answer p No reason));
-  abort = are.abort ∙ omega (arith, count-last is_abort answers (answer p No reason));
-}
-counts-by Abort answers p reason c are = record {
-  packets = ap (λ n. n + 1) are.packets ∙ sym (length-append answers (answer p Abort reason ∷ []));
-  yes = are.yes ∙ omega (arith, count-last is_yes answers (answer p Abort reason));
-  no = are.no ∙ omega (arith, count-last is_no answers (answer p Abort reason));
-  abort = ap (λ n. n + 1) are.abort ∙ sym (count-last is_abort answers (answer p Abort reason));
-}
-
--- no count is above that of the packets
-pub counted-packets : (v : Verdict) (c : VerdictCounts) (before given : ℕ) → c.packets ≤ before → given ≡ before + 1 → (counted v c).packets ≤ given
-counted-packets Yes c before given few more = omega (arith, few, more)
-counted-packets No c before given few more = omega (arith, few, more)
-counted-packets Abort c before given few more = omega (arith, few, more)
-
--- and there is room for one more
-pub room-for-one : (packets before given : ℕ) → packets ≤ before → (given ≡ before + 1) × (given < 2 ^ 64) → packets + 1 < 2 ^ 64
-room-for-one packets before given few more = omega (arith, few, more.0, more.1)
-
-pub counted-yes : (v : Verdict) (c : VerdictCounts) → c.yes ≤ c.packets → (counted v c).yes ≤ (counted v c).packets
-counted-yes Yes c few = omega (arith, few)
-counted-yes No c few = omega (arith, few)
-counted-yes Abort c few = omega (arith, few)
-
-pub counted-no : (v : Verdict) (c : VerdictCounts) → c.no ≤ c.packets → (counted v c).no ≤ (counted v c).packets
-counted-no Yes c few = omega (arith, few)
-counted-no No c few = omega (arith, few)
-counted-no Abort c few = omega (arith, few)
-
-pub counted-abort : (v : Verdict) (c : VerdictCounts) → c.abort ≤ c.packets → (counted v c).abort ≤ (counted v c).packets
-counted-abort Yes c few = omega (arith, few)
-counted-abort No c few = omega (arith, few)
-counted-abort Abort c few = omega (arith, few)
 
 -- ---- One packet more
 

@@ -1,6 +1,4 @@
 pub mod Answered
 pub mod Printing
-pub mod Seeking
 pub mod Ranging
-pub mod Rows
 pub mod Visits

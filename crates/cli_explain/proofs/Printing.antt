@@ -1,9 +1,9 @@
 -- How the printing of a capture ends.
 use Rattle.std.proofs.Common.{◌≡◌, ◌≢◌, ◌↔◌, ℕ, ◌+◌, ◌^◌, ◌<◌, ◌⊎◌, inl, inr, Bool, true, false, List, [], ◌∷◌, ◌++◌, length, Option, Some, None, Result, Ok, Err, IfErr, refl, ap, sym, subst, ◌∙◌, arith}
-use Rattle.std.specs.Prelude.{is_err}
+use Rattle.std.specs.Prelude.{is_err, IsErr, IsOk}
 use Rattle.std.proofs.lemmas.Bool.{cases_eq}
 use Rattle.std.proofs.KnownBytes.{Appends-trans, Appends-kept}
-use Rattle.std.specs.Io.KnownBytes.{Appends, Consumes}
+use Rattle.std.specs.Io.KnownBytes.{Appends, Keeps}
 use Rattle.std.specs.List.{AllByRecursion}
 use Rattle.savefile.specs.declared.fault.Fault.{Fault}
 use Rattle.savefile.specs.declared.fault.Fault.TheVariants.{Device, NoMemory}
@@ -13,23 +13,19 @@ use Rattle.savefile.specs.Reader.{HasGiven, IsCause, Leaves, Lends, Reading, Was
 use Rattle.filter_meaning.specs.declared.verdict.Verdict.{Verdict}
 use Rattle.cli_text.specs.Sending.{Takes, TakesPart}
 use Rattle.cli_text.proofs.Taking.{TakesPart-more, TakesPart-then}
-use Rattle.cli_explain.specs.declared.each.VerdictCounts.{VerdictCounts}
-use Rattle.cli_explain.specs.declared.each.Unprinted.{Unprinted}
-use Rattle.cli_explain.specs.declared.each.Unprinted.TheVariants as unprinted
-use Rattle.cli_explain.specs.declared.filter.AskedFilter.{AskedFilter}
+use Rattle.cli_answers.specs.declared.counts.VerdictCounts.{VerdictCounts}
+use Rattle.cli_answers.specs.declared.printing.Unprinted.{Unprinted}
+use Rattle.cli_answers.specs.declared.printing.Unprinted.TheVariants as unprinted
+use Rattle.cli_answers.specs.declared.filter.AskedFilter.{AskedFilter}
+use Rattle.cli_explain.specs.declared.each.Explained.{Explained}
 use Rattle.cli_explain.specs.declared.one.Found.{Found}
-use Rattle.cli_explain.specs.declared.form.PacketForm.{PacketForm}
-use Rattle.cli_explain.specs.declared.form.PacketForm.TheVariants.{Text, Json}
-use Rattle.cli_explain.specs.Answers.{Answer, answer, answer_line}
-use Rattle.cli_explain.specs.Forms.{IsAnswerIn, counts_in}
-use Rattle.cli_explain.specs.Explained.{is_yes, is_no, is_abort, count_of, AreCounts, counts_line, answer_lines, packets_of, IsLineBroken, IsUnopened, PrintsLine, PrintsLines, PrintsAll, PrintsFound, PrintsMore, PrintsWhole, GoesTo, Finds}
-
--- the header was not read
-pub unopened : {R : Type 0} (left : R → Option (List ℕ)) (from back : R) (fault : Fault) → WasRefused (left from) fault ⊎ (fault ≡ Device) ⊎ (fault ≡ NoMemory) →
-    (fault ≡ NoMemory → back ≡ from) → (bytes : List ℕ) × Consumes (left from) (left back) bytes × (fault ≡ Device → length bytes < 24) → IsUnopened left from back fault
-unopened left from back fault (inl refused) kept given = inl refused
-unopened left from back fault (inr (inl device)) kept (bytes, gave, short) = inr (inl (device, bytes, gave, short device))
-unopened left from back fault (inr (inr wanting)) kept given = inr (inr (wanting, kept wanting))
+use Rattle.cli_answers.specs.declared.form.PacketForm.{PacketForm}
+use Rattle.cli_answers.specs.declared.form.PacketForm.TheVariants.{Text, Json}
+use Rattle.cli_explain.specs.Printed.{answer_line}
+use Rattle.cli_answers.specs.Answers.{Answer, answer}
+use Rattle.cli_answers.specs.Counts.{counts_in, AreCounts}
+use Rattle.cli_explain.specs.Forms.{IsAnswerIn}
+use Rattle.cli_explain.specs.Explained.{counts_line, answer_lines, packets_of, Explains, ExplainsLines, IsLineBroken, PrintsLine, PrintsLines, PrintsAll, PrintsFound, PrintsMore, PrintsWhole, GoesTo, Finds}
 
 -- it broke off
 pub broken-off : {A : Type 0} (form : PacketForm) (f : AskedFilter) (from left : Option (List ℕ)) (header : Header) (old new : Option (List ℕ)) (c : VerdictCounts) (read : Result A Fault) (done : Result A Unprinted) (x : A) (u : Unprinted) (told : List Answer) →
@@ -79,24 +75,24 @@ lines-and-counts form f from left header old mid new c read (Ok x) (Err u) went 
     let same : counts_in form c.packets c.yes c.no c.abort ≡ counts_line form answers = rw (are.packets, are.yes, are.no, are.abort) refl in
     inr (answers, all, reads, (mid, lines, subst (TakesPart mid new) same taken))
 
--- ---- One packet more
+-- the lines, and then the counts, if all lines were printed
+all-of : {A : Type 0} (form : PacketForm) (f : AskedFilter) (from left : Option (List ℕ)) (header : Header) (old mid new : Option (List ℕ)) (c : VerdictCounts) (read : Result A Fault) (done told : Result A Unprinted) →
+    PrintsLines form f from left header old mid c read done → (IsErr done → (told ≡ done) × (new ≡ mid)) → (IsOk done → Takes mid new told (counts_in form c.packets c.yes c.no c.abort)) →
+    PrintsAll form f from left header old new c read told
+all-of form f from left header old mid new c read (Ok x) told lines failed prints = lines-and-counts form f from left header old mid new c read (Ok x) told refl lines (prints refl)
+all-of form f from left header old mid new c read (Err u) told lines failed prints =
+    let (same, stays) = failed refl in rw (same, stays) (lines-alone form f from left header old mid c read (Err u) refl lines)
 
--- where a source gave one more, it did not fail
-pub still-works : (a b start : ℕ) (result : Result Bool Fault) → (a ≢ b → result ≡ Err Device) → result ≡ Ok true → b ≡ start → a ≡ start
-still-works a b start result tells is before = elim (cases_eq a b) [
-  | inl same ↦ same ∙ before
-  | inr differs ↦ let clash : ◌≡◌ {A = Result Bool Fault} (Ok true) (Err Device) = sym is ∙ tells differs in absurd cc
-]
-
--- and a reading that went well tells so
-pub works-on : {A : Type 0} (read : Result A Fault) (x : A) (a b : ℕ) → read ≡ Ok x → a ≡ b → (read ≡ Err Device) ↔ (a ≢ b)
-works-on {A} read x a b is same = (λ broke. let clash : ◌≡◌ {A = Result A Fault} (Ok x) (Err Device) = sym is ∙ broke in absurd cc, λ differs. absurd (differs same))
-
--- one more was given, and no more than can be counted
-pub gave-more : {R : Type 0} (old new : Reading R) (result : Result Bool Fault) → Leaves old new result → result ≡ Ok true → (new.given ≡ old.given + 1) × (new.given < 2 ^ 64)
-gave-more old new (Ok true) (goes, one, fits) is = (one, fits)
-gave-more old new (Ok false) leaves is = absurd (cc)
-gave-more old new (Err fault) leaves is = absurd (cc)
+-- the same of a capture whose header may not be read
+pub each-of : {R : Type 0} (left : R → Option (List ℕ)) (from : R) (form : PacketForm) (f : AskedFilter) (old mid new : Option (List ℕ)) (e : Explained R) (told : Result (Unit {0}) Unprinted) →
+    ExplainsLines left from form f old mid e → (e.opened ≡ false → (told ≡ e.printed) × (new ≡ mid)) → (IsErr e.printed → (told ≡ e.printed) × (new ≡ mid)) →
+    (e.opened ≡ true → IsOk e.printed → Takes mid new told (counts_in form e.counts.packets e.counts.yes e.counts.no e.counts.abort)) →
+    Explains left from form f old new (record { source = e.source; opened = e.opened; counts = e.counts; read = e.read; printed = told })
+each-of left from form f old mid new e told (inl (fault, unread, err, ok, kept, are, closed)) none failed prints =
+    let (same, stays) = none closed in
+    inl (fault, unread, err, subst IsOk (sym same) ok, subst (Keeps old) (sym stays) kept, are, closed)
+each-of left from form f old mid new e told (inr (opened, header, lines)) none failed prints =
+    inr (opened, header, all-of form f (left from) (left e.source) header old mid new e.counts e.read e.printed told lines failed (prints opened))
 
 -- ---- One packet
 

@@ -6,8 +6,8 @@ use Rattle.savefile.specs.declared.fault.Fault.{Fault}
 use Rattle.savefile.specs.declared.header.Header.{Header}
 use Rattle.savefile.specs.declared.packet.Packet.{Packet}
 use Rattle.savefile.specs.Reader.{HasGiven, IsCause, Reading, WasBegun, WasRead}
-use Rattle.cli_explain.specs.declared.each.Unprinted.{Unprinted}
-use Rattle.cli_explain.specs.declared.filter.AskedFilter.{AskedFilter}
+use Rattle.cli_answers.specs.declared.printing.Unprinted.{Unprinted}
+use Rattle.cli_answers.specs.declared.filter.AskedFilter.{AskedFilter}
 use Rattle.cli_explain.specs.Explained.{GoesTo, PrintsWhole}
 use Rattle.cli_explain.specs.Range.{PrintsOne, PrintsEach, PrintsRange, ShowsRange}
 

@@ -2,61 +2,29 @@
 use Rattle.std.specs.Prelude.{◌≡◌, ℕ, ◌-◌, ◌+◌, ◌^◌, ◌<◌, ◌≤◌, ◌⊎◌, Bool, true, false, List, [], ◌∷◌, ◌++◌, length, map, filter, Option, Some, None, Result, Ok, Err, IsOk, IsErr, IsErrOf, MatchResult, codes}
 use Rattle.std.specs.Fmt.{decimal}
 use Rattle.std.specs.List.{AllByRecursion}
-use Rattle.std.specs.Io.KnownBytes.{Appends, Consumes, Keeps}
+use Rattle.std.specs.Io.KnownBytes.{Appends, Keeps}
 use Rattle.savefile.specs.declared.fault.Fault.{Fault}
-use Rattle.savefile.specs.declared.fault.Fault.TheVariants.{CountFull, Device, NoMemory}
 use Rattle.savefile.specs.declared.header.Header.{Header}
 use Rattle.savefile.specs.declared.packet.Packet.{Packet}
-use Rattle.savefile.specs.Reader.{HasGiven, IsCause, Reading, WasBegun, WasRead, WasRefused, WasTaken}
+use Rattle.savefile.specs.Reader.{HasGiven, IsCause, Reading, WasBegun, WasRead}
 use Rattle.filter_meaning.specs.declared.verdict.Verdict.{Verdict}
 use Rattle.filter_meaning.specs.declared.verdict.Verdict.TheVariants.{Yes, No, Abort}
 use Rattle.cli_text.specs.Sending.{TakesPart}
-use Rattle.cli_text.specs.Telling.{end_of_line}
 use Rattle.cli_text.specs.Texts.{numbered}
-use Rattle.cli_explain.specs.declared.each.VerdictCounts.{VerdictCounts}
+use Rattle.cli_answers.specs.declared.counts.VerdictCounts.{VerdictCounts}
 use Rattle.cli_explain.specs.declared.each.Explained.{Explained}
-use Rattle.cli_explain.specs.declared.each.Unprinted.{Unprinted}
-use Rattle.cli_explain.specs.declared.each.Unprinted.TheVariants as unprinted
+use Rattle.cli_answers.specs.declared.printing.Unprinted.{Unprinted}
+use Rattle.cli_answers.specs.declared.printing.Unprinted.TheVariants as unprinted
 use Rattle.cli_explain.specs.declared.one.Found.{Found}
-use Rattle.cli_explain.specs.declared.filter.AskedFilter.{AskedFilter}
-use Rattle.cli_explain.specs.declared.form.PacketForm.{PacketForm}
-use Rattle.cli_explain.specs.declared.form.PacketForm.TheVariants.{Text}
-use Rattle.cli_explain.specs.Answers.{Answer, answer, IsAnswer, answer_line}
-use Rattle.cli_explain.specs.Forms.{IsAnswerIn, counts_in, line_in}
-
--- ---- The counts
-
-abbrev pub is_yes : Verdict → Bool
-is_yes Yes = true
-is_yes No = false
-is_yes Abort = false
-
-abbrev pub is_no : Verdict → Bool
-is_no Yes = false
-is_no No = true
-is_no Abort = false
-
-abbrev pub is_abort : Verdict → Bool
-is_abort Yes = false
-is_abort No = false
-is_abort Abort = true
-
--- how many answers are of a kind
-abbrev pub count_of : (Verdict → Bool) → List Answer → ℕ
-count_of is answers = length (filter (λ a. is a.verdict) answers)
-
--- how many packets were answered, and how many of them Yes, No and Abort
-pub record AreCounts (counts : VerdictCounts) (answers : List Answer) : Type 0 where
-  pub packets : counts.packets ≡ length answers
-  pub yes : counts.yes ≡ count_of is_yes answers
-  pub no : counts.no ≡ count_of is_no answers
-  pub abort : counts.abort ≡ count_of is_abort answers
-
--- one packet more was answered so
-abbrev pub counted : Verdict → VerdictCounts → VerdictCounts
-counted Yes c = record { packets = c.packets + 1; yes = c.yes + 1; no = c.no; abort = c.abort }
-counted No c = record { packets = c.packets + 1; yes = c.yes; no = c.no + 1; abort = c.abort }
-counted Abort c = record { packets = c.packets + 1; yes = c.yes; no = c.no; abort = c.abort + 1 }
+use Rattle.cli_answers.specs.declared.filter.AskedFilter.{AskedFilter}
+use Rattle.cli_answers.specs.declared.form.PacketForm.{PacketForm}
+use Rattle.cli_answers.specs.declared.form.PacketForm.TheVariants.{Text}
+use Rattle.cli_answers.specs.Verdicts.{is_yes, is_no, is_abort}
+use Rattle.cli_answers.specs.Answers.{Answer, answer, IsAnswer}
+use Rattle.cli_answers.specs.Counts.{AreCounts, count_of, counts_in}
+use Rattle.cli_answers.specs.Reading.{IsUnopened, ReadsTo}
+use Rattle.cli_explain.specs.Forms.{IsAnswerIn, line_in}
+use Rattle.cli_explain.specs.Printed.{answer_line}
 
 -- ---- What is printed
 
@@ -83,28 +51,6 @@ Prints form old new answers counts done =
 -- the packets that were answered
 abbrev pub packets_of : List Answer → List Packet
 packets_of answers = map (λ a. a.packet) answers
-
--- how the reading of a capture with this fault or none ends
-abbrev pub IsEnd : {A : Type 0} → Option Fault → Result A Fault → Type 0
-IsEnd None read = IsOk read
-IsEnd (Some fault) read = IsErrOf read fault
-
--- Up to which packets a capture was read, and how that ended. It was read to its end, or to its first torn or bad record; or the
--- source broke, and what it had given stops behind these packets; or no more can be counted.
-abbrev pub ReadsTo : {A : Type 0} → Option (List ℕ) → Option (List ℕ) → Header → List Packet → Result A Fault → Type 0
-ReadsTo from left header packets read =
-    ((fault : Option Fault) × WasRead from header packets fault × IsEnd fault read)
-    ⊎ (WasBegun from header packets
-    × ((IsErrOf read Device × WasTaken from left header packets)
-    ⊎ (IsErrOf read CountFull × (length packets ≡ 2 ^ 64 - 1))))
-
--- Why no header was read, of a source that is now `back`: it is refused; or the source broke before it had given the 24 bytes of one;
--- or memory was wanting, and the source is as it was.
-abbrev pub IsUnopened : {R : Type 0} → (R → Option (List ℕ)) → R → R → Fault → Type 0
-IsUnopened left from back fault =
-    WasRefused (left from) fault
-    ⊎ ((fault ≡ Device) × (given : List ℕ) × Consumes (left from) (left back) given × (length given < 24))
-    ⊎ ((fault ≡ NoMemory) × (back ≡ from))
 
 -- ---- A capture
 

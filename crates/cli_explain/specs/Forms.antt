@@ -4,7 +4,6 @@ use Rattle.std.specs.Fmt.{decimal}
 use Rattle.savefile.specs.declared.packet.Packet.{Packet}
 use Rattle.bpfvm.specs.declared.insn.Insn.{Insn}
 use Rattle.bpfvm.specs.Images.{brief_text}
-use Rattle.filter_tree.specs.declared.tree.Expr.{Expr}
 use Rattle.filterlang.specs.Trees.{Tree, tree_of}
 use Rattle.filter_meaning.specs.declared.cause.AbortCause.{AbortCause}
 use Rattle.filter_meaning.specs.declared.cause.AbortCause.TheVariants.{NotCaptured, ZeroDivisor}
@@ -15,11 +14,13 @@ use Rattle.filter_explain.specs.Asking.{Question, IsLast, questions}
 use Rattle.filter_explain.specs.Deciding.{part_text}
 use Rattle.cli_json.specs.Strings.{json_string}
 use Rattle.cli_text.specs.Telling.{end_of_line}
-use Rattle.cli_explain.specs.declared.filter.AskedFilter.{AskedFilter}
-use Rattle.cli_explain.specs.declared.form.PacketForm.{PacketForm}
-use Rattle.cli_explain.specs.declared.form.PacketForm.TheVariants.{Text, Json}
-use Rattle.cli_explain.specs.Printed.{counts_text}
-use Rattle.cli_explain.specs.Answers.{Answer, answer, EndsRunAs, IsAnswer, answer_line, frame_of}
+use Rattle.cli_answers.specs.declared.filter.AskedFilter.{AskedFilter}
+use Rattle.cli_answers.specs.declared.filter.AskedFilter.TheVariants.{Expression, Program}
+use Rattle.cli_answers.specs.declared.form.PacketForm.{PacketForm}
+use Rattle.cli_answers.specs.declared.form.PacketForm.TheVariants.{Text, Json}
+use Rattle.cli_answers.specs.Counts.{counts_text}
+use Rattle.cli_explain.specs.Printed.{answer_line}
+use Rattle.cli_answers.specs.Answers.{Answer, answer, EndsRunAs, IsAnswer, frame_of}
 
 -- ---- The parts of an object
 
@@ -81,14 +82,15 @@ pub record DecidesInJson (tree : Tree) (a : Answer) : Type 0 where
   pub decides : IsLast last (questions false tree (frame_of a.packet))
   pub told : a.reason ≡ question_json last
 
-abbrev pub IsJsonAnswerOf : Option Expr → List Insn → Answer → Type 0
-IsJsonAnswerOf (Some expr) program a = DecidesInJson (tree_of expr) a
-IsJsonAnswerOf None program a = EndsRunAs end_json program a
+-- what a filter answers
+abbrev pub IsJsonAnswer : AskedFilter → Answer → Type 0
+IsJsonAnswer (Expression expr) a = DecidesInJson (tree_of expr) a
+IsJsonAnswer (Program program) a = EndsRunAs end_json program a
 
 -- what a filter answers, with the reason in this form
 abbrev pub IsAnswerIn : PacketForm → AskedFilter → Answer → Type 0
 IsAnswerIn Text filter a = IsAnswer filter a
-IsAnswerIn (Json capture) filter a = IsJsonAnswerOf filter.expr filter.program a
+IsAnswerIn (Json capture) filter a = IsJsonAnswer filter a
 
 -- after what stood in a line, a verdict and its reason were put
 abbrev pub PutsInJson : List ℕ → List ℕ → (Answer → Type 0) → Packet → Verdict → Type 0
@@ -105,18 +107,3 @@ answer_json capture place a = packet_json capture place a.packet ++ verdict_json
 abbrev pub line_in : PacketForm → ℕ → Answer → List ℕ
 line_in Text place a = answer_line place a
 line_in (Json capture) place a = answer_json capture place a
-
--- `{"packets":N,"yes":Y,"no":N,"abort":A}`
-unfoldable pub counts_json : (packets accepted rejected aborted : ℕ) → List ℕ
-counts_json packets accepted rejected aborted = codes "{\"packets\":" ++ decimal packets ++ codes ",\"yes\":" ++ decimal accepted
-    ++ codes ",\"no\":" ++ decimal rejected ++ codes ",\"abort\":" ++ decimal aborted ++ codes "}" ++ end_of_line
-
--- the line of the counts
-abbrev pub counts_in : PacketForm → (packets accepted rejected aborted : ℕ) → List ℕ
-counts_in Text packets accepted rejected aborted = counts_text packets accepted rejected aborted
-counts_in (Json capture) packets accepted rejected aborted = counts_json packets accepted rejected aborted
-
--- the form of the lines of the capture of this number
-abbrev pub of_capture : PacketForm → ℕ → PacketForm
-of_capture Text number = Text
-of_capture (Json capture) number = Json number

@@ -1,10 +1,6 @@
-pub mod Filter
-pub mod Dumps
-pub mod Answers
 pub mod Printed
 pub mod Forms
 pub mod Explained
 pub mod Telling
-pub mod Seeking
 pub mod Captures
 pub mod Range

@@ -5,10 +5,11 @@ use Rattle.savefile.specs.declared.fault.Fault.{Fault}
 use Rattle.savefile.specs.declared.header.Header.{Header}
 use Rattle.savefile.specs.declared.packet.Packet.{Packet}
 use Rattle.savefile.specs.Reader.{IsCause, WasBegun, WasRead}
-use Rattle.cli_explain.specs.declared.each.Unprinted.{Unprinted}
-use Rattle.cli_explain.specs.declared.filter.AskedFilter.{AskedFilter}
+use Rattle.cli_answers.specs.declared.printing.Unprinted.{Unprinted}
+use Rattle.cli_answers.specs.declared.filter.AskedFilter.{AskedFilter}
 use Rattle.cli_explain.specs.declared.one.Found.{Found}
-use Rattle.cli_explain.specs.Explained.{IsUnopened, PrintsWhole}
+use Rattle.cli_answers.specs.Reading.{IsUnopened}
+use Rattle.cli_explain.specs.Explained.{PrintsWhole}
 
 -- one packet was printed in full
 abbrev pub PrintsOne : AskedFilter → ℕ → Packet → Option (List ℕ) → Option (List ℕ) → Type 0

@@ -1,14 +1,17 @@
 //! `bpftap explain`, over files.
 
-use crate::captures::{
-    ExplainedCaptures, SoughtCaptures, explain_captures, find_in_captures, print_totals,
-};
-use crate::hints::{hint_capture, hint_place, hint_stop};
+use crate::FilterWithProgram;
+use crate::captures::{ExplainedCaptures, explain_captures, print_totals};
+use crate::hints::hint_place;
 use crate::paths::check_paths;
 use crate::plan::read_filter;
 use crate::range::explain_range;
-use crate::report::{report_captures, report_one, report_sought};
-use crate::{AskedFilter, PacketForm};
+use crate::report::{report_one, report_sought};
+use bpfvm::Program;
+use cli_answers::captures::{SoughtCaptures, find_in_captures};
+use cli_answers::hints::{hint_capture, hint_stop};
+use cli_answers::report::report_captures;
+use cli_answers::{AskedFilter, PacketForm};
 use cli_args::explain::ExplainWords;
 use cli_args::places::PlaceRange;
 use cli_files::captures::output_buffer;
@@ -21,6 +24,7 @@ use cli_watch::hints::{hint_unseen, is_asked};
 use cli_watch::output::WatchedOutput;
 use cli_watch::{Screen, Watch};
 use fault_report::reporting::report_memory;
+use filtergen::{Refusal, compile};
 use std::alloc::Global;
 use std::fs::Files;
 use std::io::{Read, Write};
@@ -50,19 +54,26 @@ fn prepare<'w, 'a, 'r, R: Files + AllocGlobal + Screen, E: HintSink>(
     })
 }
 
+/// Which packets of each capture are explained in full, and by what.
+#[derive(Clone, Copy)]
+struct InFull<'f, 'p> {
+    filter: FilterWithProgram<'f, 'p>,
+    places: PlaceRange,
+}
+
 /// Prints the packets of a range of places of the capture of this number in full, and reports how that ended; `Err` if no further capture is
 /// read.
 fn explain_places_of<F: Screen, R: Read + Drop, O: Write, E: HintSink>(
     job: &Job<'_, '_, '_, F>,
-    places: PlaceRange,
+    asked: &InFull<'_, '_>,
     number: usize,
     input: ProbedInput<R>,
     out: &mut O,
     err: &mut E,
 ) -> Result<Status, Status> {
     let paths = job.words.inputs.as_slice();
-    let PlaceRange { first, last } = places;
-    let found = explain_range(job.alloc, input, &job.filter, first, last, out);
+    let PlaceRange { first, last } = asked.places;
+    let found = explain_range(job.alloc, input, &asked.filter, first, last, out);
     let (read, is_printed) = (found.read, found.printed.is_ok());
     job.watch.erase();
     let status = report_one(&found, first, paths, number, err);
@@ -80,7 +91,33 @@ fn explain_places_of<F: Screen, R: Read + Drop, O: Write, E: HintSink>(
     }
 }
 
-/// Prints the packets of a range of places of each capture in full.
+/// Prints these packets of each capture in full.
+fn explain_in_full<F: Screen, R: Read + Drop, O: Write, E: HintSink>(
+    job: &Job<'_, '_, '_, F>,
+    asked: &InFull<'_, '_>,
+    captures: Vec<ProbedInput<R>>,
+    out: &mut O,
+    err: &mut E,
+) -> Status {
+    let mut status = Status::Clean;
+    for (number, input) in captures.into_iter().enumerate() {
+        match explain_places_of(job, asked, number, input, out, err) {
+            Ok(one) => status = status.max(one),
+            Err(one) => return status.max(one),
+        }
+    }
+    status
+}
+
+/// What an expression is compiled to, or why it is not.
+fn program_of(compiled: &Result<Program, Refusal>) -> Result<&Program, Refusal> {
+    match compiled {
+        Ok(program) => Ok(program),
+        Err(refusal) => Err(*refusal),
+    }
+}
+
+/// Prints the packets of a range of places of each capture in full, with the run of the filter's program.
 fn explain_places<F: Screen, R: Read + Drop, O: Write, E: HintSink>(
     job: &Job<'_, '_, '_, F>,
     places: PlaceRange,
@@ -88,14 +125,20 @@ fn explain_places<F: Screen, R: Read + Drop, O: Write, E: HintSink>(
     out: &mut O,
     err: &mut E,
 ) -> Status {
-    let mut status = Status::Clean;
-    for (number, input) in captures.into_iter().enumerate() {
-        match explain_places_of(job, places, number, input, out, err) {
-            Ok(one) => status = status.max(one),
-            Err(one) => return status.max(one),
+    let filter = &job.filter;
+    match filter {
+        AskedFilter::Expression(expr) => {
+            let compiled = compile(expr, job.words.snap);
+            let program = program_of(&compiled);
+            let filter = FilterWithProgram { filter, program };
+            explain_in_full(job, &InFull { filter, places }, captures, out, err)
+        }
+        AskedFilter::Program(program) => {
+            let program = Ok(program);
+            let filter = FilterWithProgram { filter, program };
+            explain_in_full(job, &InFull { filter, places }, captures, out, err)
         }
     }
-    status
 }
 
 /// The form of the lines that the arguments ask for.

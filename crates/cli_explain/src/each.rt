@@ -1,61 +1,23 @@
 //! A line for each packet of a capture: the function under `bpftap explain`.
 
-ghost use Rattle.std.specs.Prelude.{◌≡◌, ◌≢◌, ◌↔◌, ◌<◌, ◌≤◌, ◌+◌, ◌^◌, ℕ, List, Option, [], Err, IfOk, IfErr, OnOk, string_bytes};
+ghost use Rattle.std.specs.Prelude.{◌≡◌, ◌≢◌, ◌↔◌, ℕ, List, Option, [], Err, IfOk, IfErr};
 ghost use Rattle.std.specs.Io.KnownBytes.{Consumes};
 ghost use Rattle.savefile.specs.declared.header.Header.{Header};
 ghost use Rattle.savefile.specs.Reader.{HasGiven};
-ghost use Rattle.cli_text.specs.Sending.{Takes};
-ghost use Rattle.cli_explain.specs.Captures.{plus};
-ghost use Rattle.cli_explain.specs.declared.each.Unprinted.TheVariants.{NoMemory, Output};
-ghost use Rattle.cli_explain.specs.Explained.{Explains, ExplainsLines, PrintsAll, PrintsLines, PrintsLine, IsLineBroken, counted};
-ghost use Rattle.cli_explain.specs.Forms.{counts_in, counts_json};
-ghost use Rattle.cli_explain.specs.Printed.{counts_text};
+ghost use Rattle.cli_explain.specs.Explained.{Explains, ExplainsLines, PrintsLines, PrintsLine, IsLineBroken};
 
-use crate::filter::AskedFilter;
-use crate::form::{Asking, LineBuffer, PacketForm};
+use crate::captures::{ExplainedTotals, print_totals};
+use crate::form::{Asking, LineBuffer};
 use crate::line::put_line;
-use bpfvm::NoMemory;
+use cli_answers::counts::VerdictCounts;
+use cli_answers::printing::Unprinted;
+use cli_answers::{AskedFilter, PacketForm};
 use cli_text::sending::send;
 use filter_meaning::Verdict;
 use savefile::laws::given_so_far;
 use savefile::{Fault, PacketRef, Reader, Source};
 use std::alloc::Global;
-use std::io;
 use std::io::Write;
-
-/// How many packets a filter was asked, and how many of these it answered Yes, No and Abort.
-#[derive(Clone, Copy, Debug, PartialEq, Eq)]
-pub struct VerdictCounts {
-    pub packets: u64,
-    pub yes: u64,
-    pub no: u64,
-    pub abort: u64,
-}
-
-/// Why what was to be printed is not, or not all of it.
-#[derive(Debug, Drop)]
-pub enum Unprinted {
-    /// Memory was refused.
-    NoMemory,
-    /// The writer failed.
-    Output(io::Error),
-}
-
-impl From<NoMemory> for Unprinted {
-    ghost from_gives = { λ _ e. e ≡ NoMemory };
-
-    fn from(_refused: NoMemory) -> Unprinted {
-        Unprinted::NoMemory
-    }
-}
-
-impl From<io::Error> for Unprinted {
-    ghost from_gives = { λ error e. e ≡ Output error };
-
-    fn from(error: io::Error) -> Unprinted {
-        Unprinted::Output(error)
-    }
-}
 
 /// What explaining a capture came to.
 #[derive(Debug, Drop)]
@@ -69,44 +31,6 @@ pub struct Explained<R> {
     pub read: Result<(), Fault>,
     /// Whether all was printed.
     pub printed: Result<(), Unprinted>,
-}
-
-impl VerdictCounts {
-    /// Of no packets.
-    pub const NONE: VerdictCounts = VerdictCounts {
-        packets: 0,
-        yes: 0,
-        no: 0,
-        abort: 0,
-    };
-
-    /// The counts of the packets of both, each up to 2^64 - 1.
-    pub fn plus(self, other: VerdictCounts) -> VerdictCounts
-        ensures { result ≡ plus self other }
-    {
-        VerdictCounts {
-            packets: self.packets.saturating_add(other.packets),
-            yes: self.yes.saturating_add(other.yes),
-            no: self.no.saturating_add(other.no),
-            abort: self.abort.saturating_add(other.abort),
-        }
-    }
-
-    /// Counts one packet more.
-    fn count(&mut self, verdict: Verdict)
-        requires room { self.now.packets + 1 < 2 ^ 64 }
-        requires yes { self.now.yes ≤ self.now.packets }
-        requires no { self.now.no ≤ self.now.packets }
-        requires abort { self.now.abort ≤ self.now.packets }
-        ensures { self.new ≡ counted verdict self.old }
-    {
-        self.packets += 1;
-        match verdict {
-            Verdict::Yes => self.yes += 1,
-            Verdict::No => self.no += 1,
-            Verdict::Abort => self.abort += 1,
-        }
-    }
 }
 
 /// Prints a line for each packet of a capture, and then one with the counts.
@@ -137,25 +61,25 @@ pub fn explain_each<R: Source, O: Write>(
     ensures gave { (given : List ℕ) × Consumes (R.left from) (R.left result.source) given }
     ensures source_broke { (result.read ≡ Err Fault.Device) ↔ (R.failures result.source ≢ R.failures from) }
 {
-    let mut reader = match Reader::open(alloc, from) {
-        Ok(reader) => reader,
-        Err((source, fault)) => {
-            return Explained {
-                source,
-                opened: false,
-                counts: VerdictCounts::NONE,
-                read: Err(fault),
-                printed: Ok(()),
-            };
-        }
+    let Explained {
+        source,
+        opened,
+        counts,
+        read,
+        printed,
+    } = explain_lines(alloc, from, filter, form, out);
+    let totals = ExplainedTotals {
+        opened,
+        counts,
+        printed,
     };
-    let ended = print_all(alloc, &mut reader, &Asking { filter, form }, out);
+    let printed = print_totals(alloc, totals, form, out);
     Explained {
-        source: reader.close(),
-        opened: true,
-        counts: ended.counts,
-        read: ended.read,
-        printed: ended.printed,
+        source,
+        opened,
+        counts,
+        read,
+        printed,
     }
 }
 
@@ -187,13 +111,7 @@ pub fn explain_lines<R: Source, O: Write>(
         }
     };
     let mut buffer = LineBuffer::new(alloc);
-    let ended = print_lines(
-        alloc,
-        &mut reader,
-        &Asking { filter, form },
-        &mut buffer,
-        out,
-    );
+    let ended = print_lines(&mut reader, &Asking { filter, form }, &mut buffer, out);
     Explained {
         source: reader.close(),
         opened: true,
@@ -222,36 +140,8 @@ fn outcome(
     }
 }
 
-/// Prints the line of each packet, and the counts.
-fn print_all<R: Source, O: Write>(
-    alloc: Global,
-    reader: &mut Reader<R>,
-    asking: &Asking<'_>,
-    out: &mut O,
-) -> Explained<()>
-    ensures prints { (from : Option (List ℕ)) (header : Header) → HasGiven R.left from header [] reader.old →
-        PrintsAll asking.now.form asking.now.filter.now from (R.left reader.new.source) header (O.contents out.old) (O.contents out.new) result.counts result.read result.printed }
-    ensures taken { (bytes : List ℕ) × Consumes (R.left reader.old.source) (R.left reader.new.source) bytes }
-    ensures source_broke { (result.read ≡ Err Fault.Device) ↔ (R.failures reader.new.source ≢ R.failures reader.old.source) }
-{
-    let mut buffer = LineBuffer::new(alloc);
-    let ended = print_lines(alloc, reader, asking, &mut buffer, out);
-    if ended.printed.is_err() {
-        return ended;
-    }
-    let printed = print_counts(ended.counts, asking.form, &mut buffer.line, out);
-    Explained {
-        source: (),
-        opened: true,
-        counts: ended.counts,
-        read: ended.read,
-        printed,
-    }
-}
-
 /// Prints the line of each packet.
 fn print_lines<R: Source, O: Write>(
-    alloc: Global,
     reader: &mut Reader<R>,
     asking: &Asking<'_>,
     buffer: &mut LineBuffer,
@@ -268,7 +158,7 @@ fn print_lines<R: Source, O: Write>(
             Ok(true) => {
                 // Where the printing breaks off, what was read so far begins what the capture holds.
                 given_so_far(reader);
-                match print_line(alloc, asking, counts.packets, &reader.packet(), buffer, out) {
+                match print_line(asking, counts.packets, &reader.packet(), buffer, out) {
                     Ok(verdict) => counts.count(verdict),
                     Err(unprinted) => return outcome(counts, Ok(()), Err(unprinted)),
                 }
@@ -282,7 +172,6 @@ fn print_lines<R: Source, O: Write>(
 /// Prints the line of a packet.
 #[inline(always)]
 pub(crate) fn print_line<O: Write>(
-    alloc: Global,
     asking: &Asking<'_>,
     place: u64,
     packet: &PacketRef<'_>,
@@ -292,63 +181,7 @@ pub(crate) fn print_line<O: Write>(
     ensures ok { IfOk result (PrintsLine asking.now.form asking.now.filter.now place packet.now (O.contents out.old) (O.contents out.new)) }
     ensures fault { IfErr result (IsLineBroken asking.now.form asking.now.filter.now place packet.now (O.contents out.old) (O.contents out.new)) }
 {
-    let verdict = put_line(alloc, buffer, asking, place, packet)?;
+    let verdict = put_line(buffer, asking, place, packet)?;
     send(buffer.line.as_bytes(), out)?;
     Ok(verdict)
-}
-
-/// Prints the counts, and all that the writer has gathered; the line that it is put together in may have any text.
-pub fn print_counts<O: Write>(
-    counts: VerdictCounts,
-    form: PacketForm,
-    line: &mut String,
-    out: &mut O,
-) -> Result<(), Unprinted>
-    ensures { Takes (O.contents out.old) (O.contents out.new) result (counts_in form counts.packets counts.yes counts.no counts.abort) }
-{
-    put_counts(line, form, counts)?;
-    send_last(line.as_bytes(), out)?;
-    Ok(())
-}
-
-/// Sends a text, and all that the writer has gathered.
-pub fn send_last<O: Write>(text: &[u8], out: &mut O) -> io::Result<()>
-    ensures { Takes (O.contents out.old) (O.contents out.new) result text.now }
-{
-    send(text, out)?;
-    out.flush()
-}
-
-/// Puts the line of the counts in place of what the line has.
-fn put_counts(line: &mut String, form: PacketForm, counts: VerdictCounts) -> Result<(), NoMemory>
-    ensures { OnOk result (string_bytes line.new ≡ counts_in form counts.packets counts.yes counts.no counts.abort) }
-{
-    match form {
-        PacketForm::Text => put_counts_text(line, counts),
-        PacketForm::Json(_) => put_counts_object(line, counts),
-    }
-}
-
-#[tactic(auto, unfolding(crate::specs::Printed::counts_text))]
-fn put_counts_text(line: &mut String, counts: VerdictCounts) -> Result<(), NoMemory>
-    ensures { OnOk result (string_bytes line.new ≡ counts_text counts.packets counts.yes counts.no counts.abort) }
-{
-    line.clear();
-    write!(line, "{} packets: {} Yes, ", counts.packets, counts.yes)?;
-    write!(line, "{} No, {} Abort\n", counts.no, counts.abort)?;
-    Ok(())
-}
-
-#[tactic(auto, unfolding(crate::specs::Forms::counts_json))]
-fn put_counts_object(line: &mut String, counts: VerdictCounts) -> Result<(), NoMemory>
-    ensures { OnOk result (string_bytes line.new ≡ counts_json counts.packets counts.yes counts.no counts.abort) }
-{
-    line.clear();
-    write!(
-        line,
-        "{{\"packets\":{},\"yes\":{}",
-        counts.packets, counts.yes
-    )?;
-    write!(line, ",\"no\":{},\"abort\":{}}}\n", counts.no, counts.abort)?;
-    Ok(())
 }

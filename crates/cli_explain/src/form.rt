@@ -1,31 +1,7 @@
-//! The form of the lines of packets.
+//! What is asked and printed of a packet.
 
-ghost use Rattle.std.specs.Prelude.{◌≡◌, [], string_bytes};
-ghost use Rattle.cli_explain.specs.Forms.{of_capture};
-
-use crate::filter::AskedFilter;
+use cli_answers::{AskedFilter, PacketForm};
 use std::alloc::Global;
-
-/// The form of the lines of packets.
-#[derive(Clone, Copy, Debug, PartialEq, Eq)]
-pub enum PacketForm {
-    /// Texts.
-    Text,
-    /// Objects of JSON, of the capture of this number.
-    Json(usize),
-}
-
-impl PacketForm {
-    /// The form of the lines of the capture of this number.
-    pub fn of_capture(self, number: usize) -> PacketForm
-        ensures { result ≡ of_capture self number }
-    {
-        match self {
-            PacketForm::Text => PacketForm::Text,
-            PacketForm::Json(_) => PacketForm::Json(number),
-        }
-    }
-}
 
 /// A filter that is asked, and the form in which its answers are printed.
 #[derive(Clone, Copy)]

@@ -3,44 +3,7 @@
 ghost use Rattle.std.specs.Prelude.{◌≡◌, false};
 
 use cli_report::HintSink;
-use cli_report::failures::hint_input;
-use cli_report::probe::ProbedInput;
 use cli_report::stream::give_hint;
-use cli_text::report::EscapedPath;
-use cli_walk::Stop;
-use savefile::Fault;
-
-/// Hints on the capture of this number, which was not read to its end; if there are several, below its path.
-pub fn hint_capture<R, E: HintSink>(
-    paths: &[&str],
-    number: usize,
-    fault: Fault,
-    source: &ProbedInput<R>,
-    err: &mut E,
-)
-    ensures quiet { E.takes_hints err.old ≡ false → err.new ≡ err.old }
-{
-    if paths.len() > 1 {
-        if let Some(path) = paths.get(number) {
-            give_hint(format_args!("{}:", EscapedPath(*path)), err);
-        }
-    }
-    hint_input(source, fault, err);
-}
-
-/// Hints on the capture that ended the reading of several; `sources` are those of the captures at these paths.
-pub fn hint_stop<R, E: HintSink>(
-    paths: &[&str],
-    stop: Stop,
-    sources: &[ProbedInput<R>],
-    err: &mut E,
-)
-    ensures quiet { E.takes_hints err.old ≡ false → err.new ≡ err.old }
-{
-    if let Some(source) = sources.get(stop.number) {
-        hint_capture(paths, stop.number, stop.fault, source, err);
-    }
-}
 
 /// Hints on a place at which a capture has no packet.
 pub(crate) fn hint_place<E: HintSink>(err: &mut E)

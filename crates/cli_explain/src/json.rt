@@ -4,19 +4,19 @@ ghost use Rattle.std.specs.Prelude.{◌≡◌, ◌++◌, ℕ, List, length, IfOk
 ghost use Rattle.filterlang.specs.Trees.{tree_of};
 ghost use Rattle.filter_explain.specs.Asking.{question_of};
 ghost use Rattle.bpfvm.specs.Images.{brief_text};
-ghost use Rattle.cli_explain.specs.Answers.{answer, EndsRunAs};
-ghost use Rattle.cli_explain.specs.Forms.{answer_json, at_json, cause_json, end_json, instruction_json, lengths_json, packet_json, place_json, question_json, returned_json, run_json, time_json, verdict_json, DecidesInJson, IsJsonAnswerOf, PutsInJson};
+ghost use Rattle.cli_answers.specs.Answers.{answer, EndsRunAs};
+ghost use Rattle.cli_explain.specs.Forms.{answer_json, at_json, cause_json, end_json, instruction_json, lengths_json, packet_json, place_json, question_json, returned_json, run_json, time_json, verdict_json, DecidesInJson, IsJsonAnswer, PutsInJson};
 
-use crate::filter::AskedFilter;
 use crate::form::LineBuffer;
-use crate::line::{end_of_run, ended_as};
 use bpfvm::{Brief, Insn, NoMemory, Program};
+use cli_answers::AskedFilter;
+use cli_answers::run_end::{end_of_run, ended_as};
 use cli_json::put_string;
 use filter_explain::{AskedPart, decide, put_part};
 use filter_meaning::{AbortCause, Verdict};
 use filterlang::Expr;
 use savefile::PacketRef;
-use std::alloc::{AllocError, Global};
+use std::alloc::AllocError;
 
 /// Puts where a packet is in place of what the line has.
 fn put_place(line: &mut String, capture: usize, place: u64) -> Result<(), AllocError>
@@ -148,7 +148,6 @@ fn put_instruction(line: &mut String, text: &mut String, insn: &Insn) -> Result<
 
 /// Appends what a program answers to a packet, where its run ended, and the instruction there.
 fn put_end(
-    alloc: Global,
     line: &mut String,
     text: &mut String,
     program: &Program,
@@ -156,7 +155,7 @@ fn put_end(
 ) -> Result<Verdict, NoMemory>
     ensures { IfOk result (PutsInJson (string_bytes line.old) (string_bytes line.new) (EndsRunAs end_json program.now) packet.now) }
 {
-    let end = end_of_run(alloc, program, packet)?;
+    let end = end_of_run(program, packet);
     let verdict = ended_as(&end.insn, end.number);
     put_verdict(line, verdict)?;
     put_number(line, end.number, end.place)?;
@@ -166,34 +165,32 @@ fn put_end(
 
 /// Appends what a filter answers to a packet, and why.
 fn put_answer(
-    alloc: Global,
     line: &mut String,
     text: &mut String,
     filter: &AskedFilter,
     packet: &PacketRef<'_>,
 ) -> Result<Verdict, NoMemory>
-    ensures { IfOk result (PutsInJson (string_bytes line.old) (string_bytes line.new) (IsJsonAnswerOf filter.now.expr filter.now.program) packet.now) }
+    ensures { IfOk result (PutsInJson (string_bytes line.old) (string_bytes line.new) (IsJsonAnswer filter.now) packet.now) }
 {
-    match &filter.expr {
-        Some(expr) => put_meaning(line, text, expr, packet),
-        None => put_end(alloc, line, text, &filter.program, packet),
+    match filter {
+        AskedFilter::Expression(expr) => put_meaning(line, text, expr, packet),
+        AskedFilter::Program(program) => put_end(line, text, program, packet),
     }
 }
 
 /// Puts the object of a packet in place of what the line has: where it is, its time and lengths, what the filter answers, and why.
 pub(crate) fn put_object(
-    alloc: Global,
     buffer: &mut LineBuffer,
     filter: &AskedFilter,
     capture: usize,
     place: u64,
     packet: &PacketRef<'_>,
 ) -> Result<Verdict, NoMemory>
-    ensures { IfOk result (λ verdict. (reason : List ℕ) × IsJsonAnswerOf filter.now.expr filter.now.program (answer packet.now verdict reason)
+    ensures { IfOk result (λ verdict. (reason : List ℕ) × IsJsonAnswer filter.now (answer packet.now verdict reason)
         × (string_bytes buffer.new.line ≡ answer_json capture place (answer packet.now verdict reason))) }
 {
     put_packet(&mut buffer.line, capture, place, packet)?;
-    let verdict = put_answer(alloc, &mut buffer.line, &mut buffer.text, filter, packet)?;
+    let verdict = put_answer(&mut buffer.line, &mut buffer.text, filter, packet)?;
     buffer.line.push_str("}\n")?;
     Ok(verdict)
 }

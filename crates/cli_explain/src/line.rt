@@ -1,165 +1,20 @@
 //! The line of a packet.
 
-ghost use Rattle.std.specs.Prelude.{◌≡◌, ◌++◌, ℕ, List, Some, IfOk, OnOk, string_bytes};
-ghost use Rattle.filterlang.specs.Trees.{tree_of};
-ghost use Rattle.cli_explain.specs.Answers.{answer, answer_line, ended_as, Decides, EndsRun, IsAnswer, IsEndOfRun, PutsAnswer};
+ghost use Rattle.std.specs.Prelude.{◌≡◌, ℕ, List, IfOk, string_bytes};
+ghost use Rattle.cli_answers.specs.Answers.{answer, IsAnswer};
 ghost use Rattle.cli_explain.specs.Forms.{line_in, IsAnswerIn};
-ghost use Rattle.cli_explain.specs.Printed.{packet_text, time_text, lengths_text, end_text};
+ghost use Rattle.cli_explain.specs.Printed.{answer_line};
 
-use crate::filter::AskedFilter;
-use crate::form::{Asking, LineBuffer, PacketForm};
+use crate::form::{Asking, LineBuffer};
 use crate::json::put_object;
-use bpfvm::{Brief, Insn, NoMemory, Program, code, trace};
-use cli_text::time::NineDigits;
-use filter_explain::{put_decision, put_verdict};
+use bpfvm::NoMemory;
+use cli_answers::line::{put_answer, put_packet};
+use cli_answers::{AskedFilter, PacketForm};
 use filter_meaning::Verdict;
-use filterlang::Expr;
 use savefile::PacketRef;
-use std::alloc::Global;
-use std::fmt;
-use std::fmt::{Display, Formatter};
-
-/// A packet's place and its time.
-#[derive(Clone, Copy)]
-struct PacketTime<'a> {
-    place: u64,
-    packet: &'a PacketRef<'a>,
-}
-
-impl Display for PacketTime<'_> {
-    ghost output = { λ time. Some (time_text time.place time.packet.now) };
-
-    #[tactic(auto, unfolding(crate::specs::Printed::time_text))]
-    fn fmt<W: fmt::Write>(&self, f: &mut Formatter<W>) -> fmt::Result {
-        let PacketTime { place, packet } = *self;
-        write!(
-            f,
-            "place {place} time {}.{}",
-            packet.sec,
-            NineDigits(packet.nanos)
-        )
-    }
-}
-
-/// How long a packet was on the wire, and how many bytes of it were captured.
-#[derive(Clone, Copy)]
-struct PacketLengths<'a>(&'a PacketRef<'a>);
-
-impl Display for PacketLengths<'_> {
-    ghost output = { λ lengths. Some (lengths_text lengths.0.now) };
-
-    #[tactic(auto, unfolding(crate::specs::Printed::lengths_text))]
-    fn fmt<W: fmt::Write>(&self, f: &mut Formatter<W>) -> fmt::Result {
-        let packet = self.0;
-        let captured = packet.bytes.len();
-        write!(f, " len {} captured {captured} ", packet.len)
-    }
-}
-
-/// Puts a packet's place, its time and its lengths in place of what the line has.
-pub fn put_packet(line: &mut String, place: u64, packet: &PacketRef<'_>) -> Result<(), NoMemory>
-    ensures { OnOk result (string_bytes line.new ≡ packet_text place packet.now) }
-{
-    let time = PacketTime { place, packet };
-    line.clear();
-    write!(line, "{time}{}", PacketLengths(packet))?;
-    Ok(())
-}
-
-/// Appends what an expression answers to a packet, and what decides.
-fn put_meaning(line: &mut String, expr: &Expr, packet: &PacketRef<'_>) -> Result<Verdict, NoMemory>
-    ensures { IfOk result (PutsAnswer (string_bytes line.old) (string_bytes line.new) (Decides (tree_of expr.now)) packet.now) }
-{
-    Ok(put_decision(line, expr, packet.bytes, packet.len)?)
-}
-
-/// What an answer of a program counts as whose run ended with this instruction: a run that no return ended is an Abort.
-pub(crate) fn ended_as(insn: &Insn, answer: u32) -> Verdict
-    ensures { result ≡ ended_as insn.now answer }
-{
-    if insn.code != code::RET_K && insn.code != code::RET_A {
-        Verdict::Abort
-    } else if answer == 0 {
-        Verdict::No
-    } else {
-        Verdict::Yes
-    }
-}
-
-/// Appends the number that a program answers, the place where its run ended, and the instruction there.
-#[tactic(auto, unfolding(crate::specs::Printed::end_text))]
-fn put_number(line: &mut String, number: u32, place: usize, insn: &Insn) -> Result<(), NoMemory>
-    ensures { OnOk result (string_bytes line.new ≡ string_bytes line.old ++ end_text number place insn.now) }
-{
-    write!(line, "{number} at {place}: {}", Brief(insn))?;
-    Ok(())
-}
-
-/// Where the run of a program over a packet ended, and the number that it answered.
-#[derive(Clone, Copy)]
-pub(crate) struct RunEnd {
-    pub(crate) number: u32,
-    pub(crate) place: usize,
-    pub(crate) insn: Insn,
-}
-
-/// Where the run of a program over a packet ends.
-pub(crate) fn end_of_run(
-    alloc: Global,
-    program: &Program,
-    packet: &PacketRef<'_>,
-) -> Result<RunEnd, NoMemory>
-    ensures { IfOk result (λ end. IsEndOfRun program.now packet.now end.number end.place end.insn) }
-{
-    let run = trace(alloc, program, packet.bytes, packet.len)?;
-    // Each run executes an instruction of the program, so there is a last one.
-    let Some((last, _)) = run.executed.as_slice().split_last() else {
-        return Err(NoMemory);
-    };
-    let Some(insn) = program.insns().get(last.place) else {
-        return Err(NoMemory);
-    };
-    Ok(RunEnd {
-        number: run.answer,
-        place: last.place,
-        insn: *insn,
-    })
-}
-
-/// Appends what a program answers to a packet, where its run ended, and the instruction there.
-fn put_end(
-    alloc: Global,
-    line: &mut String,
-    program: &Program,
-    packet: &PacketRef<'_>,
-) -> Result<Verdict, NoMemory>
-    ensures { IfOk result (PutsAnswer (string_bytes line.old) (string_bytes line.new) (EndsRun program.now) packet.now) }
-{
-    let end = end_of_run(alloc, program, packet)?;
-    let verdict = ended_as(&end.insn, end.number);
-    put_verdict(line, verdict)?;
-    put_number(line, end.number, end.place, &end.insn)?;
-    Ok(verdict)
-}
-
-/// Appends what a filter answers to a packet, and why.
-pub fn put_answer(
-    alloc: Global,
-    line: &mut String,
-    filter: &AskedFilter,
-    packet: &PacketRef<'_>,
-) -> Result<Verdict, NoMemory>
-    ensures { IfOk result (PutsAnswer (string_bytes line.old) (string_bytes line.new) (IsAnswer filter.now) packet.now) }
-{
-    match &filter.expr {
-        Some(expr) => put_meaning(line, expr, packet),
-        None => put_end(alloc, line, &filter.program, packet),
-    }
-}
 
 /// Puts the text of a packet in place of what the line has: its place and time, what the filter answers, and why.
 fn put_text(
-    alloc: Global,
     line: &mut String,
     filter: &AskedFilter,
     place: u64,
@@ -169,14 +24,13 @@ fn put_text(
         × (string_bytes line.new ≡ answer_line place (answer packet.now verdict reason))) }
 {
     put_packet(line, place, packet)?;
-    let verdict = put_answer(alloc, line, filter, packet)?;
+    let verdict = put_answer(line, filter, packet)?;
     line.push('\n')?;
     Ok(verdict)
 }
 
 /// Puts the line of a packet in place of what the line has: its place and time, what the filter answers, and why.
 pub(crate) fn put_line(
-    alloc: Global,
     buffer: &mut LineBuffer,
     asking: &Asking<'_>,
     place: u64,
@@ -186,14 +40,7 @@ pub(crate) fn put_line(
         × (string_bytes buffer.new.line ≡ line_in asking.now.form place (answer packet.now verdict reason))) }
 {
     match asking.form {
-        PacketForm::Text => put_text(alloc, &mut buffer.line, asking.filter, place, packet),
-        PacketForm::Json(capture) => put_object(
-            alloc,
-            buffer,
-            asking.filter,
-            capture,
-            place,
-            packet,
-        ),
+        PacketForm::Text => put_text(&mut buffer.line, asking.filter, place, packet),
+        PacketForm::Json(capture) => put_object(buffer, asking.filter, capture, place, packet),
     }
 }

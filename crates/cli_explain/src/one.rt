@@ -6,10 +6,12 @@ ghost use Rattle.savefile.specs.declared.header.Header.{Header};
 ghost use Rattle.savefile.specs.Reader.{HasGiven, Lends};
 ghost use Rattle.cli_explain.specs.Explained.{Finds, GoesTo, PrintsFound, PrintsMore, PrintsWhole};
 
-use crate::each::{Unprinted, print_line, send_last};
-use crate::filter::AskedFilter;
-use crate::form::{Asking, LineBuffer, PacketForm};
+use crate::each::print_line;
+use crate::form::{Asking, LineBuffer};
+use crate::program::FilterWithProgram;
 use crate::whole::whole_text;
+use cli_answers::PacketForm;
+use cli_answers::printing::{Unprinted, send_last};
 use savefile::laws::given_so_far;
 use savefile::{Fault, PacketRef, Reader, Source};
 use std::alloc::Global;
@@ -35,12 +37,12 @@ pub struct Found<R> {
 pub fn explain_one<R: Source, O: Write>(
     alloc: Global,
     from: R,
-    filter: &AskedFilter,
+    filter: &FilterWithProgram<'_, '_>,
     place: u64,
     out: &mut O,
 ) -> Found<R>
     // Whether there is such a packet, and what was printed of it.
-    ensures finds { Finds R.left from filter.now place (O.contents out.old) (O.contents out.new) result }
+    ensures finds { Finds R.left from filter.now.filter.now place (O.contents out.old) (O.contents out.new) result }
 
     // The next bytes of the source are taken, and its fault is returned if and only if it failed.
     ensures gave { (given : List ℕ) × Consumes (R.left from) (R.left result.source) given }
@@ -89,14 +91,14 @@ pub(crate) fn go_to<R: Source>(reader: &mut Reader<R>, place: u64) -> Result<boo
 /// Prints the packet that a reader went on to, where it did.
 fn print_found<R: Source, O: Write>(
     alloc: Global,
-    filter: &AskedFilter,
+    filter: &FilterWithProgram<'_, '_>,
     place: u64,
     read: Result<bool, Fault>,
     reader: &Reader<R>,
     out: &mut O,
 ) -> Result<(), Unprinted>
     requires { read ≡ Ok true → Lends reader.now }
-    ensures { PrintsFound filter.now place reader.now.lent (O.contents out.old) (O.contents out.new) read result }
+    ensures { PrintsFound filter.now.filter.now place reader.now.lent (O.contents out.old) (O.contents out.new) read result }
 {
     match read {
         Ok(true) => print_whole(alloc, filter, place, &reader.packet(), out),
@@ -108,26 +110,26 @@ fn print_found<R: Source, O: Write>(
 /// Prints a packet's line, and then everything else about it.
 pub(crate) fn print_whole<O: Write>(
     alloc: Global,
-    filter: &AskedFilter,
+    filter: &FilterWithProgram<'_, '_>,
     place: u64,
     packet: &PacketRef<'_>,
     out: &mut O,
 ) -> Result<(), Unprinted>
-    ensures { PrintsWhole filter.now place packet.now (O.contents out.old) (O.contents out.new) result }
+    ensures { PrintsWhole filter.now.filter.now place packet.now (O.contents out.old) (O.contents out.new) result }
 {
     let mut buffer = LineBuffer::new(alloc);
     let asking = Asking {
-        filter,
+        filter: filter.filter,
         form: PacketForm::Text,
     };
-    print_line(alloc, &asking, place, packet, &mut buffer, out)?;
+    print_line(&asking, place, packet, &mut buffer, out)?;
     print_rest(alloc, filter, place, packet, out)
 }
 
 /// Prints what follows a packet's line.
 fn print_rest<O: Write>(
     alloc: Global,
-    filter: &AskedFilter,
+    filter: &FilterWithProgram<'_, '_>,
     place: u64,
     packet: &PacketRef<'_>,
     out: &mut O,

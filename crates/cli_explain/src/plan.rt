@@ -1,35 +1,13 @@
 //! The filter that the arguments of `explain` ask for.
 
-ghost use Rattle.std.specs.Prelude.{IfOk};
-ghost use Rattle.cli_explain.specs.Filter.{IsOfExpression};
-
-use crate::AskedFilter;
-use crate::filter::{of_expression, of_program};
+use cli_answers::AskedFilter;
+use cli_answers::plan::read_expression;
 use cli_args::explain::ExplainWords;
-use cli_filter::{FilterFault, expression_report, filter_report, hint_expression, program_of_file};
+use cli_filter::{FilterFault, filter_report, program_of_file};
 use cli_report::HintSink;
 use cli_text::Status;
 use fault_report::reporting::report_fault;
 use std::fs::Files;
-
-/// The filter of an expression; or reports why there is none.
-pub fn read_expression<R: AllocGlobal, E: HintSink>(
-    rt: &R,
-    expr: &str,
-    snap: u32,
-    err: &mut E,
-) -> Result<AskedFilter, Status>
-    ensures { IfOk result (IsOfExpression expr.now snap) }
-{
-    match of_expression(rt.alloc(), expr, snap) {
-        Ok(filter) => Ok(filter),
-        Err(fault) => {
-            let status = report_fault(&expression_report(fault), Status::Refused, err);
-            hint_expression(rt.alloc(), expr, fault, err);
-            Err(status)
-        }
-    }
-}
 
 /// Reports that both an expression and a listing are given.
 fn refuse_two<E: HintSink>(err: &mut E) -> Result<AskedFilter, Status> {
@@ -45,7 +23,7 @@ pub(crate) fn read_filter<R: Files + AllocGlobal, E: HintSink>(
 ) -> Result<AskedFilter, Status> {
     match (words.expr, words.listing) {
         (Some(_), Some(_)) => refuse_two(err),
-        (None, Some(path)) => Ok(of_program(program_of_file(rt, path, err)?)),
-        (expr, None) => read_expression(rt, expr.unwrap_or(""), words.snap, err),
+        (None, Some(path)) => Ok(AskedFilter::Program(program_of_file(rt, path, err)?)),
+        (expr, None) => read_expression(rt, None, expr.unwrap_or(""), err),
     }
 }

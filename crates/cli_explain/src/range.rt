@@ -7,9 +7,9 @@ ghost use Rattle.savefile.specs.declared.packet.Packet.{Packet};
 ghost use Rattle.savefile.specs.Reader.{HasGiven, Lends};
 ghost use Rattle.cli_explain.specs.Range.{FindsRange, PrintsRange, ShowsRange};
 
-use crate::each::Unprinted;
-use crate::filter::AskedFilter;
 use crate::one::{Found, go_to, print_whole};
+use crate::program::FilterWithProgram;
+use cli_answers::printing::Unprinted;
 use savefile::laws::given_so_far;
 use savefile::{Fault, Reader, Source};
 use std::alloc::Global;
@@ -24,13 +24,13 @@ use std::io::Write;
 pub fn explain_range<R: Source, O: Write>(
     alloc: Global,
     from: R,
-    filter: &AskedFilter,
+    filter: &FilterWithProgram<'_, '_>,
     first: u64,
     last: u64,
     out: &mut O,
 ) -> Found<R>
     // Which packets there are, and what was printed of them.
-    ensures finds { FindsRange R.left from filter.now first last (O.contents out.old) (O.contents out.new) result }
+    ensures finds { FindsRange R.left from filter.now.filter.now first last (O.contents out.old) (O.contents out.new) result }
 
     // The next bytes of the source are taken, and its fault is returned if and only if it failed.
     ensures gave { (given : List ℕ) × Consumes (R.left from) (R.left result.source) given }
@@ -57,14 +57,14 @@ pub fn explain_range<R: Source, O: Write>(
 /// Goes on to the first place, and prints the packets from there.
 fn show_range<R: Source, O: Write>(
     alloc: Global,
-    filter: &AskedFilter,
+    filter: &FilterWithProgram<'_, '_>,
     first: u64,
     last: u64,
     reader: &mut Reader<R>,
     out: &mut O,
 ) -> Found<()>
     ensures shows { (from : Option (List ℕ)) (header : Header) → HasGiven R.left from header [] reader.old →
-        ShowsRange from (R.left reader.new.source) header filter.now first last (O.contents out.old) (O.contents out.new) result.read result.printed }
+        ShowsRange from (R.left reader.new.source) header filter.now.filter.now first last (O.contents out.old) (O.contents out.new) result.read result.printed }
     ensures taken { (bytes : List ℕ) × Consumes (R.left reader.old.source) (R.left reader.new.source) bytes }
     ensures source_broke { (result.read ≡ Err Fault.Device) ↔ (R.failures reader.new.source ≢ R.failures reader.old.source) }
 {
@@ -90,7 +90,7 @@ fn outcome(read: Result<bool, Fault>, printed: Result<(), Unprinted>) -> Found<(
 /// Prints the packet that a reader lends, which is the first, and those after it, up to the last place.
 fn print_range<R: Source, O: Write>(
     alloc: Global,
-    filter: &AskedFilter,
+    filter: &FilterWithProgram<'_, '_>,
     first: u64,
     last: u64,
     reader: &mut Reader<R>,
@@ -99,7 +99,7 @@ fn print_range<R: Source, O: Write>(
     requires { Lends reader.old }
     ensures prints { (from : Option (List ℕ)) (header : Header) (before : List Packet) → length before ≡ first →
         HasGiven R.left from header (before ++ reader.old.lent ∷ []) reader.old →
-        PrintsRange from (R.left reader.new.source) header filter.now first last before (O.contents out.old) (O.contents out.new) result.read result.printed }
+        PrintsRange from (R.left reader.new.source) header filter.now.filter.now first last before (O.contents out.old) (O.contents out.new) result.read result.printed }
     ensures taken { (bytes : List ℕ) × Consumes (R.left reader.old.source) (R.left reader.new.source) bytes }
     ensures source_broke { (result.read ≡ Err Fault.Device) ↔ (R.failures reader.new.source ≢ R.failures reader.old.source) }
 {

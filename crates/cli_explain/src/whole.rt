@@ -1,11 +1,13 @@
 //! One packet in full.
 
-use crate::dump::{put_blanks, put_dump};
-use crate::filter::AskedFilter;
+use crate::program::FilterWithProgram;
 use bpfvm::{Executed, Insn, NoMemory, PlacedInsn, Program, Traced, code, trace};
+use cli_answers::AskedFilter;
+use cli_answers::dump::{put_blanks, put_dump};
 use filter_explain::{AskedPart, decide, put_cause, put_part, verdict_text};
 use filter_meaning::{Look, Verdict, looks_of};
 use filter_print::Canonical;
+use filtergen::Refusal;
 use filterlang::Expr;
 use savefile::PacketRef;
 use std::alloc::{AllocError, Global};
@@ -252,11 +254,24 @@ fn put_run(
     put_traced(alloc, text, program, &run)
 }
 
+/// Appends the run of the program, or why there is none.
+fn put_program(
+    alloc: Global,
+    text: &mut String,
+    program: Result<&Program, Refusal>,
+    packet: &PacketRef<'_>,
+) -> Result<(), NoMemory> {
+    match program {
+        Ok(program) => put_run(alloc, text, program, packet),
+        Err(refusal) => Ok(write!(text, "\nthe expression has no program: {refusal}\n")?),
+    }
+}
+
 /// Appends what follows a packet's line.
 fn put_whole(
     alloc: Global,
     text: &mut String,
-    filter: &AskedFilter,
+    filter: &FilterWithProgram<'_, '_>,
     place: u64,
     packet: &PacketRef<'_>,
 ) -> Result<(), NoMemory> {
@@ -266,21 +281,21 @@ fn put_whole(
         "places count from 0; tcpdump and Wireshark count packets from 1, and this is packet {shown} there\n"
     )?;
     let mut noted = Vec::new(alloc);
-    match &filter.expr {
-        Some(expr) => {
+    match filter.filter {
+        AskedFilter::Expression(expr) => {
             put_expression(alloc, text, &mut noted, expr, packet)?;
             text.push_str("\nbytes, with those marked that the expression looked at:\n")?;
         }
-        None => text.push_str("\nbytes:\n")?,
+        AskedFilter::Program(_) => text.push_str("\nbytes:\n")?,
     }
     put_dump(text, noted.as_slice(), packet.bytes)?;
-    put_run(alloc, text, &filter.program, packet)
+    put_program(alloc, text, filter.program, packet)
 }
 
 /// What follows a packet's line.
 pub(crate) fn whole_text(
     alloc: Global,
-    filter: &AskedFilter,
+    filter: &FilterWithProgram<'_, '_>,
     place: u64,
     packet: &PacketRef<'_>,
 ) -> Result<String, NoMemory> {

@@ -1,6 +1,8 @@
 //! Files that are opened or made when they are needed first.
 
+ghost use Rattle.std.specs.Prelude.{◌≡◌, true, IsErr, IfOk, IfErr, option_and_then};
 ghost use Rattle.std.specs.Io.{ReadsAtMost, WritesAtMost};
+ghost use Rattle.std.specs.Io.KnownBytes.{Keeps, WriteAppends};
 
 use crate::retried::Retried;
 use std::fs::Files;
@@ -38,7 +40,8 @@ impl<'r, 'p, R: Files> LateFile<'r, 'p, R> {
     }
 
     fn create_and_write(&mut self, bytes: &[u8]) -> io::Result<usize>
-        ensures { WritesAtMost result bytes.now }
+        ensures bound { WritesAtMost result bytes.now }
+        ensures bytes { WriteAppends (option_and_then (λ file. R.File.contents file.inner) self.old.file) (option_and_then (λ file. R.File.contents file.inner) self.new.file) result bytes.now }
     {
         if self.file.is_none() {
             self.file = Some(Retried::new(fs::create(self.rt, self.path)?));
@@ -51,7 +54,17 @@ impl<'r, 'p, R: Files> LateFile<'r, 'p, R> {
 }
 
 impl<R: Files> Write for LateFile<'_, '_, R> {
-    fn write(&mut self, bytes: &[u8]) -> io::Result<usize> {
+    // Those of the file, once it is made.
+    ghost contents = { λ late. option_and_then (λ file. R.File.contents file.inner) late.file };
+
+    fn write(&mut self, bytes: &[u8]) -> io::Result<usize>
+        ensures bound { WritesAtMost result bytes.now }
+        ensures bytes { WriteAppends (option_and_then (λ file. R.File.contents file.inner) self.old.file) (option_and_then (λ file. R.File.contents file.inner) self.new.file) result bytes.now }
+        ensures failed { IfErr result (λ _. self.new.failed ≡ true) }
+        // After a failure nothing more is written, and each call fails.
+        ensures refused { self.old.failed ≡ true → IsErr result }
+        ensures ended { self.old.failed ≡ true → self.new ≡ self.old }
+    {
         if self.failed {
             return Err(io::Error::from(ErrorKind::Other));
         }
@@ -63,7 +76,11 @@ impl<R: Files> Write for LateFile<'_, '_, R> {
         written
     }
 
-    fn flush(&mut self) -> io::Result<()> {
+    fn flush(&mut self) -> io::Result<()>
+        ensures bytes { Keeps (option_and_then (λ file. R.File.contents file.inner) self.old.file) (option_and_then (λ file. R.File.contents file.inner) self.new.file) }
+        ensures refused { self.old.failed ≡ true → IsErr result }
+        ensures ended { self.old.failed ≡ true → self.new ≡ self.old }
+    {
         if self.failed {
             return Err(io::Error::from(ErrorKind::Other));
         }

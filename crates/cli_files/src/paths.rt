@@ -83,7 +83,7 @@ enum PathFault<'a> {
     /// This path is read, and standard output goes to its file.
     Printed(&'a str),
     /// The system does not say where this path leads.
-    Untold(&'a str, io::Error),
+    Unknown(&'a str, io::Error),
     NoMemory,
 }
 
@@ -199,7 +199,7 @@ fn named_target<'a, R: Files + AllocGlobal>(
 ) -> Result<Option<Target>, PathFault<'a>> {
     match target_of(rt, path) {
         Ok(target) => Ok(target),
-        Err(error) => Err(PathFault::Untold(path, error)),
+        Err(error) => Err(PathFault::Unknown(path, error)),
     }
 }
 
@@ -207,7 +207,7 @@ fn named_target<'a, R: Files + AllocGlobal>(
 fn is_missing<'a, R: Files>(rt: &R, path: &'a str) -> Result<bool, PathFault<'a>> {
     match metadata_of(rt, path) {
         Ok(metadata) => Ok(metadata.is_none()),
-        Err(error) => Err(PathFault::Untold(path, error)),
+        Err(error) => Err(PathFault::Unknown(path, error)),
     }
 }
 
@@ -216,7 +216,7 @@ fn input_file<R: Files>(rt: &R) -> Result<Option<Target>, PathFault<'static>> {
     match metadata_of(rt, STANDARD_INPUT) {
         Ok(Some(metadata)) => Ok(lost_file(&metadata)),
         Ok(None) => Ok(None),
-        Err(error) => Err(PathFault::Untold(STANDARD_INPUT, error)),
+        Err(error) => Err(PathFault::Unknown(STANDARD_INPUT, error)),
     }
 }
 
@@ -225,7 +225,7 @@ fn error_file<R: Files>(rt: &R) -> Result<Option<Target>, PathFault<'static>> {
     match metadata_of(rt, STANDARD_ERROR) {
         Ok(Some(metadata)) if metadata.is_file() => Ok(Some(Target::File(id_of(&metadata)))),
         Ok(_) => Ok(None),
-        Err(error) => Err(PathFault::Untold(STANDARD_ERROR, error)),
+        Err(error) => Err(PathFault::Unknown(STANDARD_ERROR, error)),
     }
 }
 
@@ -324,7 +324,7 @@ fn report_path<E: HintSink>(fault: &PathFault<'_>, err: &mut E) -> Status {
             "this command reads that file, and standard output goes to it",
             err,
         ),
-        PathFault::Untold(path, error) => report_io(error, path, err),
+        PathFault::Unknown(path, error) => report_io(error, path, err),
         PathFault::NoMemory => report_memory(err),
     }
 }

@@ -1,5 +1,9 @@
 //! What is reported of files that can't be read.
 
+ghost use Rattle.std.specs.Prelude.{◌≡◌, ◌↔◌, ◌⊎◌, ◌≤◌, IfOk, IfErr, IsTrue, vec_len};
+ghost use Rattle.cli_text.specs.declared.status.Status.TheVariants.{Failed, Refused};
+ghost use Rattle.cli_files.specs.Reading.{IsRefusedMemory};
+
 use crate::retried::Retried;
 use cli_report::HintSink;
 use cli_report::files::hint_reason;
@@ -17,12 +21,17 @@ pub const MAX_TEXT: usize = 1 << 24;
 
 /// Whether memory was refused to this program. An error that the system gave for a file has a number, even if it is that of
 /// memory (`ENOMEM`).
-fn is_refused_memory(error: &io::Error) -> bool {
+fn is_refused_memory(error: &io::Error) -> bool
+    ensures { IsTrue result ↔ IsRefusedMemory error.now }
+{
     error.kind() == ErrorKind::OutOfMemory && error.raw_os_error().is_none()
 }
 
 /// Reports that a file could not be opened or read, or that memory was refused.
-pub fn report_io<E: HintSink>(error: &io::Error, path: &str, err: &mut E) -> Status {
+pub fn report_io<E: HintSink>(error: &io::Error, path: &str, err: &mut E) -> Status
+    ensures refused { IsRefusedMemory error.now → result ≡ Refused }
+    ensures failed { (IsRefusedMemory error.now → ⊥) → result ≡ Failed }
+{
     if is_refused_memory(error) {
         report_memory(err)
     } else {
@@ -37,7 +46,9 @@ pub fn read_file<R: Files + AllocGlobal, E: HintSink>(
     rt: &R,
     path: &str,
     err: &mut E,
-) -> Result<Vec<u8>, Status> {
+) -> Result<Vec<u8>, Status>
+    ensures { IfErr result (λ status. (status ≡ Refused) ⊎ (status ≡ Failed)) }
+{
     match fs::read(rt, path) {
         Ok(text) => Ok(text),
         Err(error) => Err(report_io(&error, path, err)),
@@ -58,7 +69,10 @@ pub fn read_text<R: Files + AllocGlobal, E: HintSink>(
     rt: &R,
     path: &str,
     err: &mut E,
-) -> Result<Vec<u8>, Status> {
+) -> Result<Vec<u8>, Status>
+    ensures bound { IfOk result (λ text. vec_len text ≤ MAX_TEXT) }
+    ensures status { IfErr result (λ status. (status ≡ Refused) ⊎ (status ≡ Failed)) }
+{
     match read_bounded(rt, path) {
         Ok(text) if text.len() <= MAX_TEXT => Ok(text),
         Ok(_) => {

@@ -2,6 +2,7 @@
 
 ghost use Rattle.std.specs.Prelude.{◌≡◌, ◌≢◌, ◌↔◌, IfErr, IsTrue};
 ghost use Rattle.std.specs.Io.{ReadsAtMost, WritesAtMost};
+ghost use Rattle.std.specs.Io.KnownBytes.{ReadConsumes, WriteAppends};
 ghost use Rattle.std.specs.IoError.{error_kind};
 
 use std::io;
@@ -14,7 +15,9 @@ pub struct Retried<T> {
 }
 
 impl<T> Retried<T> {
-    pub fn new(inner: T) -> Retried<T> {
+    pub fn new(inner: T) -> Retried<T>
+        ensures { result.inner ≡ inner }
+    {
         Retried { inner }
     }
 }
@@ -27,8 +30,11 @@ fn is_broken_off(error: &io::Error) -> bool
 }
 
 impl<T: Read> Read for Retried<T> {
+    ghost remaining = { λ retried. T.remaining retried.inner };
+
     fn read(&mut self, to: &mut [u8]) -> io::Result<usize>
         ensures bound { ReadsAtMost result to.new }
+        ensures bytes { ReadConsumes (T.remaining self.old.inner) (T.remaining self.new.inner) result to.new }
         ensures retried { IfErr result (λ error. error_kind error ≢ ErrorKind.Interrupted) }
     {
         for _ in 0..u64::MAX {
@@ -42,8 +48,11 @@ impl<T: Read> Read for Retried<T> {
 }
 
 impl<T: Write> Write for Retried<T> {
+    ghost contents = { λ retried. T.contents retried.inner };
+
     fn write(&mut self, from: &[u8]) -> io::Result<usize>
         ensures bound { WritesAtMost result from.now }
+        ensures bytes { WriteAppends (T.contents self.old.inner) (T.contents self.new.inner) result from.now }
         ensures retried { IfErr result (λ error. error_kind error ≢ ErrorKind.Interrupted) }
     {
         for _ in 0..u64::MAX {

@@ -1,7 +1,8 @@
 //! The filters of the commands, each of a listing's file or of an expression, and what is reported if there is none.
 
-ghost use Rattle.std.specs.Prelude.{◌≡◌, false, Ok, IfErr, IfOk, IsErr};
-ghost use Rattle.cli_text.specs.declared.status.Status.TheVariants.{Refused};
+ghost use Rattle.std.specs.Prelude.{◌≡◌, ◌⊎◌, ℕ, List, Some, None, false, Ok, IfErr, IfOk, IsErr, option_copied};
+ghost use Rattle.cli_text.specs.declared.status.Status.TheVariants.{Failed, Refused};
+ghost use Rattle.cli_filter.specs.Filter.{IsFilter, IsNoFilter};
 
 use crate::assembly_hints::hint_assembly;
 use crate::listing_hints::hint_listing;
@@ -68,25 +69,31 @@ pub fn filter_or_report<E: HintSink>(
     }
 }
 
-/// The program of a listing's file.
+/// The program of a listing's file; or reports why there is none, and returns the exit status.
 pub fn program_of_file<R: Files + AllocGlobal, E: HintSink>(
     rt: &R,
     path: &str,
     err: &mut E,
-) -> Result<Program, Status> {
+) -> Result<Program, Status>
+    ensures found { IfOk result (λ program. (text : List ℕ) × IsFilter (Some text) None 0 program) }
+    ensures refused { IfErr result (λ status. (status ≡ Refused) ⊎ (status ≡ Failed)) }
+{
     let listing = read_text(rt, path, err)?;
     let listing = Some(listing.as_slice());
     let alloc = rt.alloc();
     filter_or_report(alloc, listing, None, filter(alloc, listing, None, 0), err)
 }
 
-/// The program of an expression; without one every packet is taken.
+/// The program of an expression; without one every packet is taken. Or reports why there is none, and returns the exit status.
 pub fn program_of_expression<R: AllocGlobal, E: HintSink>(
     rt: &R,
     expr: Option<&str>,
     snap: u32,
     err: &mut E,
-) -> Result<Program, Status> {
+) -> Result<Program, Status>
+    ensures found { IfOk result (IsFilter None (option_copied expr.entry) snap) }
+    ensures refused { IfErr result (λ status. (status ≡ Refused) × (fault : FilterFault) × IsNoFilter None (option_copied expr.entry) snap fault) }
+{
     let alloc = rt.alloc();
     filter_or_report(alloc, None, expr, filter(alloc, None, expr, snap), err)
 }

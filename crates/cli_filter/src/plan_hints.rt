@@ -5,13 +5,28 @@ use crate::plan::{PlanFault, PlanLine, read_lines};
 use cli_report::HintSink;
 use cli_report::files::hint_bad_line;
 use cli_report::stream::give_hint;
+use filtergen::ExpressionFault;
 use std::alloc::Global;
 use visible_text::Shown;
 
-/// A hint on an expression that begins with the end of a path: the path has a blank, at which OUT ends.
-fn hint_blank<E: HintSink>(output: &str, expression: &str, err: &mut E) {
-    let first = expression.split(' ').next().unwrap_or("");
-    if first.ends_with(".pcap") {
+/// Whether an expression begins with the end of a path, which has a blank.
+fn begins_with_path(expression: &str) -> bool {
+    expression
+        .split(' ')
+        .next()
+        .unwrap_or("")
+        .ends_with(".pcap")
+}
+
+/// A hint on the expression of a line. If it begins with the end of a path, OUT ended at the blank in that, and nothing is said of the rest.
+fn hint_line_expression<E: HintSink>(
+    alloc: Global,
+    output: &str,
+    expression: &str,
+    fault: ExpressionFault,
+    err: &mut E,
+) {
+    if begins_with_path(expression) {
         give_hint(
             format_args!(
                 "OUT ends at the first blank, and is `{}` here: give a path without blanks",
@@ -19,6 +34,8 @@ fn hint_blank<E: HintSink>(output: &str, expression: &str, err: &mut E) {
             ),
             err,
         );
+    } else {
+        hint_expression(alloc, expression, fault, err);
     }
 }
 
@@ -36,8 +53,7 @@ pub fn hint_plan<'a, L: PlanLine<'a>, E: HintSink>(
         PlanFault::Expression(n, fault) => {
             let lines: Result<Vec<L>, PlanFault> = read_lines(alloc, text, terms, usize::MAX);
             if let Some(line) = lines.as_ref().ok().and_then(|lines| lines.get(n)) {
-                hint_expression(alloc, line.expression(), fault, err);
-                hint_blank(line.output(), line.expression(), err);
+                hint_line_expression(alloc, line.output(), line.expression(), fault, err);
             }
         }
         PlanFault::TooMany | PlanFault::NoMemory => {}

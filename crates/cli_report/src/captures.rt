@@ -93,13 +93,18 @@ fn link_type(header: &[u8; 24]) -> u32 {
     }
 }
 
+/// Whether a link type is one of the two of Linux cooked captures.
+fn is_cooked(number: u32) -> bool {
+    number == 113 || number == 276
+}
+
 /// The name of a common link type.
 fn link_name(number: u32) -> &'static str {
     match number {
         0 | 108 => " (BSD loopback)",
         12 | 14 | 101 => " (raw IP)",
         105 | 127 => " (wireless)",
-        113 | 276 => " (Linux cooked, as from the interface `any`)",
+        _ if is_cooked(number) => " (Linux cooked, as from the interface `any`)",
         _ => "",
     }
 }
@@ -124,7 +129,13 @@ fn hint_link_type<E: HintSink>(header: &[u8; 24], err: &mut E)
     give_hint(
         "capture on an Ethernet interface, as with tcpdump -i eth0 -w OUT",
         err,
-    )
+    );
+    if is_cooked(number) {
+        give_hint(
+            "one that you have: python3 examples/python/cooked.py IN OUT",
+            err,
+        );
+    }
 }
 
 fn hint_version<E: HintSink>(header: &[u8; 24], err: &mut E)

@@ -6,7 +6,7 @@ use crate::stream::{HintSink, give_hint};
 use std::convert::AsStr;
 
 /// How to do what commands of other tools do, by the name that one may try.
-static WAYS: [(&str, &str); 19] = [
+static WAYS: [(&str, &str); 23] = [
     (
         "count",
         "to count packets: bpftap cut -c -s 0 -e EXPR IN /dev/null",
@@ -50,7 +50,14 @@ static WAYS: [(&str, &str); 19] = [
     ),
     ("completions", COMPLETIONS),
     ("completion", COMPLETIONS),
+    ("stats", CONTENTS),
+    ("summary", CONTENTS),
+    ("capinfos", CONTENTS),
+    ("count-packets", CONTENTS),
 ];
+
+/// How to print what captures have.
+const CONTENTS: &str = "what captures have: bpftap info IN";
 
 /// How to print packets.
 const PRINT: &str = "to print packets: tcpdump -nr IN";
@@ -63,7 +70,7 @@ const COMPLETIONS: &str =
     "completions for bash, zsh and fish are files: ./install puts them where shells look for them";
 
 /// How to do what options of other tools do.
-static OPTION_WAYS: [(&str, &str); 10] = [
+static OPTION_WAYS: [(&str, &str); 13] = [
     (
         "-F",
         "to read an expression from a file: -e \"$(cat FILE)\", or for check \"$(cat FILE)\"",
@@ -83,7 +90,22 @@ static OPTION_WAYS: [(&str, &str); 10] = [
         "-c",
         "to count packets: bpftap cut -c -s 0 -e EXPR IN /dev/null; explain prints the counts last",
     ),
+    (
+        "-l",
+        "to name the captures that have such a packet: bpftap explain -q of each, as in RECIPES",
+    ),
+    (
+        "-v",
+        "explain prints why for each packet; -p PLACE prints one in full",
+    ),
+    (
+        "-O",
+        "programs are not optimised: what nothing reaches is left out",
+    ),
 ];
+
+/// How filters are given to `split`.
+const FILTERS_OF_SPLIT: &str = "filters are in LINES: SNAP OUT EXPRESSION";
 
 /// How to keep the packets between two times.
 const BETWEEN_TIMES: &str =
@@ -127,14 +149,21 @@ fn takes_option<S: AsStr>(words: &[S], option: &str) -> bool {
     )
 }
 
-/// How to do what the first of the arguments does that is an option of another tool.
+/// How to do what an option of another tool, or of another command, does.
+fn way_of_option<S: AsStr>(words: &[S], option: &str) -> Option<&'static str> {
+    if command_of(words) == Some("split") && option == "-e" {
+        Some(FILTERS_OF_SPLIT)
+    } else if takes_option(words, option) {
+        None
+    } else {
+        way_of(&OPTION_WAYS, option)
+    }
+}
+
+/// How to do what the first of the arguments does that is such an option.
 fn option_way<S: AsStr>(words: &[S]) -> Option<&'static str> {
     for word in words {
-        let word = word.as_str();
-        if takes_option(words, word) {
-            continue;
-        }
-        if let Some(way) = way_of(&OPTION_WAYS, word) {
+        if let Some(way) = way_of_option(words, word.as_str()) {
             return Some(way);
         }
     }
@@ -161,12 +190,9 @@ fn is_cut<S: AsStr>(words: &[S]) -> bool {
 }
 
 /// A hint on arguments of `cut` of which one is missing: the snapshot length, or OUT where packets are only counted.
-pub fn hint_missing<S: AsStr, E: HintSink>(words: &[S], err: &mut E)
+fn hint_missing_of_cut<S: AsStr, E: HintSink>(words: &[S], err: &mut E)
     ensures quiet { E.takes_hints err.old ≡ false → err.new ≡ err.old }
 {
-    if !is_cut(words) {
-        return;
-    }
     if !words.iter().any(|word| word.as_str().starts_with("-s")) {
         give_hint("-s 0 keeps packets whole", err)
     } else if has_word(words, "-c") {
@@ -174,9 +200,39 @@ pub fn hint_missing<S: AsStr, E: HintSink>(words: &[S], err: &mut E)
     }
 }
 
+/// A hint on arguments of which one is missing: of `cut` the snapshot length, or OUT where packets are only counted; of `explain` the filter.
+pub fn hint_missing<S: AsStr, E: HintSink>(words: &[S], err: &mut E)
+    ensures quiet { E.takes_hints err.old ≡ false → err.new ≡ err.old }
+{
+    if is_cut(words) {
+        hint_missing_of_cut(words, err)
+    } else if lacks_filter(words) {
+        give_hint("of every packet: bpftap explain -e '' IN", err)
+    }
+}
+
 /// Whether a word is a number.
 fn is_number(word: &str) -> bool {
     !word.is_empty() && word.bytes().all(|byte| byte.is_ascii_digit())
+}
+
+/// Whether a word is the name of a capture.
+fn is_capture_name<S: AsStr>(word: &S) -> bool {
+    word.as_str().ends_with(".pcap")
+}
+
+/// Whether a word can be no expression: it is the name of a capture, an option other than those that give a filter, or its number.
+fn is_beside_filters<S: AsStr>(word: &S) -> bool {
+    let text = word.as_str();
+    let gives_filter = text.starts_with("-e") || text.starts_with("-f");
+    is_capture_name(word) || is_number(text) || (text.starts_with("-") && !gives_filter)
+}
+
+/// Whether these are arguments of `explain` with a capture and without a filter.
+fn lacks_filter<S: AsStr>(words: &[S]) -> bool {
+    command_of(words) == Some("explain")
+        && words.iter().any(is_capture_name)
+        && words.iter().skip(2).all(is_beside_filters)
 }
 
 /// Whether a number follows `-c`, which counts packets and takes none.
@@ -187,8 +243,21 @@ fn counts_by_number<S: AsStr>(words: &[S]) -> bool {
     })
 }
 
-/// Hints on arguments with which a command failed to open a file: a `-` that was meant as a stream, or a number after the `-c` of
-/// `cut`.
+/// Whether these are arguments of a command whose first file has lines, and that file's name is such a line: a number, and more after a blank.
+fn gives_line<S: AsStr>(words: &[S]) -> bool {
+    let has_lines = matches!(command_of(words), Some("steps" | "split" | "run"));
+    let name = match words.get(2) {
+        Some(word) => word.as_str(),
+        None => "",
+    };
+    match name.split_once(" ") {
+        Some((first, _)) => has_lines && is_number(first),
+        None => false,
+    }
+}
+
+/// Hints on arguments with which a command failed to open a file: a `-` that was meant as a stream, a number after the `-c` of `cut`, or
+/// a line in place of a file that has it.
 pub fn hint_failed_words<S: AsStr, E: HintSink>(words: &[S], err: &mut E)
     ensures quiet { E.takes_hints err.old ≡ false → err.new ≡ err.old }
 {
@@ -201,6 +270,9 @@ pub fn hint_failed_words<S: AsStr, E: HintSink>(words: &[S], err: &mut E)
     if is_cut(words) && counts_by_number(words) {
         give_hint("-c takes no number: it counts packets", err);
         give_hint(FIRST_PACKETS, err);
+    }
+    if gives_line(words) {
+        give_hint("this is a line: put it into a file", err);
     }
 }
 

@@ -50,12 +50,24 @@ pub fn hint_printed<T, E: HintSink>(noted: &FailureProbe<T>, err: &mut E)
     }
 }
 
+/// Hints on the device of a capture, which failed. One that is a folder has captures in it, which are named one by one.
+fn hint_device<T, E: HintSink>(noted: &FailureProbe<T>, err: &mut E)
+    ensures quiet { E.takes_hints err.old ≡ false → err.new ≡ err.old }
+{
+    hint_failure(noted, err);
+    if let Some(error) = noted.failure() {
+        if error.kind() == ErrorKind::IsADirectory {
+            give_hint("name its captures: DIR/*.pcap", err);
+        }
+    }
+}
+
 /// Hints on a capture that was not read to its end.
 pub fn hint_input<R, E: HintSink>(source: &ProbedInput<R>, fault: Fault, err: &mut E)
     ensures quiet { E.takes_hints err.old ≡ false → err.new ≡ err.old }
 {
     match fault {
-        Fault::Device => hint_failure(&source.inner, err),
+        Fault::Device => hint_device(&source.inner, err),
         _ => hint_capture_fault(source.inner.first(), fault, err),
     }
 }

@@ -102,7 +102,7 @@ impl Front {
         &self.bytes[..self.came.min(FRONT_LEN)]
     }
 
-    /// Adds what is missing of so many bytes, and returns the bytes after that.
+    /// Adds what is missing of `size` bytes, and returns the bytes after that.
     fn gather<'b>(&mut self, size: usize, bytes: &'b [u8]) -> &'b [u8]
         requires { 0 < length bytes.now }
         ensures { length result.now < length bytes.now }

@@ -96,7 +96,7 @@ impl Display for Blanks {
     }
 }
 
-/// A line that is put over one of so many characters. The next text begins where it does.
+/// A line that is put over one of `width` characters. The next text begins where it does.
 fn line_over(text: &[u8], width: usize) -> io::Result<Line> {
     let shown = str::from_utf8(text).unwrap_or("");
     let mut line = Line::new();
@@ -165,7 +165,7 @@ impl Progress {
         })
     }
 
-    /// Whether it is time to draw the line, so many milliseconds after the start. Of several threads that ask, one gets a yes.
+    /// Whether it is time to draw the line, `millis` milliseconds after the start. Of several threads that ask, one gets a yes.
     fn is_due(&self, millis: u64) -> bool {
         let drawn = self.drawn.load(SeqCst);
         millis >= FIRST_MILLIS

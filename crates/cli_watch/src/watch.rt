@@ -56,7 +56,7 @@ impl<'r, R: Screen> Watch<'r, R> {
         }
     }
 
-    /// Notes that so many bytes were read, in which these frames end.
+    /// Notes that `count` bytes were read, in which these frames end.
     fn note(&self, count: usize, frames: FrameCounts) {
         self.frames.fetch_add(frames.frames, SeqCst);
         self.unseen.fetch_add(frames.unseen, SeqCst);

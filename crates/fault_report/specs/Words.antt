@@ -1,4 +1,4 @@
--- The words of a fault behind its first name.
+-- The words of a fault after its first name.
 use Rattle.std.specs.Borrow.{Bor}
 use Rattle.std.specs.Prelude.{◌≡◌, ℕ, List, [], ◌∷◌, ◌++◌, Option, Some, None, codes, drop}
 use Rattle.std.specs.Fmt.{decimal}

@@ -10,7 +10,7 @@ use cli_text::report::EscapedPath;
 use std::fmt;
 use std::fmt::{Display, Formatter};
 
-/// Prints a report as it stands in a line behind the program's name: its names and numbers, each after a blank, and the file or stream
+/// Prints a report as it stands in a line after the program's name: its names and numbers, each after a blank, and the file or stream
 /// that failed. A path is printed as an [`EscapedPath`].
 #[derive(Clone, Copy)]
 pub struct ReportText<'r, 'a>(pub &'r Report<'a>);

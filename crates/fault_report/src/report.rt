@@ -17,7 +17,7 @@ pub enum Subject<'a> {
     StandardOutput,
 }
 
-/// A fault that is reported: its first name, what stands behind that in its line, and what failed.
+/// A fault that is reported: its first name, what stands after that in its line, and what failed.
 #[derive(Clone, Copy, Debug, PartialEq, Eq)]
 pub struct Report<'a> {
     pub name: &'static str,

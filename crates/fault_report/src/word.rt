@@ -7,7 +7,7 @@ ghost use Rattle.fault_report.specs.declared.word.Word.TheVariants.{Number};
 use std::fmt;
 use std::fmt::{Display, Formatter};
 
-/// A word of a fault behind its first name.
+/// A word of a fault after its first name.
 #[derive(Clone, Copy, Debug, PartialEq, Eq)]
 pub enum Word {
     /// The name of a fault inside the one before.

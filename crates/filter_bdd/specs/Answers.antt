@@ -5,7 +5,7 @@ use Rattle.filter_bdd.specs.declared.answer.Answer.TheVariants.{Final, Never}
 use Rattle.filter_bdd.specs.declared.answer.Operation.{Operation}
 use Rattle.filter_bdd.specs.declared.answer.Operation.TheVariants.{And, Or, Xor, Ite, Agree, Apart, Cut}
 
--- an answer, where so many captured bytes are needed too
+-- an answer, where `need` captured bytes are needed too
 abbrev pub after : ℕ → Answer → Answer
 after need Never = Never
 after need (Final more says) = Final (max need more) says
@@ -60,7 +60,7 @@ apart_answer (Final need true) (Final more false) = Final (max need more) false
 apart_answer (Final need false) (Final more true) = Final (max need more) false
 apart_answer (Final need false) (Final more false) = Final 0 true
 
--- What is left of an answer by a comparison with the length on the wire, which says No where the packet is shorter than so many bytes: a No
+-- What is left of an answer by a comparison with the length on the wire, which says No where the packet is shorter than `size` bytes: a No
 -- that needs as many is Yes, since they cannot be captured.
 abbrev pub cut_answer : Answer → Answer → Answer
 cut_answer Never second = second

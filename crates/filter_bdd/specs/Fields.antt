@@ -9,7 +9,7 @@ abbrev pub digit : Bool → ℕ
 digit true = 1
 digit false = 0
 
--- the number that bits are under a mask: so many of them, of which the bit named `last` is the lowest, and the one named before it the next
+-- the number that `width` bits are under a mask. The bit named `last` is the lowest, and the one named before it the next.
 abbrev pub number_of : (ℕ → Bool) → (last mask : ℕ) → (width : ℕ) → ℕ
 number_of v last mask zero = 0
 number_of v last mask (suc k) = number_of v last mask k + 2 ^ k * digit (is_set mask k && v (last - k))

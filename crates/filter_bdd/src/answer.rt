@@ -32,7 +32,7 @@ pub enum Operation {
 }
 
 impl Answer {
-    /// The answer, where so many captured bytes are needed too.
+    /// The answer, where `need` captured bytes are needed too.
     fn after(self, need: u32) -> Answer
         ensures { result ≡ after need self }
     {
@@ -187,6 +187,19 @@ impl Operation {
     {
         match (self, first) {
             (Operation::Ite, Answer::Final(0, says)) => !says,
+            _ => false,
+        }
+    }
+
+    /// Whether the first answer is the whole beside these, whatever it is.
+    pub(crate) fn keeps_first(self, second: Answer, third: Answer) -> bool
+        ensures { IsTrue result → (first : Answer) → outcome self first second third ≡ first }
+    {
+        match (self, second, third) {
+            (Operation::And, Answer::Final(0, says), _) => says,
+            (Operation::Or, Answer::Final(0, says), _) => !says,
+            (Operation::Xor, Answer::Final(0, says), _) => !says,
+            (Operation::Ite, Answer::Final(0, says), Answer::Final(0, other)) => says && !other,
             _ => false,
         }
     }

@@ -23,7 +23,7 @@ const LEVELS: u32 = 256;
 /// The most entries that the computed cache has.
 const MOST_ENTRIES: usize = 1 << 20;
 
-/// What may be spent: so many nodes of a table, and so many steps, which are nodes added and calls that were not kept.
+/// What may be spent: the nodes of a table, and steps. A step is a call whose result was not kept.
 #[derive(Clone, Copy, Debug, PartialEq, Eq)]
 pub struct Budget {
     pub nodes: usize,
@@ -193,12 +193,26 @@ impl Diagrams {
         }
     }
 
+    /// Whether the first node of a call is the whole, by what the others answer.
+    fn keeps_first(&self, call: Call) -> bool
+        requires { IsInside self.now call }
+        ensures { IsTrue result → (v : ℕ → Bool) → call_answer self.now call v ≡ answer self.now v call.first }
+    {
+        match (self.node(call.second), self.node(call.third)) {
+            (Node::Leaf(second), Node::Leaf(third)) => call.operation.keeps_first(second, third),
+            _ => false,
+        }
+    }
+
     /// Where the node of a call is, if that takes no step.
     fn known(&self, call: Call) -> Option<u32>
         requires { IsInside self.now call }
         ensures { IfSome result (IsResult self.now call) }
     {
         if call.operation.keeps_same() && call.first == call.second {
+            return Some(call.first);
+        }
+        if self.keeps_first(call) {
             return Some(call.first);
         }
         if let Node::Leaf(says) = self.node(call.first) {
@@ -263,7 +277,7 @@ impl Diagrams {
         self.keep(call, place)
     }
 
-    /// The node of a call that goes at most so many bits deep, or else a call below it that is wanted first.
+    /// The node of a call that goes at most `depth` bits deep, or else a call below it that is wanted first.
     #[tactic(auto, using(crate::proofs::Tables::grown_more, crate::proofs::Tables::grown_same, crate::proofs::Tables::grown_inside))]
     fn apply_within(&mut self, call: Call, depth: u32) -> Result<Applied, Stop>
         requires { IsInside self.old call }

@@ -1,7 +1,7 @@
 //! What helps at addresses and lists of them that are written as elsewhere.
 
 use crate::advice::{Advice, Found};
-use crate::spots::{Run, Spot, after_blanks, without_blanks};
+use crate::spots::{HOST, Run, Spot, after_blanks, first_word, without_blanks};
 use std::alloc::Global;
 use std::fmt;
 use std::fmt::{Display, Formatter};
@@ -107,11 +107,16 @@ fn is_ethernet(text: &[u8]) -> bool {
     has_six_parts(text) || has_parts(text, b'.', 3, 4, 4) || has_digits(text, 12, 12)
 }
 
+/// Whether a text is a number: digits, and at least one.
+pub(crate) fn is_number(text: &[u8]) -> bool {
+    !text.is_empty() && text.iter().all(|byte| byte.is_ascii_digit())
+}
+
 /// Whether a text is an IPv4 address.
-fn is_dotted(text: &[u8]) -> bool {
+pub(crate) fn is_dotted(text: &[u8]) -> bool {
     let mut parts: usize = 0;
     for part in text.split(|byte| *byte == b'.') {
-        if part.is_empty() || part.len() > 3 || !part.iter().all(|byte| byte.is_ascii_digit()) {
+        if part.len() > 3 || !is_number(part) {
             return false;
         }
         parts = parts.saturating_add(1);
@@ -285,9 +290,7 @@ pub(crate) fn of_comma<'a>(alloc: Global, spot: Spot<'a>) -> Found<'a> {
 
 /// Whether a text is two numbers with `-` between them.
 fn is_range(text: &[u8]) -> bool {
-    text.split(|byte| *byte == b'-').count() == 2
-        && text.split(|byte| *byte == b'-').all(|part| !part.is_empty()
-            && part.iter().all(|byte| byte.is_ascii_digit()))
+    text.split(|byte| *byte == b'-').count() == 2 && text.split(|byte| *byte == b'-').all(is_number)
 }
 
 /// What helps at a range after `port`.
@@ -325,5 +328,21 @@ pub(crate) fn of_net<'a>(alloc: Global, spot: Spot<'a>) -> Found<'a> {
         Ok(Some(Advice::Round("write `mask` for the `/` before `", spot.token(), "`")))
     } else {
         Ok(Some(Advice::Round("write `", spot.last(), ".0.0.0` before the `/`")))
+    }
+}
+
+/// What helps at an address with a mask after `host`, as `host 10.0.0.0/8`.
+pub(crate) fn of_masked_host<'a>(alloc: Global, spot: Spot<'a>) -> Found<'a> {
+    let run = spot.run();
+    let slash = run.start.saturating_add(run.bytes.len());
+    let first = spot.at(run.start);
+    if first.last() != HOST || !spot.at(slash).rest().starts_with(b"/") {
+        return Ok(None);
+    }
+    let len = first_word(spot.at(slash.saturating_add(1)).rest()).len();
+    let net = spot.between(run.start, slash.saturating_add(len).saturating_add(1));
+    match spot.without(first.start_of_last(), HOST.len()) {
+        Some(gap) if gap.takes(alloc, "net")? => Ok(Some(Advice::Round("write `net ", net, "`"))),
+        _ => Ok(None),
     }
 }

@@ -6,10 +6,16 @@ ghost use Rattle.filter_hints.specs.declared.advice.Advice.TheVariants.{LongProg
 ghost use Rattle.filtergen_facts.specs.declared.refusal.Refusal.TheVariants as Refusal;
 ghost use Rattle.filterlang.specs.declared.fault.Fault.TheVariants as Fault;
 
-use crate::addresses::{AsGroup, WithColons, of_comma, of_ethernet, of_ipv6, of_net, of_range};
-use crate::display_filters::{of_dots, of_service, of_text};
+use crate::addresses::{
+    AsGroup, WithColons, of_comma, of_ethernet, of_ipv6, of_masked_host, of_net, of_range,
+};
+use crate::colons::{Endpoint, of_colon_range, of_endpoint};
+use crate::display_filters::{of_dots, of_flag, of_service, of_text};
+use crate::left_sides::of_left_side;
 use crate::nearest::in_small_letters;
-use crate::other_words::{of_ip_broadcast, of_left_out, of_other_word, of_value};
+use crate::other_words::{
+    of_every_packet, of_ip_broadcast, of_left_out, of_other_word, of_sctp, of_value,
+};
 use crate::spots::{PROTO, Spot, first_word, without_blanks, without_last_word};
 use filtergen_facts::Refusal;
 use filterlang::Fault;
@@ -29,7 +35,7 @@ const ETHERNET_TYPE: &str =
     "write a number from 1501 to 65535 after `ether proto`, or `\\ip`, `\\arp` or `\\rarp`";
 
 /// The word that two ports follow.
-const PORTRANGE: &[u8] = b"portrange";
+pub(crate) const PORTRANGE: &[u8] = b"portrange";
 
 /// What is said of an expression whose program is too long.
 const LONG_PROGRAM: &str =
@@ -60,6 +66,12 @@ pub enum Advice<'a> {
     Service(&'static str, &'a [u8]),
     /// What is written for a field of a display filter, and that field.
     Field(&'static str, &'a [u8]),
+    /// An address with a port after a colon, and the text that it is written for.
+    Endpoint(Endpoint<'a>, &'a [u8]),
+    /// The two numbers of a range with a colon.
+    Range(&'a [u8], &'a [u8]),
+    /// The left side that a comparison lacks, its sign, and the comparison from there on.
+    LeftSide(&'a [u8], &'a [u8], &'a [u8]),
     /// An expression whose program is too long; libpcap's compiler may find a shorter one.
     LongProgram,
 }
@@ -151,6 +163,20 @@ impl Display for Advice<'_> {
             Advice::Group(list) => {
                 write!(f, "write `{}` for `{}`", AsGroup(*list), Shown(*list))
             }
+            Advice::Endpoint(endpoint, original) => {
+                write!(f, "write `{endpoint}` for `{}`", Shown(*original))
+            }
+            Advice::Range(first, last) => {
+                let (first, last) = (Shown(*first), Shown(*last));
+                write!(f, "write `{first}-{last}` for `{first}:{last}`")
+            }
+            Advice::LeftSide(value, sign, comparison) => write!(
+                f,
+                "write the value again before `{}`: `{} {}`",
+                Shown(*sign),
+                Shown(*value),
+                Shown(*comparison)
+            ),
             Advice::Service(written, word) => write!(
                 f,
                 "`{}` is no word of the language: its usual port is `{written}`",
@@ -233,13 +259,20 @@ fn of_known_word<'a>(alloc: Global, spot: Spot<'a>) -> Found<'a> {
     if spot.takes_only_name() && !spot.has_backslash() {
         return Ok(None);
     }
-    if let Some(advice) = of_left_out(spot) {
+    if let Some(advice) = of_flag(alloc, spot)? {
         return Ok(Some(advice));
     }
-    if let Some(advice) = of_text(spot) {
-        return Ok(Some(advice));
+    match of_word_alone(spot) {
+        Some(advice) => Ok(Some(advice)),
+        None => of_service(alloc, spot),
     }
-    of_service(alloc, spot)
+}
+
+/// What helps at a word for which the same is always said.
+fn of_word_alone<'a>(spot: Spot<'a>) -> Option<Advice<'a>> {
+    of_every_packet(spot)
+        .or_else(|| of_left_out(spot))
+        .or_else(|| of_text(spot))
 }
 
 /// What helps at a word that the language lacks.
@@ -366,7 +399,21 @@ fn of_other_form<'a>(alloc: Global, spot: Spot<'a>) -> Found<'a> {
     if let Some(advice) = of_net(alloc, spot)? {
         return Ok(Some(advice));
     }
+    if let Some(advice) = of_missing_part(alloc, spot)? {
+        return Ok(Some(advice));
+    }
     of_joint(alloc, spot)
+}
+
+/// What helps at a colon that no token follows here, or at a comparison without its left side.
+fn of_missing_part<'a>(alloc: Global, spot: Spot<'a>) -> Found<'a> {
+    if let Some(advice) = of_endpoint(alloc, spot)? {
+        return Ok(Some(advice));
+    }
+    if let Some(advice) = of_colon_range(alloc, spot)? {
+        return Ok(Some(advice));
+    }
+    of_left_side(alloc, spot)
 }
 
 /// What helps at a token with which no expression can go on.
@@ -465,6 +512,11 @@ fn of_fault<'a>(alloc: Global, spot: Spot<'a>, fault: Fault) -> Result<Advice<'a
         Fault::BadNumber(_) => Ok(of_number(first_word(spot.rest()))),
         Fault::Syntax(_) => of_syntax(alloc, spot),
         Fault::NoQualifier(_) => Ok(of_no_qualifier(spot.before())),
+        Fault::BadQualifier(_) => Ok(of_sctp(spot).unwrap_or(Advice::Said(sentence(fault)))),
+        Fault::BadIdentifier(_) => {
+            let net = of_masked_host(alloc, spot)?;
+            Ok(net.unwrap_or(Advice::Said(sentence(fault))))
+        }
         _ => Ok(Advice::Said(sentence(fault))),
     }
 }

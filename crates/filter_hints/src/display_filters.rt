@@ -1,12 +1,17 @@
 //! What helps at words and fields of display filters, as Wireshark has them.
 
 use crate::advice::{Advice, Found};
+use crate::other_words::of_written;
 use crate::spots::{Run, Spot, after_blanks, without_blanks};
 use std::alloc::Global;
 
 /// What is said of a display filter for whose words nothing else is written here.
 const DISPLAY_FILTER: &str =
     "this looks like a display filter of Wireshark: here write `tcp port 80` or `host 192.0.2.1`";
+
+/// What is said of a search in the data.
+const SEARCH: &str =
+    "a filter looks at bytes at known places: `tcp[tcp[12] >> 4 << 2:4] = 0x47455420` finds `GET ` at the front of the data";
 
 /// Protocols that fields of display filters begin with.
 static PROTOCOLS: [&[u8]; 18] = [
@@ -31,7 +36,7 @@ static COMPARISONS: [&[u8]; 13] = [
     b"in ",
 ];
 
-/// Comparisons of which only display filters have the words.
+/// Comparisons that search in the data, of which only display filters have the words.
 static OF_TEXT: [&[u8]; 2] = [b"contains", b"matches"];
 
 /// What asks whether a field has a value, the longer first.
@@ -43,7 +48,7 @@ struct Field {
     written: &'static str,
 }
 
-static FIELDS: [Field; 20] = [
+static FIELDS: [Field; 28] = [
     Field {
         name: b"ip.addr",
         written: "ip host ",
@@ -124,38 +129,87 @@ static FIELDS: [Field; 20] = [
         name: b"arp.opcode",
         written: "arp[6:2]",
     },
+    Field {
+        name: b"ip.frag_offset",
+        written: "ip[6:2] & 0x1fff",
+    },
+    Field {
+        name: b"ip.id",
+        written: "ip[4:2]",
+    },
+    Field {
+        name: b"ip.hdr_len",
+        written: "(ip[0] & 15) * 4",
+    },
+    Field {
+        name: b"ip.dsfield",
+        written: "ip[1]",
+    },
+    Field {
+        name: b"tcp.flags",
+        written: "tcp[tcpflags]",
+    },
+    Field {
+        name: b"tcp.window_size_value",
+        written: "tcp[14:2]",
+    },
+    Field {
+        name: b"udp.length",
+        written: "udp[4:2]",
+    },
+    Field {
+        name: b"tcp.len",
+        written: "ip[2:2] - ((ip[0] & 15) << 2) - ((tcp[12] & 0xf0) >> 2)",
+    },
 ];
 
-/// A flag of TCP, and what asks whether it is set.
+/// A flag: the field of it, words that it may be asked by, and what asks whether it is set.
 struct Flag {
     name: &'static [u8],
+    words: &'static [&'static [u8]],
     written: &'static str,
 }
 
-static FLAGS: [Flag; 6] = [
+static FLAGS: [Flag; 8] = [
     Flag {
         name: b"tcp.flags.syn",
+        words: &[b"syn"],
         written: "tcp[tcpflags] & tcp-syn != 0",
     },
     Flag {
         name: b"tcp.flags.ack",
+        words: &[b"ack"],
         written: "tcp[tcpflags] & tcp-ack != 0",
     },
     Flag {
         name: b"tcp.flags.fin",
+        words: &[b"fin"],
         written: "tcp[tcpflags] & tcp-fin != 0",
     },
     Flag {
         name: b"tcp.flags.reset",
+        words: &[b"rst"],
         written: "tcp[tcpflags] & tcp-rst != 0",
     },
     Flag {
         name: b"tcp.flags.push",
+        words: &[b"psh", b"push"],
         written: "tcp[tcpflags] & tcp-push != 0",
     },
     Flag {
         name: b"tcp.flags.urg",
+        words: &[b"urg"],
         written: "tcp[tcpflags] & tcp-urg != 0",
+    },
+    Flag {
+        name: b"ip.flags.mf",
+        words: &[],
+        written: "ip[6:2] & 0x2000 != 0",
+    },
+    Flag {
+        name: b"ip.flags.df",
+        words: &[],
+        written: "ip[6:2] & 0x4000 != 0",
     },
 ];
 
@@ -354,9 +408,18 @@ pub(crate) fn of_text<'a>(spot: Spot<'a>) -> Option<Advice<'a>> {
     let is_of_text = OF_TEXT.contains(&spot.word())
         || OF_TEXT.iter().any(|one| next.starts_with(*one));
     if is_of_text && !spot.takes_address() {
-        Some(Advice::Said(DISPLAY_FILTER))
+        Some(Advice::Said(SEARCH))
     } else {
         None
+    }
+}
+
+/// What helps at the name of a flag of TCP.
+pub(crate) fn of_flag<'a>(alloc: Global, spot: Spot<'a>) -> Found<'a> {
+    let word = spot.word();
+    match FLAGS.iter().find(|flag| flag.words.contains(&word)) {
+        Some(flag) if !spot.has_backslash() => of_written(alloc, spot, flag.written),
+        _ => Ok(None),
     }
 }
 

@@ -3,14 +3,17 @@
 
 mod addresses;
 mod advice;
+mod colons;
 mod display_filters;
 mod excerpt;
+mod left_sides;
 mod nearest;
 mod other_words;
 mod spots;
 mod suggestions;
 
 pub use advice::{Advice, ByLibpcap, advise, advise_refusal};
+pub use colons::Endpoint;
 pub use excerpt::{Caret, Excerpt};
 pub use nearest::is_word;
 pub use suggestions::{is_expression, reads_on};

@@ -110,8 +110,33 @@ static BY_NUMBER: [ByNumber; 8] = [
     },
 ];
 
-/// The word of libpcap's language for `len`.
-const LENGTH: &[u8] = b"length";
+/// A word that other tools have, and what is written for it here.
+struct OtherWord {
+    word: &'static [u8],
+    written: &'static str,
+}
+
+static OTHER_WORDS: [OtherWord; 4] = [
+    OtherWord {
+        word: b"length",
+        written: "len",
+    },
+    OtherWord {
+        word: b"ttl",
+        written: "ip[8]",
+    },
+    OtherWord {
+        word: b"ipv4",
+        written: "ip",
+    },
+    OtherWord {
+        word: b"mac",
+        written: "ether host",
+    },
+];
+
+/// Words of other tools for every packet.
+static EVERY_PACKET: [&[u8]; 2] = [b"any", b"all"];
 
 /// A named value that the language lacks: what it begins with, what follows, and its number.
 struct OtherValue {
@@ -217,26 +242,41 @@ fn of_protocol<'a>(alloc: Global, spot: Spot<'a>, protocol: &ByNumber) -> Found<
     Ok(None)
 }
 
+/// What helps at a word for which something else is written here, if the text reads on with that.
+pub(crate) fn of_written<'a>(alloc: Global, spot: Spot<'a>, written: &'static str) -> Found<'a> {
+    match spot.without_name() {
+        Some(gap) if gap.takes(alloc, written)? => {
+            Ok(Some(Advice::Written(written, "", spot.word())))
+        }
+        _ => Ok(None),
+    }
+}
+
+/// What helps at a word for every packet, if the text has no other.
+pub(crate) fn of_every_packet<'a>(spot: Spot<'a>) -> Option<Advice<'a>> {
+    if EVERY_PACKET.contains(&spot.word()) && spot.is_whole_text() {
+        Some(Advice::Said("every packet is the empty expression, `''`"))
+    } else {
+        None
+    }
+}
+
 /// What helps at a word that means `ether`, if something follows that `ether` goes before.
 fn of_ether<'a>(alloc: Global, spot: Spot<'a>) -> Found<'a> {
     let next = after_blanks(spot.after_word());
     let is_before = next.starts_with(b"[") || AFTER_ETHER.contains(&first_word(next));
-    match spot.without_name() {
-        Some(gap) if is_before && gap.takes(alloc, "ether")? => {
-            Ok(Some(Advice::Written("ether", "", spot.word())))
-        }
-        _ => Ok(None),
+    if is_before {
+        of_written(alloc, spot, "ether")
+    } else {
+        Ok(None)
     }
 }
 
 /// What helps at a word of libpcap's language, or at a protocol, for which something else is written here.
 pub(crate) fn of_other_word<'a>(alloc: Global, spot: Spot<'a>) -> Found<'a> {
     let word = spot.word();
-    if word == LENGTH {
-        return match spot.without_name() {
-            Some(gap) if gap.takes(alloc, "len")? => Ok(Some(Advice::Written("len", "", word))),
-            _ => Ok(None),
-        };
+    if let Some(other) = OTHER_WORDS.iter().find(|other| other.word == word) {
+        return of_written(alloc, spot, other.written);
     }
     if MEAN_ETHER.contains(&word) {
         return of_ether(alloc, spot);
@@ -269,6 +309,17 @@ pub(crate) fn of_ip_broadcast<'a>(spot: Spot<'a>) -> Option<Advice<'a>> {
     if spot.word() == b"broadcast".as_slice() && spot.last() == b"ip".as_slice() && !is_name {
         Some(Advice::Said(
             "`ip broadcast` depends on the mask of a net: write the address, as in `dst host 192.0.2.255`",
+        ))
+    } else {
+        None
+    }
+}
+
+/// What helps at an accessor of `sctp`, which is a word of the language that has none.
+pub(crate) fn of_sctp<'a>(spot: Spot<'a>) -> Option<Advice<'a>> {
+    if spot.word() == b"sctp".as_slice() && spot.after_word().starts_with(b"[") {
+        Some(Advice::Said(
+            "no accessor of `sctp`: `ip[(ip[0] & 15) << 2]` is the first byte after the IPv4 header",
         ))
     } else {
         None

@@ -2,11 +2,14 @@
 
 use crate::suggestions::{Gap, is_no_blank};
 
+/// The word that the address of a host follows.
+pub(crate) const HOST: &[u8] = b"host";
+
 /// Words that an address or a name of one follows.
-pub(crate) static BEFORE_ADDRESSES: [&[u8]; 4] = [b"host", b"net", b"src", b"dst"];
+pub(crate) static BEFORE_ADDRESSES: [&[u8]; 4] = [HOST, b"net", b"src", b"dst"];
 
 /// Words that only a name or a number follows.
-static BEFORE_NAMES: [&[u8]; 4] = [b"host", b"net", b"port", b"portrange"];
+static BEFORE_NAMES: [&[u8]; 4] = [HOST, b"net", b"port", b"portrange"];
 
 /// The word that the number or the name of a protocol follows.
 pub(crate) const PROTO: &[u8] = b"proto";
@@ -105,6 +108,11 @@ impl<'a> Spot<'a> {
     pub(crate) fn after_word(&self) -> &'a [u8] {
         let rest = self.rest();
         rest.get(self.len_of_name()..).unwrap_or(&[])
+    }
+
+    /// Whether the word at the place is the whole text but for blanks.
+    pub(crate) fn is_whole_text(&self) -> bool {
+        without_blanks(self.before()).is_empty() && after_blanks(self.after_word()).is_empty()
     }
 
     /// The bytes of a backslash at the place: one, or none.

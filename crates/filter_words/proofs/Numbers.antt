@@ -225,3 +225,15 @@ equal-start a b = refl
 pub number-more-bits : (a : ℕ → Bool) (k : ℕ) → number a (k + 1) ≡ number a k + 2 ^ k * digit (a k)
 unfolding number
 number-more-bits a k = ap (number a) (add-one k)
+
+-- ---- Constants
+
+pub number-none : (bits : ℕ → Bool) → number bits 0 ≡ 0
+unfolding number
+number-none bits = refl
+
+-- a number with one more bit that is known
+pub number-known : (bits : ℕ → Bool) (b : Bool) (k n m : ℕ) → number bits k ≡ n → bits k ≡ b → m ≡ n + 2 ^ k * digit b → number bits (k + 1) ≡ m
+unfolding number
+number-known bits b k n m low here is =
+    ap (number bits) (add-one k) ∙ ap (λ x. x + 2 ^ k * digit (bits k)) low ∙ ap (λ c. n + 2 ^ k * digit c) here ∙ sym is

@@ -265,3 +265,9 @@ product-value s l h x y p w i sl hx hy less hp hw = record {
 pub product-calculates : (a b : List Node) (x y w : Word) → HasValue b (λ v. (value a v x * number (word_bit a v y) 32) % 2 ^ 32) w → Calculates a b codes.Multiply x y w
 unfolding value
 product-calculates a b x y w h = record { inside = h.inside; is = λ v. h.is v }
+
+-- ---- Constants
+
+pub value-is : (a : List Node) (w : Word) (v : ℕ → Bool) (n : ℕ) → number (word_bit a v w) 32 ≡ n → value a v w ≡ n
+unfolding value
+value-is a w v n h = h

@@ -58,17 +58,17 @@ unfoldable pub are_equal : (a b : ℕ → Bool) → ℕ → Bool
 are_equal a b zero = true
 are_equal a b (suc k) = chosen (differs (a k) (b k)) false (are_equal a b k)
 
--- a number moved by so many bits
+-- a number moved by `count` bits
 abbrev pub shifted : Shift → ℕ → ℕ → ℕ
 shifted Left n count = (n * 2 ^ count) % 2 ^ 32
 shifted Right n count = n / 2 ^ count
 
--- what a place of a word gets where its items are moved by so many places
+-- what place k of a word gets where its items are moved by `count` places
 abbrev pub moved : {A : Type 0} → Shift → (ℕ → A) → (none : A) → (count k : ℕ) → A
 moved Left items none count k = if nat_lt k count then none else items (k - count)
 moved Right items none count k = if nat_lt (k + count) 32 then items (k + count) else none
 
--- the items of so many places, and the same above them
+-- the items of the first `width` places, and one item above them
 abbrev pub padded : {A : Type 0} → (ℕ → A) → (none : A) → (width k : ℕ) → A
 padded items none width k = if nat_lt k width then items k else none
 

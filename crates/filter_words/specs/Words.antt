@@ -9,7 +9,7 @@ use Rattle.filter_bdd.specs.Diagrams.{answer, Gives}
 use Rattle.filter_bdd.specs.Fields.{digit}
 use Rattle.filter_words.specs.declared.word.Word.{Word}
 
--- the number that bits are: so many of them, the first one the lowest
+-- the number that the first `width` bits are, the first one the lowest
 unfoldable pub number : (ℕ → Bool) → (width : ℕ) → ℕ
 number bits zero = 0
 number bits (suc k) = number bits k + 2 ^ k * digit (bits k)

@@ -65,6 +65,9 @@ impl Words {
         ensures says { IfOk result (Says self.new.diagrams (λ v. chosen (bit self.old.diagrams v test) (bit self.old.diagrams v yes) (bit self.old.diagrams v no))) }
         ensures grew { Grew self.old.diagrams self.new.diagrams }
     {
+        if yes == no {
+            return Ok(yes);
+        }
         self.diagrams.ite(test, yes, no)
     }
 }

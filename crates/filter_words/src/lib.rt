@@ -6,6 +6,7 @@
 mod bits;
 mod bitwise;
 mod bytes;
+mod known;
 mod order;
 mod product;
 mod quotient;

@@ -12,7 +12,7 @@ use crate::word::{Word, Words};
 use filter_bdd::{Answer, Stop};
 
 impl Words {
-    /// A sum with one more part of a product: a word moved to the left by so many places, if a bit says Yes.
+    /// A sum with one more part of a product: a word moved to the left by `count` places, if a bit says Yes.
     #[tactic(auto, using(crate::proofs::Nodes::grew_more, crate::proofs::Nodes::grew_same, crate::proofs::Nodes::is_bit_grown, crate::proofs::Nodes::word_grown))]
     fn add_part(&mut self, sum: Word, word: Word, count: usize, test: u32) -> Result<Word, Stop>
         requires sum { IsWord self.old.diagrams sum }
@@ -31,9 +31,9 @@ impl Words {
         self.add(sum, part)
     }
 
-    /// The product.
+    /// The product, with a sum for each bit of the second word that may be 1.
     #[tactic(auto, using(crate::proofs::Nodes::grew_more, crate::proofs::Nodes::grew_same, crate::proofs::Nodes::is_bit_grown, crate::proofs::Nodes::word_grown))]
-    pub fn multiply(&mut self, first: Word, second: Word) -> Result<Word, Stop>
+    fn multiply_each(&mut self, first: Word, second: Word) -> Result<Word, Stop>
         requires first { IsWord self.old.diagrams first }
         requires second { IsWord self.old.diagrams second }
         ensures calculates { IfOk result (Calculates self.old.diagrams self.new.diagrams Multiply first second) }
@@ -45,5 +45,20 @@ impl Words {
             product = next;
         }
         Ok(product)
+    }
+
+    /// The product.
+    #[tactic(auto, using(crate::proofs::Nodes::grew_more, crate::proofs::Nodes::grew_same, crate::proofs::Nodes::is_bit_grown, crate::proofs::Nodes::word_grown))]
+    pub fn multiply(&mut self, first: Word, second: Word) -> Result<Word, Stop>
+        requires first { IsWord self.old.diagrams first }
+        requires second { IsWord self.old.diagrams second }
+        ensures calculates { IfOk result (Calculates self.old.diagrams self.new.diagrams Multiply first second) }
+        ensures grew { Grew self.old.diagrams self.new.diagrams }
+    {
+        if self.free_bits(first) < self.free_bits(second) {
+            self.multiply_each(second, first)
+        } else {
+            self.multiply_each(first, second)
+        }
     }
 }

@@ -19,7 +19,7 @@ pub(crate) enum Shift {
 }
 
 impl Word {
-    /// The node at a place of the word that is moved by so many places, or `no` where none comes.
+    /// The node at a place of the word that is moved by `count` places, or `no` where none comes.
     fn moved(&self, shift: Shift, no: u32, count: usize, place: usize) -> u32
         requires place { place < 32 }
         requires count { count < 32 }
@@ -34,7 +34,7 @@ impl Word {
 }
 
 impl Words {
-    /// A word moved by so many places, less than 32.
+    /// A word moved by `count` places, less than 32.
     #[tactic(auto, using(crate::proofs::Nodes::grew_more, crate::proofs::Nodes::grew_same, crate::proofs::Nodes::is_bit_grown, crate::proofs::Nodes::word_grown))]
     pub(crate) fn shift_by(&mut self, shift: Shift, word: Word, count: usize) -> Result<Word, Stop>
         requires word { IsWord self.old.diagrams word }

@@ -1,10 +1,10 @@
 //! The caller that the page of `cli_compare` shows, crates/cli_compare/README.md.
 
 use crate::same::same;
+use cli_answers::filter::of_expression;
 use cli_compare::FilterPair;
 use cli_compare::each::{DifferenceCounts, compare_each};
-use cli_explain::filter::of_expression;
-use filtergen::ExpressionFault;
+use filterlang::Fault;
 use std::alloc::Global;
 
 /// Appends a line for each packet of a capture in memory that two expressions treat differently, and returns the counts.
@@ -14,10 +14,10 @@ pub fn compared(
     first: &str,
     second: &str,
     told: &mut Vec<u8>,
-) -> Result<DifferenceCounts, ExpressionFault> {
+) -> Result<DifferenceCounts, Fault> {
     let pair = FilterPair {
-        first: of_expression(alloc, first, 262_144)?,
-        second: of_expression(alloc, second, 262_144)?,
+        first: of_expression(alloc, first)?,
+        second: of_expression(alloc, second)?,
     };
     Ok(compare_each(alloc, capture, &pair, told).counts)
 }

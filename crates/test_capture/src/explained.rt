@@ -1,10 +1,11 @@
 //! The caller that the page of `cli_explain` shows, crates/cli_explain/README.md.
 
 use crate::same::same;
-use cli_explain::PacketForm;
-use cli_explain::each::{VerdictCounts, explain_each};
-use cli_explain::filter::of_expression;
-use filtergen::ExpressionFault;
+use cli_answers::PacketForm;
+use cli_answers::counts::VerdictCounts;
+use cli_answers::filter::of_expression;
+use cli_explain::each::explain_each;
+use filterlang::Fault;
 use std::alloc::Global;
 
 /// Appends a line for each packet of a capture in memory, and returns how many an expression accepts and rejects.
@@ -13,8 +14,8 @@ pub fn explained(
     capture: &[u8],
     expr: &str,
     told: &mut Vec<u8>,
-) -> Result<VerdictCounts, ExpressionFault> {
-    let filter = of_expression(alloc, expr, 262_144)?;
+) -> Result<VerdictCounts, Fault> {
+    let filter = of_expression(alloc, expr)?;
     Ok(explain_each(alloc, capture, &filter, PacketForm::Text, told).counts)
 }
 

@@ -2,12 +2,11 @@
 
 use crate::same::same;
 use bpfvm::Program;
+use cli_answers::{AskedFilter, PacketForm};
 use cli_compare::FilterPair;
 use cli_compare::captures::compare_captures;
-use cli_explain::PacketForm;
 use cli_explain::captures::explain_captures;
 use cli_explain::each::explain_each;
-use cli_explain::filter::of_program;
 use cli_filter::filter;
 use cli_split::part::Part;
 use cli_split::split::split;
@@ -107,7 +106,7 @@ fn explain_sends_each_line_before_it_reads_on(rt: HostRuntime) {
         calls: &calls,
     });
     let mut out = writer_of(&rt, &calls);
-    let filter = of_program(accept_all(&rt));
+    let filter = AskedFilter::Program(accept_all(&rt));
     explain_each(rt.alloc(), source, &filter, PacketForm::Text, &mut out);
     same(&rt, out.seen.as_slice(), [2, 3, 4, 5].as_slice());
 }
@@ -118,7 +117,7 @@ fn explain_of_captures_sends_each_line_before_it_reads_on(rt: HostRuntime) {
     let capture = three(&rt);
     let captures = sources_of(&rt, capture.as_slice(), &calls);
     let mut out = writer_of(&rt, &calls);
-    let filter = of_program(accept_all(&rt));
+    let filter = AskedFilter::Program(accept_all(&rt));
     explain_captures(rt.alloc(), captures, &filter, PacketForm::Text, &mut out);
     same(&rt, out.seen.as_slice(), [2, 3, 4].as_slice());
 }
@@ -129,8 +128,8 @@ fn compare_sends_each_line_before_it_reads_on(rt: HostRuntime) {
     let capture = three(&rt);
     let captures = sources_of(&rt, capture.as_slice(), &calls);
     let pair = FilterPair {
-        first: of_program(accept_all(&rt)),
-        second: of_program(reject_all(&rt)),
+        first: AskedFilter::Program(accept_all(&rt)),
+        second: AskedFilter::Program(reject_all(&rt)),
     };
     let mut out = writer_of(&rt, &calls);
     compare_captures(rt.alloc(), captures, &pair, &mut out);

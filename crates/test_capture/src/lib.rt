@@ -21,6 +21,8 @@ mod paths;
 #[cfg(test)]
 mod same;
 #[cfg(test)]
+mod sought;
+#[cfg(test)]
 mod split;
 #[cfg(test)]
 mod surveyed;

@@ -1,10 +1,13 @@
 //! `explain` into an output that takes all and sends nothing on.
 
 use crate::same::same;
-use cli_explain::PacketForm;
-use cli_explain::each::{Unprinted, explain_each};
-use cli_explain::filter::{AskedFilter, of_expression};
+use cli_answers::filter::of_expression;
+use cli_answers::printing::Unprinted;
+use cli_answers::{AskedFilter, PacketForm};
+use cli_explain::FilterWithProgram;
+use cli_explain::each::explain_each;
 use cli_explain::one::explain_one;
+use filtergen::Refusal;
 use std::process::Abort;
 use test_fixtures::captures::{ARP_RECORD, HEADER, concat};
 use test_fixtures::devices::UnflushedWriter;
@@ -20,7 +23,7 @@ fn is_output(printed: &Result<(), Unprinted>) -> bool {
 /// A capture of one packet, and an expression.
 fn asked(rt: &(impl Abort + AllocGlobal)) -> (Vec<u8>, AskedFilter) {
     let capture = concat(rt.alloc(), &[HEADER, ARP_RECORD]).expect(rt, "memory");
-    let filter = of_expression(rt.alloc(), "arp", 262_144).expect(rt, "an expression");
+    let filter = of_expression(rt.alloc(), "arp").expect(rt, "an expression");
     (capture, filter)
 }
 
@@ -45,6 +48,10 @@ fn a_packet_that_is_not_sent_on_is_a_fault(rt: HostRuntime) {
     let (capture, filter) = asked(&rt);
     let taken = Vec::new(rt.alloc());
     let mut out = UnflushedWriter { taken };
+    let filter = FilterWithProgram {
+        filter: &filter,
+        program: Err(Refusal::TooLong),
+    };
     let found = explain_one(rt.alloc(), capture.as_slice(), &filter, 0, &mut out);
     same(&rt, is_output(&found.printed), true);
     assert!(rt; out.taken.starts_with(b"place 0 time 1.000000000 "));

@@ -1,6 +1,6 @@
 use Rattle.std.proofs.Common.{◌++◌, inl, inr, refl}
 use Rattle.std.proofs.KnownBytes.{Consumes-trans, Keeps-refl}
-use Rattle.cli_explain.proofs.Printing.{unopened}
+use Rattle.cli_answers.proofs.Reading.{unopened}
 use Rattle.cli_compare.proofs.each.compare_each.Goals as goal
 
 pub returns-in-Err-clause-compares : goal.returns-in-Err-clause-compares

@@ -2,8 +2,7 @@ use Rattle.std.proofs.Common.{arith, Ok, ◌≤◌, ◌∙◌, ◌++◌, ◌∷�
 use Rattle.std.proofs.KnownBytes.{Appends-nil, Consumes-nil, Consumes-trans}
 use Rattle.savefile.specs.declared.packet.Packet.{Packet}
 use Rattle.savefile.specs.Reader.{HasGiven, WasBegun}
-use Rattle.cli_explain.proofs.Printing.{still-works, works-on, gave-more}
-use Rattle.cli_explain.proofs.Answered.{room-for-one}
+use Rattle.cli_answers.proofs.Reading.{still-works, works-on, gave-more, room-for-one}
 use Rattle.cli_compare.specs.declared.each.DifferenceCounts.{DifferenceCounts}
 use Rattle.cli_compare.specs.Pairs.{AreCounts, AreDifferences}
 use Rattle.cli_compare.proofs.Differences.{goes-on, breaks-off, counted-packets, counted-first, counted-second}

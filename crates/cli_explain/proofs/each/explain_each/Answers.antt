@@ -1,27 +1,12 @@
-use Rattle.std.proofs.Common.{◌++◌, inl, inr, refl}
-use Rattle.std.proofs.KnownBytes.{Consumes-trans, Keeps-refl}
-use Rattle.cli_explain.proofs.Printing.{unopened}
+use Rattle.std.proofs.Common.{ap}
+use Rattle.cli_explain.proofs.Printing.{each-of}
 use Rattle.cli_explain.proofs.each.explain_each.Goals as goal
-
-pub returns-in-Err-clause-explains : goal.returns-in-Err-clause-explains
-returns-in-Err-clause-explains g c =
-    inl (
-      c.in-Err.fault,
-      unopened g.R.Source.left c.args.from c.in-Err.source c.in-Err.fault c.in-Err.ensures.refused c.in-Err.ensures.unread c.in-Err.ensures.taken,
-      refl,
-      refl,
-      Keeps-refl _,
-      record { packets = refl; yes = refl; no = refl; abort = refl },
-      refl,
-    )
 
 pub returns-clause-explains : goal.returns-clause-explains
 returns-clause-explains g c =
-    let header = c.in-Ok.reader.header in
-    rw c.close.ensures (inr (refl, header, c.print_all-ended.ensures.prints (g.R.Source.left c.args.from) header c.in-Ok.ensures.ok))
-
-pub returns-clause-gave : goal.returns-clause-gave
-returns-clause-gave g c =
-    let (first, opened) = c.in-Ok.ensures.taken in
-    let (further, went) = c.print_all-ended.ensures.taken in
-    rw c.close.ensures (first ++ further, Consumes-trans _ _ _ first further opened went)
+    let lines = c.explain_lines-source.result in
+    let told = c.print_totals-printed.ensures in
+    each-of g.R.Source.left c.args.from c.args.form c.args.filter.now _ _ _ lines c.print_totals-printed.result c.explain_lines-source.ensures.explains
+    (λ closed. let (same, stays) = told.none closed in (same, ap g.O.Write.contents stays))
+    (λ failed. let (same, stays) = told.failed failed in (same, ap g.O.Write.contents stays))
+    told.prints

@@ -2,10 +2,13 @@ use Rattle.std.proofs.Common.{arith, Ok, ◌≤◌, ◌∙◌, ◌++◌, ◌∷�
 use Rattle.std.proofs.KnownBytes.{Appends-nil, Consumes-nil, Consumes-trans}
 use Rattle.savefile.specs.declared.packet.Packet.{Packet}
 use Rattle.savefile.specs.Reader.{HasGiven, WasBegun}
-use Rattle.cli_explain.specs.declared.each.VerdictCounts.{VerdictCounts}
-use Rattle.cli_explain.specs.Explained.{packets_of, AreCounts}
-use Rattle.cli_explain.proofs.Printing.{broken-off, read-whole, read-part, still-works, works-on, gave-more}
-use Rattle.cli_explain.proofs.Answered.{goes-on, breaks-off, packets-last, room-for-one, counted-packets, counted-yes, counted-no, counted-abort}
+use Rattle.cli_answers.specs.declared.counts.VerdictCounts.{VerdictCounts}
+use Rattle.cli_answers.specs.Counts.{AreCounts}
+use Rattle.cli_explain.specs.Explained.{packets_of}
+use Rattle.cli_answers.proofs.Reading.{still-works, works-on, gave-more, room-for-one}
+use Rattle.cli_explain.proofs.Printing.{broken-off, read-whole, read-part}
+use Rattle.cli_answers.proofs.Counting.{counted-packets, counted-yes, counted-no, counted-abort}
+use Rattle.cli_explain.proofs.Answered.{goes-on, breaks-off, packets-last}
 use Rattle.cli_explain.proofs.each.print_lines.Goals as goal
 
 pub loop-reader-init : goal.loop-reader-init

@@ -4,11 +4,11 @@ use Rattle.cli_explain.proofs.json.put_end.Goals as goal
 
 pub returns : goal.returns
 returns c =
-    let end = c.in_ok-end.end in
+    let end = c.end_of_run-end.result in
     let run = run_json end.number end.place in
     let instruction = instruction_json end.insn in (
       end_json end.number end.place end.insn,
-      record { number = end.number; place = end.place; insn = end.insn; ends = c.in_ok-end.ensures; answers = c.ended_as-verdict.ensures; told = refl },
+      record { number = end.number; place = end.place; insn = end.insn; ends = c.end_of_run-end.ensures; answers = c.ended_as-verdict.ensures; told = refl },
       c.in_ok-put_instruction.ensures
           ∙ ap (λ (t : List ℕ). t ++ instruction) (c.in_ok-put_number.ensures ∙ ap (λ (t : List ℕ). t ++ run) c.in_ok-put_verdict.ensures)
           ∙ append_assoc (string_bytes c.args.line.now ++ verdict_json c.ended_as-verdict.result) run instruction,

@@ -1,6 +1,7 @@
 use Rattle.std.proofs.Common.{rules, Ok, ◌+◌, arith, ◌∙◌, ◌++◌, ◌∷◌, [], ap, length-append}
 use Rattle.std.proofs.KnownBytes.{Consumes-trans}
-use Rattle.cli_explain.proofs.Printing.{goes-to, still-works}
+use Rattle.cli_answers.proofs.Reading.{still-works}
+use Rattle.cli_explain.proofs.Printing.{goes-to}
 use Rattle.cli_explain.proofs.one.go_to.Goals as goal
 
 pub loop-passed-preserved : goal.loop-passed-preserved

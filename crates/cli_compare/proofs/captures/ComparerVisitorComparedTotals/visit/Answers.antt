@@ -1,6 +1,6 @@
 use Rattle.std.proofs.Common.{ap}
 use Rattle.cli_walk.specs.Walking.{visited}
-use Rattle.cli_explain.proofs.Visits.{broke-so}
+use Rattle.cli_answers.proofs.Visits.{broke-so}
 use Rattle.cli_compare.proofs.Visits.{totals-as}
 use Rattle.cli_compare.proofs.captures.ComparerVisitorComparedTotals.visit.Goals as goal
 

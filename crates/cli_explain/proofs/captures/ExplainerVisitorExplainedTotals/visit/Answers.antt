@@ -1,7 +1,8 @@
 use Rattle.std.proofs.Common.{ap, subst}
 use Rattle.cli_walk.specs.Walking.{visited}
 use Rattle.cli_explain.specs.Explained.{ExplainsLines}
-use Rattle.cli_explain.proofs.Visits.{broke-so, totals-as}
+use Rattle.cli_answers.proofs.Visits.{broke-so}
+use Rattle.cli_explain.proofs.Visits.{totals-as}
 use Rattle.cli_explain.proofs.captures.ExplainerVisitorExplainedTotals.visit.Goals as goal
 
 pub returns-clause-visits : goal.returns-clause-visits

@@ -1,8 +1,0 @@
-use Rattle.std.proofs.Common.{◌≡◌, ◌++◌, drop, string_bytes}
-use Rattle.std.specs.List.{flat_map}
-use Rattle.cli_explain.specs.Dumps.{shown}
-use Rattle.cli_explain.proofs.dump.put_characters.Given as goal
-
--- what was appended, and what is left, are all
-abbrev pub invariant-loop-byte : goal.invariant-loop-byte
-invariant-loop-byte l = string_bytes l.text ++ flat_map shown (drop l.byte-index l.bytes) ≡ string_bytes l.fn.text ++ flat_map shown l.fn.bytes

@@ -1,8 +1,0 @@
-use Rattle.std.proofs.Common.{arith, append_assoc}
-use Rattle.std.proofs.lemmas.Grind.{common_steps}
-use Rattle.cli_explain.specs.Dumps.{row_text}
-use Rattle.cli_explain.proofs.dump.put_row.Goals as goal
-
-pub returns : goal.returns
-unfolding row_text
-returns c = grind (arith, common_steps, append_assoc)
