@@ -6,16 +6,23 @@ use Rattle.cli_json.specs.declared.form.LineForm.{LineForm}
 use Rattle.cli_json.specs.declared.form.LineForm.TheVariants.{Text, Json}
 use Rattle.cli_text.specs.Telling.{end_of_line}
 use Rattle.cli_answers.specs.declared.counts.VerdictCounts.{VerdictCounts}
-use Rattle.cli_answers.specs.Counts.{counts_text}
 
 -- `PATH N packets: Y Yes, N No, A Abort`
 unfoldable pub count_text : List ℕ → VerdictCounts → List ℕ
-count_text path c = path ++ codes " " ++ counts_text c.packets c.yes c.no c.abort
+count_text path c = path ++ codes " " ++ decimal c.packets ++ codes " packets: " ++ decimal c.yes ++ codes " Yes, " ++ decimal c.no
+    ++ codes " No, " ++ decimal c.abort ++ codes " Abort" ++ end_of_line
+
+-- `,"NAME":N`
+abbrev pub member_json : List ℕ → ℕ → List ℕ
+member_json name number = codes ",\"" ++ name ++ codes "\":" ++ decimal number
+
+-- `,"packets":N,"yes":Y,"no":N,"abort":A`
+abbrev pub counts_json : VerdictCounts → List ℕ
+counts_json c = member_json (codes "packets") c.packets ++ member_json (codes "yes") c.yes ++ member_json (codes "no") c.no ++ member_json (codes "abort") c.abort
 
 -- `{"file":"PATH","packets":N,"yes":Y,"no":N,"abort":A}`
-unfoldable pub count_json : List ℕ → VerdictCounts → List ℕ
-count_json path c = codes "{\"file\":" ++ json_string path ++ codes ",\"packets\":" ++ decimal c.packets ++ codes ",\"yes\":" ++ decimal c.yes
-    ++ codes ",\"no\":" ++ decimal c.no ++ codes ",\"abort\":" ++ decimal c.abort ++ codes "}" ++ end_of_line
+abbrev pub count_json : List ℕ → VerdictCounts → List ℕ
+count_json path c = codes "{\"file\":" ++ json_string path ++ counts_json c ++ codes "}\n"
 
 -- the line of the counts of the capture at a path
 abbrev pub count_line : LineForm → List ℕ → VerdictCounts → List ℕ

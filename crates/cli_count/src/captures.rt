@@ -50,6 +50,13 @@ pub struct CountedCaptures<R> {
     pub read: Result<(), Stop>,
 }
 
+/// Whether one of the two holds.
+pub(crate) fn either(one: bool, other: bool) -> bool
+    ensures { result ≡ (one || other) }
+{
+    one || other
+}
+
 impl CountJob<'_, '_, '_> {
     /// Prints the counts of the capture of this number, if they are asked for and its header was read.
     fn show<O: Write>(
@@ -89,8 +96,9 @@ impl<R: Source, O: Write> Visitor<R, CountTotals, O> for CountJob<'_, '_, '_> {
         } = count_packets(self.alloc, capture, self.filter);
         let printed = self.show(number, opened, counts, out);
         let goes_on = goes_on(read, &printed);
+        let opened = either(totals.opened, opened);
         *totals = CountTotals {
-            opened: totals.opened || opened,
+            opened,
             counts: totals.counts.plus(counts),
             printed,
         };

@@ -2,7 +2,7 @@
 
 ghost use Rattle.std.specs.Prelude.{◌≡◌, ◌++◌, IfOk, OnOk, Some, string_bytes};
 ghost use Rattle.cli_text.specs.Sending.{Takes};
-ghost use Rattle.cli_count.specs.Lines.{count_json, count_line, count_text, path_json, path_line};
+ghost use Rattle.cli_count.specs.Lines.{count_json, count_line, count_text, counts_json, member_json, path_json, path_line};
 
 use cli_answers::counts::VerdictCounts;
 use cli_answers::printing::Unprinted;
@@ -21,19 +21,33 @@ fn put_count_text(line: &mut String, path: &str, counts: VerdictCounts) -> Resul
     write!(line, "{} No, {} Abort\n", counts.no, counts.abort)
 }
 
+/// Appends a number as a member of an object.
+fn put_member(line: &mut String, name: &str, number: u64) -> Result<(), AllocError>
+    ensures { OnOk result (string_bytes line.new ≡ string_bytes line.old ++ member_json name.now number) }
+{
+    line.push_str(",\"")?;
+    line.push_str(name)?;
+    write!(line, "\":{number}")
+}
+
+/// Appends the counts as members of an object.
+fn put_counts(line: &mut String, counts: VerdictCounts) -> Result<(), AllocError>
+    ensures { OnOk result (string_bytes line.new ≡ string_bytes line.old ++ counts_json counts) }
+{
+    put_member(line, "packets", counts.packets)?;
+    put_member(line, "yes", counts.yes)?;
+    put_member(line, "no", counts.no)?;
+    put_member(line, "abort", counts.abort)
+}
+
 /// Appends the counts of the capture at a path, as an object.
-#[tactic(auto, unfolding(crate::specs::Lines::count_json))]
 fn put_count_object(line: &mut String, path: &str, counts: VerdictCounts) -> Result<(), AllocError>
     ensures { OnOk result (string_bytes line.new ≡ string_bytes line.old ++ count_json path.now counts) }
 {
     line.push_str("{\"file\":")?;
     put_string(line, path)?;
-    write!(
-        line,
-        ",\"packets\":{},\"yes\":{}",
-        counts.packets, counts.yes
-    )?;
-    write!(line, ",\"no\":{},\"abort\":{}}}\n", counts.no, counts.abort)
+    put_counts(line, counts)?;
+    line.push_str("}\n")
 }
 
 /// The line of the counts of the capture at a path.

@@ -3,6 +3,7 @@
 ghost use Rattle.std.specs.Prelude.{◌≡◌, ◌||◌, slice_get};
 ghost use Rattle.cli_count.specs.Captures.{ListsIn, ListsNext, Shows, looked, shown_path, was_found};
 
+use crate::captures::either;
 use crate::line::print_path;
 use cli_answers::captures::{goes_on, read_of};
 use cli_answers::printing::Unprinted;
@@ -85,10 +86,8 @@ impl<R: Source, O: Write, T: PacketTest> Visitor<R, ListTotals, O> for ListJob<'
         let is_found = was_found(found);
         let printed = self.show(number, is_found, out);
         let goes_on = goes_on(looked(found), &printed);
-        *totals = ListTotals {
-            found: totals.found || is_found,
-            printed,
-        };
+        let found = either(totals.found, is_found);
+        *totals = ListTotals { found, printed };
         Visited { source, goes_on }
     }
 }

@@ -10,7 +10,7 @@ returns-clause-visits g c =
       c.count_packets-source.ensures.counts,
       ap (visited e.source) c.goes_on-goes_on.ensures,
       c.show-printed.ensures,
-      refl,
+      c.either-opened.ensures,
       c.plus.ensures,
     )
 
