@@ -2,13 +2,13 @@
 
 ghost use Rattle.std.specs.Prelude.{◌≡◌, ℕ, ◌<◌, Option, Some, option_and_then, IfOk, IfSome};
 ghost use Rattle.filter_tree.specs.Trees.{amount_of};
-ghost use Rattle.filter_meaning.specs.Meaning.{Packet, accessed, behind_header, bytes_of, value};
-ghost use Rattle.filter_symbols.specs.Symbols.{IsSymbol, StandsFor, Extends};
+ghost use Rattle.filter_meaning.specs.Meaning.{Packet, accessed, bytes_of, value, compared, check_both};
+ghost use Rattle.filter_symbols.specs.Symbols.{IsSymbol, StandsFor, SaysOf, Extends};
 ghost use Rattle.filter_symbols.specs.Steps.{index_behind};
 
 use crate::symbol::{Refusal, Symbol, Symbols};
 use filter_bdd::{Answer, Operation, Stop};
-use filter_tree::{Layer, Operator, Size, Value};
+use filter_tree::{Comparison, Layer, Operator, Size, Value};
 
 /// Where what comes after the Ethernet header begins.
 const NETWORK: u32 = 14;
@@ -105,5 +105,25 @@ impl Symbols {
                 Ok(bytes)
             }
         }
+    }
+
+    /// A node that says whether two values compare in this way. It aborts where a packet lacks one of them.
+    ///
+    /// Errors are those of [`symbol_of`](Symbols::symbol_of).
+    #[tactic(auto, using(crate::proofs::Stands::extends_more, crate::proofs::Guards::symbol_extended))]
+    pub fn compare_values(
+        &mut self,
+        comparison: Comparison,
+        left: &Value,
+        right: &Value,
+    ) -> Result<u32, Refusal>
+        requires { IfSome self.old.header (λ n. n < 16) }
+        ensures says { IfOk result (SaysOf self.new (λ p. check_both (compared comparison) (value (amount_of left.now) p) (value (amount_of right.now) p))) }
+        ensures extends { Extends self.old self.new }
+    {
+        let first = self.symbol_of(left)?;
+        let second = self.symbol_of(right)?;
+        let holds = self.compare(comparison, first, second)?;
+        Ok(holds)
     }
 }
