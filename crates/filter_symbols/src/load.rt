@@ -1,6 +1,6 @@
 //! Bytes of a packet as symbols, at an index that is known or calculated.
 
-ghost use Rattle.std.specs.Prelude.{◌≡◌, ℕ, ◌+◌, ◌^◌, ◌<◌, ◌≤◌, true, false, Option, option_and_then, IfOk};
+ghost use Rattle.std.specs.Prelude.{◌≡◌, ℕ, ◌+◌, ◌^◌, ◌<◌, ◌≤◌, Bool, true, false, Option, option_and_then, IfOk};
 ghost use Rattle.bpfvm.specs.Machine.{number_at};
 ghost use Rattle.filter_meaning.specs.Meaning.{Packet, bytes_of};
 ghost use Rattle.filter_words.specs.Words.{number, bit, word_bit, value, IsBit, IsWord};
