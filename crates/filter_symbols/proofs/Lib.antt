@@ -1,0 +1,4 @@
+pub mod Frames
+pub mod Stands
+pub mod Accesses
+pub mod Guards

@@ -1,0 +1,3 @@
+pub mod Packets
+pub mod Symbols
+pub mod Steps
