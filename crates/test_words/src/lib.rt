@@ -1,7 +1,5 @@
-//! Tests of `filter_words`, by the caller of its page, and of `filter_symbols`.
+//! Tests of `filter_words`: the caller of its page.
 #![tactic(auto)]
 
 #[cfg(test)]
 mod caller;
-#[cfg(test)]
-mod symbols;
