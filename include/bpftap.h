@@ -159,8 +159,8 @@ struct bpftap_result bpftap_print(const char *text, size_t text_size, char *to, 
 
 /* ---- Programs that are run ---- */
 
-/* Prepare a program in memory of the caller. It takes bpftap_program_size() bytes, aligned as malloc aligns. The size is the same at every call of one
- * version, and may differ in the next. A program needs no clean-up.
+/* Prepare a program in memory of the caller. It takes bpftap_program_size() bytes, aligned as malloc aligns. The size is the same at every
+ * call of one version, and may differ in the next. A program needs no clean-up.
  *
  * bpftap_program_init checks the instructions once and puts them there. If it returns a fault (those of instructions), the program
  * in the memory rejects every packet. bpftap_program_run may be called after it, any number of times and by several threads at
@@ -230,8 +230,8 @@ struct bpftap_traced {
     size_t place;
 };
 
-/* Runs a program on a packet, step by step. It writes each instruction that is executed, in order. The last one ends the run: a return, a load past the
- * captured bytes, or a division by an index register of 0. BPFTAP_MAX_INSNS are always room enough.
+/* Runs a program on a packet, step by step. It writes each instruction that is executed, in order. The last one ends the run: a return, a
+ * load past the captured bytes, or a division by an index register of 0. BPFTAP_MAX_INSNS are always room enough.
  * Faults: those of instructions, NO_ROOM, NO_MEMORY. */
 struct bpftap_traced bpftap_trace(const BPFTAP_INSN *insns, size_t size, const uint8_t *packet, size_t captured, uint32_t wire,
                                   struct bpftap_executed *to, size_t room);
@@ -440,13 +440,15 @@ enum bpftap_fed {
  * Faults: BAD_SNAP, BAD_CAPACITY. The listener is closed then: `closed` is 1, its counts and sizes are 0, and all else is as it was. */
 uint32_t bpftap_listener_open(struct bpftap_listener *listener);
 
-/* Takes a packet that arrives. It has the place, the time and the wire length of `packet`, and comes from the capture of this number. `answer`
- * is what a filter answers to it: the least of `answer`, `snap` and `captured` is kept of it, and 0 rejects it. Fewer than 2^64 - 1 packets may arrive.
+/* Takes a packet that arrives. It has the place, the time and the wire length of `packet`, and comes from the capture of this number.
+ * `answer` is what a filter answers to it: the least of `answer`, `snap` and `captured` is kept of it, and 0 rejects it. Fewer than 2^64 - 1
+ * packets may arrive.
  * It returns an enum bpftap_fed. */
 uint32_t bpftap_listener_arrive(struct bpftap_listener *listener, uint32_t answer, uint32_t capture, const struct bpftap_record *packet,
                                 const uint8_t *bytes, size_t captured);
 
-/* Flushes a listener: makes the store the hold if it has messages and the hold has none, as the read timeout of bpf(4) does, and returns whether it did. */
+/* Flushes a listener: makes the store the hold if it has messages and the hold has none, as the read timeout of bpf(4) does, and returns
+ * whether it did. */
 bool bpftap_listener_flush(struct bpftap_listener *listener);
 
 /* Reads the hold: its messages are in `batch` afterwards, `size` bytes, and what was in `batch` is forgotten. The two exchange their memory,

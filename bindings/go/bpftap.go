@@ -156,7 +156,7 @@ func textOf(text string) (*C.char, C.size_t) {
 	return (*C.char)(unsafe.Pointer(bytesOf([]byte(text)))), C.size_t(len(text))
 }
 
-// Version is the version of the C library, as 2.0.0.
+// Version is the version of the C library: three numbers with dots between them.
 func Version() string {
 	line, _ := text(64, func(to *C.char, room C.size_t) C.struct_bpftap_result { return C.bpftap_version(to, room) })
 	version, _, _ := strings.Cut(line, " ")

@@ -166,7 +166,7 @@ def text(call, room=4096):
 
 
 def version() -> str:
-    """The version of the C library, as `2.0.0`."""
+    """The version of the C library: three numbers with dots between them."""
     return text(lib.bpftap_version)[1].decode().partition(" ")[0]
 
 
