@@ -536,9 +536,9 @@ struct bpftap_result bpftap_fault_text(uint32_t fault, size_t place, char *to, s
 /* Writes what helps to fix an expression that is refused: the sentence that the program prints below the line of such a fault. `fault` and
  * `place` are those that bpftap_compile, or another call that reads expressions, returned for this text. If libpcap's compiler may make a
  * program where this one makes none, a line feed and a second line follow. That line says how, and speaks of the program's command line
- * (`-f FILE`). Nothing is written, and `size` is 0, if `fault` is BPFTAP_BAD_SNAP or no fault of an expression; at every other fault something is
- * written. In place of a control character of the text a sentence has a blank or `?`; other characters stay as they are, those that turn the
- * direction of a line too, as U+202E. 1,024 bytes have been room enough in every test; that is not proved.
+ * (`-f FILE`). The text is empty, and `size` is 0, if `fault` is BPFTAP_BAD_SNAP or no fault of an expression; at every other fault there is a
+ * sentence. In place of a control character of the text a sentence has a blank or `?`; other characters stay as they are, those that turn the
+ * direction of a line too, as U+202E. 1,024 bytes are room enough in every test, which is not proved.
  * Faults: NOT_TEXT, NO_ROOM, NO_MEMORY. */
 struct bpftap_result bpftap_hint(const char *text, size_t text_size, uint32_t fault, size_t place, char *to, size_t room);
 
