@@ -234,11 +234,14 @@ def ship_builds_nothing(scene):
         shutil.copy(ROOT / name, top / name)
     scene.put({"top/release/SHA256SUMS": f"# sources {'0' * 64}\n", "top/build": "#!/bin/sh\ntouch built\nexit 1\n"})
     (top / "build").chmod(0o755)
-    said, status = done(scene, [top / "bindings" / "ship"], at=top, env=bare())
-    shown = [line for line in said.splitlines() if not line.startswith(("sha256sum: ", "find: "))]
-    scene.check("ship", (shown, status), ([
-        "ship: the sources are newer than the release: ./build bpftap_c makes their library, in out/lib; or ship the released one:",
-        "  BPFTAP_LIB=$(sh release/lib.sh unpacked_path bpftap-x86_64-linux.tar.xz)/lib bindings/ship"], 1))
+    lines = [f"ship: the sources are newer than the release: run {top}/build bpftap_c, which makes their library in out/lib",
+             f"  or ship the released one: BPFTAP_LIB=$(sh '{top}/release/lib.sh' unpacked_path bpftap-x86_64-linux.tar.xz)/lib '{top}/bindings/ship'"]
+    for archive in (False, True):
+        if archive:
+            scene.put({"top/release/bpftap-x86_64-linux.tar.xz": "an archive"})
+        said, status = done(scene, [top / "bindings" / "ship"], env=bare())
+        shown = [line for line in said.splitlines() if not line.startswith(("sha256sum: ", "find: "))]
+        scene.check(f"ship, with an archive: {archive}", (shown, status), (lines[: 1 + archive], 1))
     scene.check("what was built or shipped", [path.name for path in (top / "built", top / "bindings" / "go" / "native") if path.exists()], [])
 
 
