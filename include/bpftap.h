@@ -148,19 +148,19 @@ struct bpftap_result bpftap_check(const BPFTAP_INSN *insns, size_t size);
 /* Reads a listing, the form of `tcpdump -ddd`, into `insns`. Faults: BAD_LINE, COUNT, those of instructions, NO_ROOM. */
 struct bpftap_result bpftap_read_listing(const char *text, size_t text_size, BPFTAP_INSN *insns, size_t room);
 
-/* Writes the listing of a program, or its instructions by their names, as `tcpdump -d` prints them. 16 KiB are always room enough
+/* Write a program as text: its listing, or its instructions by their names, as `tcpdump -d` prints them. 16 KiB are always room enough
  * for a listing, 64 KiB for an image. Faults: those of instructions, NO_ROOM, NO_MEMORY. */
 struct bpftap_result bpftap_write_listing(const BPFTAP_INSN *insns, size_t size, char *to, size_t room);
 struct bpftap_result bpftap_image(const BPFTAP_INSN *insns, size_t size, char *to, size_t room);
 
-/* Writes a filter expression in its canonical form, which shows how it was read. Faults: any of an expression but TOO_LONG, TOO_DEEP and
+/* Writes a filter expression in its canonical form. That form shows how it was read. Faults: any of an expression but TOO_LONG, TOO_DEEP and
  * BAD_SNAP; NO_ROOM, NOT_TEXT, NO_MEMORY. */
 struct bpftap_result bpftap_print(const char *text, size_t text_size, char *to, size_t room);
 
 /* ---- Programs that are run ---- */
 
-/* A program in memory of the caller: bpftap_program_size() bytes, aligned as malloc aligns. The size is the same at every call of one
- * version, and may differ in the next. A program needs no clean-up.
+/* Prepare a program in memory of the caller. It takes bpftap_program_size() bytes, aligned as malloc aligns. The size is the same at every
+ * call of one version, and may differ in the next. A program needs no clean-up.
  *
  * bpftap_program_init checks the instructions once and puts them there. If it returns a fault (those of instructions), the program
  * in the memory rejects every packet. bpftap_program_run may be called after it, any number of times and by several threads at
@@ -169,7 +169,7 @@ struct bpftap_program;
 size_t bpftap_program_size(void);
 uint32_t bpftap_program_init(struct bpftap_program *program, const BPFTAP_INSN *insns, size_t size);
 
-/* What a program answers to a packet: how many of its bytes to keep, 0 if it rejects the packet. `wire` is the packet's length on the
+/* Runs a program on a packet, and returns its answer: how many bytes of the packet to keep, 0 if it rejects it. `wire` is the packet's length on the
  * wire. A load past the captured bytes ends the program with 0. */
 uint32_t bpftap_program_run(const struct bpftap_program *program, const uint8_t *packet, size_t captured, uint32_t wire);
 
@@ -187,20 +187,22 @@ struct bpftap_span {
     uint32_t wire;
 };
 
-/* Check instructions once, and put what they answer to each packet into `answers`. Spans may come in any order, and overlap.
- * Faults: those of instructions, NO_ROOM. */
+/* Run instructions on many packets: check them once, and put what they answer to each packet into `answers`. Spans may come in any order, and
+ * overlap. Faults: those of instructions, NO_ROOM. */
 struct bpftap_result bpftap_run_each(const BPFTAP_INSN *insns, size_t size, const struct bpftap_packet *packets, size_t count,
                                      uint32_t *answers, size_t room);
 struct bpftap_result bpftap_run_spans(const BPFTAP_INSN *insns, size_t size, const uint8_t *memory, size_t memory_size,
                                       const struct bpftap_span *spans, size_t count, uint32_t *answers, size_t room);
 
-/* The same of packets that lie in a memory one after the other, from byte 0 on. Packet `n` has `sizes[n]` bytes, on the wire too. Bytes
- * past the memory are not captured. */
+/* Runs instructions on packets that are joined: checks them once, and puts what they answer to each packet into `answers`. The packets lie in
+ * `memory` one after the other, from byte 0 on. Packet `n` has `sizes[n]` bytes, on the wire too. Bytes past the memory are not captured.
+ * Faults: those of instructions, NO_ROOM. */
 struct bpftap_result bpftap_run_joined(const BPFTAP_INSN *insns, size_t size, const uint8_t *memory, size_t memory_size,
                                        const uint32_t *sizes, size_t count, uint32_t *answers, size_t room);
 
-/* The same of a program that was prepared: nothing is checked again, so a batch may be one packet. Several threads may run a program at
- * once, each with answers of its own. Faults: NO_ROOM. */
+/* Run a prepared program on many packets: put what it answers to each packet into `answers`. The packets are handed over as those of
+ * bpftap_run_each, bpftap_run_spans and bpftap_run_joined are. Nothing is checked again, so a batch may be one packet. Several threads may run
+ * a program at once, each with answers of its own. Faults: NO_ROOM. */
 struct bpftap_result bpftap_program_run_each(const struct bpftap_program *program, const struct bpftap_packet *packets, size_t count,
                                              uint32_t *answers, size_t room);
 struct bpftap_result bpftap_program_run_spans(const struct bpftap_program *program, const uint8_t *memory, size_t memory_size,
@@ -228,8 +230,8 @@ struct bpftap_traced {
     size_t place;
 };
 
-/* Runs a program on a packet, and writes each instruction that it executes, in order. The last one ends the run: a return, a load past the
- * captured bytes, or a division by an index register of 0. BPFTAP_MAX_INSNS are always room enough.
+/* Runs a program on a packet, step by step. It writes each instruction that is executed, in order. The last one ends the run: a return, a
+ * load past the captured bytes, or a division by an index register of 0. BPFTAP_MAX_INSNS are always room enough.
  * Faults: those of instructions, NO_ROOM, NO_MEMORY. */
 struct bpftap_traced bpftap_trace(const BPFTAP_INSN *insns, size_t size, const uint8_t *packet, size_t captured, uint32_t wire,
                                   struct bpftap_executed *to, size_t room);
@@ -256,7 +258,7 @@ struct bpftap_reason {
     size_t place;
 };
 
-/* Says what an expression answers to a packet, and writes the answer and the primitive or relation that decides: `No tcp port 80`.
+/* Says what an expression answers to a packet, and why. It writes the answer and the primitive or relation that decides: `No tcp port 80`.
  * ABORT means that a byte past the captured ones was wanted, or that a divisor was 0; a filter rejects the packet then.
  * The expression may be one that is too long or too deep to compile. Faults: those of bpftap_print. */
 struct bpftap_reason bpftap_why(const char *text, size_t text_size, const uint8_t *packet, size_t captured, uint32_t wire, char *to,
@@ -292,8 +294,8 @@ struct bpftap_comparison {
     size_t place;    /* where the fault is, if it has a place; else 0 */
 };
 
-/* Decides for every packet that there can be whether two expressions accept it alike, and writes a packet that shows a difference, if it
- * has one: its captured bytes. 1,514 bytes are mostly room enough; without enough the answer is returned all the same, with NO_ROOM.
+/* Decides whether two expressions accept the same packets. The answer is for every packet that there can be. If it has a packet that shows a
+ * difference, it writes its captured bytes. 1,514 bytes are mostly room enough; without enough the answer is returned all the same, with NO_ROOM.
  * `budget` is how many nodes the diagrams of one header length may have, and a sixth of the steps that are taken in all: `bpftap compare`
  * takes 2,000,000. The more of it is needed, the more memory and time are taken. A relation is decided if one side is a constant, and the
  * other is `len` or the bytes of a layer at a constant index, under a constant mask or none.
@@ -347,12 +349,17 @@ struct bpftap_record bpftap_next(const uint8_t *memory, size_t size, struct bpft
 /* Reads many records at once: reads on as that many calls of bpftap_next do, and writes where the bytes of each record lie and its length on
  * the wire, until there are `room` spans or a call would return a fault. `size` is the number of spans that were written. The reader is where
  * those calls leave it, so the next call reads on. bpftap_run_spans and bpftap_program_run_spans take the spans as they are.
+ *
+ * The memory may be a window of a longer capture, as that of bpftap_next. If TORN_RECORD or END is returned and the capture has further bytes,
+ * use the spans first, since they count from the front of this window. Then move the window's bytes from reader.offset on to its front, append
+ * further ones, set reader.offset to 0, and call again.
+ *
  * Faults: those of bpftap_next, END too, with the same `place`: the number of records before it. The spans before it are written all the same.
  * If there are `room` spans, the fault is BPFTAP_OK, whatever comes after them. */
 struct bpftap_result bpftap_spans(const uint8_t *memory, size_t memory_size, struct bpftap_reader *reader, struct bpftap_span *spans,
                                   size_t room);
 
-/* Write the header of a capture, 24 bytes, and the record of a packet: 16 bytes and then `bytes`. The record has the time and the
+/* Write a capture: its header of 24 bytes, and the record of a packet, of 16 bytes and then `bytes`. The record has the time and the
  * wire length of `packet`, whose other members are not used but for `place` as the place of a fault. `order` and `unit` are those of a
  * reader, and any number but 0 is taken as 1; `snap` is written as it is. With microseconds the nanoseconds are divided by 1,000 and the
  * rest is dropped.
@@ -361,8 +368,8 @@ struct bpftap_result bpftap_put_header(uint32_t order, uint32_t unit, uint32_t s
 struct bpftap_result bpftap_put(uint32_t order, uint32_t unit, const struct bpftap_record *packet, const uint8_t *bytes, size_t captured,
                                 uint8_t *to, size_t room);
 
-/* Writes the packets of a capture that a program accepts, each cut to the least of `snap`, the program's answer and its captured length,
- * as a capture in the same byte order and unit of time. 0 for `snap` stands for BPFTAP_MAX_SNAP. The snapshot length of the written header
+/* Writes the packets of a capture that a program accepts, as a capture. Each of them is cut to the least of `snap`, the program's answer and
+ * its captured length. Byte order and unit of time stay. 0 for `snap` stands for BPFTAP_MAX_SNAP. The snapshot length of the written header
  * is `snap`, whatever that of the capture is.
  * If a record cannot be read (TORN_RECORD, BAD_FRACTION, RECORD_TOO_LONG), the packets before it are written, and `size` is that of what
  * was written. Room for the whole capture is always room enough.
@@ -427,19 +434,21 @@ enum bpftap_fed {
     BPFTAP_CLOSED = 5   /* the listener is closed */
 };
 
-/* Opens a listener, of which the caller has set the bytes and the room of both buffers, `snap` and `mode`. Both buffers have the same room:
+/* Opens a listener. The caller has set the bytes and the room of both buffers, `snap` and `mode`. Both buffers have the same room:
  * at least 32 bytes and `snap` rounded up to a multiple of 8, and at most BPFTAP_MAX_CAPACITY.
  * Its counts and the sizes of its buffers are 0 then, and `closed` is 0. Any mode but 0 is BPFTAP_IMMEDIATE.
  * Faults: BAD_SNAP, BAD_CAPACITY. The listener is closed then: `closed` is 1, its counts and sizes are 0, and all else is as it was. */
 uint32_t bpftap_listener_open(struct bpftap_listener *listener);
 
-/* A packet arrives, with the place, the time and the wire length of `packet`, from the capture of this number. `answer` is what a filter
- * answers to it: the least of `answer`, `snap` and `captured` is kept of it, and 0 rejects it. Fewer than 2^64 - 1 packets may arrive.
+/* Takes a packet that arrives. It has the place, the time and the wire length of `packet`, and comes from the capture of this number.
+ * `answer` is what a filter answers to it: the least of `answer`, `snap` and `captured` is kept of it, and 0 rejects it. Fewer than 2^64 - 1
+ * packets may arrive.
  * It returns an enum bpftap_fed. */
 uint32_t bpftap_listener_arrive(struct bpftap_listener *listener, uint32_t answer, uint32_t capture, const struct bpftap_record *packet,
                                 const uint8_t *bytes, size_t captured);
 
-/* Makes the store the hold if it has messages and the hold has none, as the read timeout of bpf(4) does, and returns whether it did. */
+/* Flushes a listener: makes the store the hold if it has messages and the hold has none, as the read timeout of bpf(4) does, and returns
+ * whether it did. */
 bool bpftap_listener_flush(struct bpftap_listener *listener);
 
 /* Reads the hold: its messages are in `batch` afterwards, `size` bytes, and what was in `batch` is forgotten. The two exchange their memory,
@@ -463,7 +472,8 @@ struct bpftap_message {
     uint32_t wire;     /* the number of bytes on the wire */
 };
 
-/* Returns the message whose record begins at `*at`, 0 for the first one, and moves `*at` to the next one. Messages come oldest first.
+/* Returns the next message of a buffer. Its record begins at `*at`, which is 0 for the first one and moves to the one after it. Messages come
+ * oldest first.
  * It also reads the messages of a listener's own `hold` and `store`, which stay there. Whatever the bytes are, a message that it returns
  * lies within the first `size` of them.
  * Faults: END. */
@@ -484,7 +494,7 @@ struct bpftap_replay {
     size_t place;    /* where the fault is, if it has a place; else 0 */
 };
 
-/* Plays a script to listeners over captures, and writes the reports as `bpftap steps` prints them: for each listener its counts, the
+/* Plays a script to listeners over captures, and writes the reports. They are what `bpftap steps` prints: for each listener its counts, the
  * batches that were read from it, and what it still has.
  * `listeners` and `script` are the contents of the files LISTENERS and SCRIPT of bpftap-steps(1): lines `SNAP CAPACITY EXPRESSION`, and
  * lines `arrive`, `flush L`, `read L` and `close L`. All lines are read before anything is played. How much room the text needs is not
@@ -496,21 +506,23 @@ struct bpftap_replay {
 struct bpftap_replay bpftap_steps(const char *listeners, size_t listeners_size, const char *script, size_t script_size,
                                   const struct bpftap_capture *captures, size_t count, char *to, size_t room);
 
-/* Does the same, and writes the reports as JSON Lines, as `bpftap steps --json` prints them: an object for each line of the text, which
- * names its listener. Faults are those of bpftap_steps. */
+/* Plays a script to listeners, and writes the reports as JSON Lines. It plays as bpftap_steps does, and writes what `bpftap steps --json`
+ * prints: an object for each line of the text, which names its listener. Faults: those of bpftap_steps. */
 struct bpftap_replay bpftap_steps_json(const char *listeners, size_t listeners_size, const char *script, size_t script_size,
                                        const struct bpftap_capture *captures, size_t count, char *to, size_t room);
 
-/* Does the same, and writes what `bpftap steps -v` prints before its reports: a line for each step, and below it one for each listener that
- * the step reaches, with what it answered, and why. As JSON Lines an object for each of these, with the number of its step.
- * Faults are those of bpftap_steps. */
+/* Play a script to listeners, and write what each step does. They play as bpftap_steps does. bpftap_steps_answers writes what
+ * `bpftap steps -v` prints before its reports: a line for each step, and below it one for each listener that the step reaches, with what it
+ * answered, and why. bpftap_steps_answers_json writes an object of JSON Lines for each of these, with the number of its step.
+ * Faults: those of bpftap_steps. */
 struct bpftap_replay bpftap_steps_answers(const char *listeners, size_t listeners_size, const char *script, size_t script_size,
                                           const struct bpftap_capture *captures, size_t count, char *to, size_t room);
 struct bpftap_replay bpftap_steps_answers_json(const char *listeners, size_t listeners_size, const char *script, size_t script_size,
                                                const struct bpftap_capture *captures, size_t count, char *to, size_t room);
 
-/* Does the same, and writes the picture that `bpftap steps -p` draws: SVG, with a lane for each listener over the steps, what each step
- * found in the store and in the hold, and what became of it. Faults are those of bpftap_steps. */
+/* Plays a script to listeners, and draws a picture of it. It plays as bpftap_steps does, and writes the SVG that `bpftap steps -p` draws, with
+ * a lane for each listener over the steps, what each step found in the store and in the hold, and what became of it.
+ * Faults: those of bpftap_steps. */
 struct bpftap_replay bpftap_picture(const char *listeners, size_t listeners_size, const char *script, size_t script_size,
                                     const struct bpftap_capture *captures, size_t count, char *to, size_t room);
 
@@ -523,9 +535,10 @@ struct bpftap_result bpftap_fault_text(uint32_t fault, size_t place, char *to, s
 
 /* Writes what helps to fix an expression that is refused: the sentence that the program prints below the line of such a fault. `fault` and
  * `place` are those that bpftap_compile, or another call that reads expressions, returned for this text. If libpcap's compiler may make a
- * program where this one makes none, a second line says how, after byte 10. There is nothing to say, and `size` is 0, exactly of BPFTAP_BAD_SNAP and
- * of a number that is no fault of an expression. In place of a control character of the text a sentence has a blank or `?`; other characters stay
- * as they are, those that turn the direction of a line too, as U+202E. 1,024 bytes are always room enough.
+ * program where this one makes none, a line feed and a second line follow. That line says how, and speaks of the program's command line
+ * (`-f FILE`). The text is empty, and `size` is 0, if `fault` is BPFTAP_BAD_SNAP or no fault of an expression; at every other fault there is a
+ * sentence. In place of a control character of the text a sentence has a blank or `?`; other characters stay as they are, those that turn the
+ * direction of a line too, as U+202E. 1,024 bytes are room enough in every test, which is not proved.
  * Faults: NOT_TEXT, NO_ROOM, NO_MEMORY. */
 struct bpftap_result bpftap_hint(const char *text, size_t text_size, uint32_t fault, size_t place, char *to, size_t room);
 

@@ -52,11 +52,11 @@ def blocks(header):
 
 
 def structures(header):
-    """The members of each struct: a type, a name and what it is."""
+    """The comment above each struct, and its members: a type, a name and what it is."""
     found = {}
-    for name, body in re.findall(r"^struct (bpftap_\w+) \{\n(.*?)^\};", header, re.S | re.M):
-        found[name] = [(" ".join(kind.split()), what, " ".join(said.split()))
-                       for kind, what, said in re.findall(r"^ +([\w ]+[ *])([\w, ]+);(?:\s*/\* ((?:(?!\*/).)*) \*/)?", body, re.S | re.M)]
+    for comment, name, body in re.findall(r"(?:^/\*((?:(?!\*/).)*)\*/\n(?:#[^\n]*\n)*)?^struct (bpftap_\w+) \{\n(.*?)^\};", header, re.S | re.M):
+        found[name] = comment, [(" ".join(kind.split()), what, " ".join(said.split()))
+                                for kind, what, said in re.findall(r"^ +([\w ]+[ *])([\w, ]+);(?:\s*/\* ((?:(?!\*/).)*) \*/)?", body, re.S | re.M)]
     return found
 
 
@@ -70,8 +70,16 @@ def synopsis(functions):
         yield ".Fc"
 
 
-def structure(name, members):
+def written(parts):
+    """Paragraphs, of texts and of lines of code."""
+    for number, part in enumerate(parts):
+        yield from [".Pp"] if number else []
+        yield from filled(words(part)) if isinstance(part, str) else [".Bd -literal", *(line.replace("\\", "\\e") for line in part), ".Ed"]
+
+
+def structure(name, comment, members):
     yield f".Vt struct {name} :"
+    yield from written(paragraphs(comment)) if comment else []
     yield '.Bl -tag -width "captured" -compact'
     for kind, what, said in members:
         yield f".It Vt {kind} Va {what}"
@@ -92,14 +100,12 @@ def page(date, functions, comment, used, others):
     yield from [r'.\" Made by man/library.py from include/bpftap.h.', f".Dd {date}", f".Dt {names[0].upper()} 3", ".Os", ".Sh NAME"]
     yield from [f".Nm {name} ," for name in names[:-1]] + [f".Nm {names[-1]}", f".Nd {first[0].lower()}{first[1:]}", ".Sh LIBRARY", r"libbpftap (\-lbpftap)"]
     yield from [".Sh SYNOPSIS", *synopsis(functions), ".Sh DESCRIPTION"]
-    for number, part in enumerate(parts):
-        yield from [".Pp"] if number else []
-        yield from filled(words(part)) if isinstance(part, str) else [".Bd -literal", *(line.replace("\\", "\\e") for line in part), ".Ed"]
+    yield from written(parts)
     if used:
         yield ".Sh STRUCTURES"
-        for number, (name, members) in enumerate(used):
+        for number, (name, (comment, members)) in enumerate(used):
             yield from [".Pp"] if number else []
-            yield from structure(name, members)
+            yield from structure(name, comment, members)
     if faults:
         yield from [".Sh ERRORS", *filled(words(faults)), "They are the numbers of", ".Vt enum bpftap_fault ,", "here without", ".Li BPFTAP_ ."]
     also = ["bpftap", *sorted(others)]

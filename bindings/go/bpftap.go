@@ -67,7 +67,7 @@ const (
 	CountFull     Fault = C.BPFTAP_COUNT_FULL
 )
 
-// Error is the name of the fault, as the program prints it.
+// Error is the name of the fault. It is the one that the program prints, but for RecordTooLong, where the program prints TooLong.
 func (f Fault) Error() string {
 	text, _ := text(64, func(to *C.char, room C.size_t) C.struct_bpftap_result {
 		return C.bpftap_fault_text(C.uint32_t(f), 0, to, room)
@@ -86,11 +86,12 @@ type Error struct {
 	Place uint64
 	// Number says which expression Compare refused, 1 or 2; else it is 0.
 	Number int
-	// Hint is what helps to fix an expression, a line or two, as the program prints it below the fault; "" if there is nothing to say.
+	// Hint is what helps to fix an expression, a line or two, as the program prints them below the fault; "" if there is nothing to say.
 	Hint string
 }
 
-// Error is the fault as the program prints it: its name, and its place if it has one.
+// Error is the name of the fault, and its place if it has one, as "BadWord 5". It is what the program prints, but for RecordTooLong, where the
+// program prints TooLong.
 func (e *Error) Error() string {
 	text, _ := text(64, func(to *C.char, room C.size_t) C.struct_bpftap_result {
 		return C.bpftap_fault_text(C.uint32_t(e.Fault), C.size_t(e.Place), to, room)
@@ -155,7 +156,7 @@ func textOf(text string) (*C.char, C.size_t) {
 	return (*C.char)(unsafe.Pointer(bytesOf([]byte(text)))), C.size_t(len(text))
 }
 
-// Version is the version of the C library, as 2.0.0.
+// Version is the version of the C library: three numbers with dots between them.
 func Version() string {
 	line, _ := text(64, func(to *C.char, room C.size_t) C.struct_bpftap_result { return C.bpftap_version(to, room) })
 	version, _, _ := strings.Cut(line, " ")

@@ -4,10 +4,12 @@ package bpftap_test
 
 import (
 	"bytes"
+	"encoding/binary"
 	"encoding/hex"
 	"errors"
 	"io"
 	"os"
+	"os/exec"
 	"reflect"
 	"runtime"
 	"strings"
@@ -40,6 +42,18 @@ func capture(t *testing.T, form string) []byte {
 		t.Fatal(err)
 	}
 	return content
+}
+
+// numbered is a capture with nanoseconds, written by hand: record n has the second n, the nanosecond 123456789, 4 bytes with n, and n more on the wire.
+func numbered(count int) []byte {
+	u32 := binary.LittleEndian.AppendUint32
+	made, _ := hex.DecodeString("4d3cb2a1020004000000000000000000" + "0000040001000000")
+	for n := uint32(0); n < uint32(count); n++ {
+		for _, number := range []uint32{n, 123456789, 4, 4 + n, n} {
+			made = u32(made, number)
+		}
+	}
+	return made
 }
 
 func packets(t *testing.T, content []byte) []bpftap.Packet {
@@ -88,6 +102,60 @@ func TestPacketsAreFiltered(t *testing.T) {
 	spans, err := reader.Spans()
 	same(t, "RunSpans", dns.RunSpans(capture(t, ""), spans), answers)
 	same(t, "Spans", err, nil)
+}
+
+func TestCapturesOfMoreRecordsThanABatch(t *testing.T) {
+	for _, count := range []int{1023, 1024, 1025, 3000} {
+		content := numbered(count)
+		reader, _ := bpftap.NewReader(content)
+		spans, err := reader.Spans()
+		same(t, "Spans", []any{len(spans), err}, []any{count, nil})
+		for n, span := range spans {
+			if want := (bpftap.Span{Offset: uint64(24 + 20*n + 16), Captured: 4, Wire: uint32(4 + n)}); span != want {
+				t.Fatalf("span %d of %d: %v, wanted %v", n, count, span, want)
+			}
+		}
+		all := packets(t, content)
+		same(t, "All", len(all), count)
+		last := len(all) - 1
+		same(t, "the last packet", all[last], bpftap.Packet{Data: content[len(content)-4:], Wire: uint32(4 + last), Time: time.Unix(int64(last), 123456789).UTC()})
+		// The wire length is above 1000 from record 997 on.
+		long := compiled(t, "len > 1000")
+		for name, answers := range map[string][]uint32{"RunSpans": long.RunSpans(content, spans), "RunEach": long.RunEach(all)} {
+			matched := 0
+			for _, answer := range answers {
+				if answer > 0 {
+					matched++
+				}
+			}
+			same(t, name, [2]int{len(answers), matched}, [2]int{count, count - 997})
+		}
+	}
+}
+
+func TestWhatIsAppendedToAPacketIsACopy(t *testing.T) {
+	content := numbered(2)
+	before := append([]byte(nil), content...)
+	for _, packet := range packets(t, content) {
+		same(t, "what it reaches", cap(packet.Data), len(packet.Data))
+		_ = append(packet.Data, 0xff, 0xff, 0xff, 0xff)
+	}
+	same(t, "the capture", bytes.Equal(content, before), true)
+}
+
+func TestNanosecondsAreWhole(t *testing.T) {
+	reader, _ := bpftap.NewReader(numbered(8))
+	same(t, "Form", reader.Form().Nanoseconds, true)
+	for n := int64(0); n < 8; n++ {
+		packet, err := reader.Next()
+		same(t, "Next", []any{packet.Time, err}, []any{time.Unix(n, 123456789).UTC(), nil})
+	}
+	var written bytes.Buffer
+	writer, _ := bpftap.NewWriter(&written, reader.Form())
+	for _, packet := range packets(t, numbered(8)) {
+		writer.Write(packet)
+	}
+	same(t, "Write", bytes.Equal(written.Bytes(), numbered(8)), true)
 }
 
 func TestWireLengths(t *testing.T) {
@@ -141,9 +209,26 @@ func TestWhyDecides(t *testing.T) {
 	same(t, "Why", []any{verdict, part, err}, []any{bpftap.No, "tcp port 80", nil})
 	text, err := compiled(t, "tcp dst port 80 or 443").Canonical()
 	same(t, "Canonical", []any{text, err}, []any{"tcp dst port 80 or tcp dst port 443", nil})
-	many := strings.TrimSuffix(strings.Repeat("port 80 or ", 40), " or ")
-	text, err = compiled(t, many).Canonical()
-	same(t, "a long text", []any{text, err}, []any{many, nil})
+}
+
+// Canonical, Listing and Image begin with room for 1,024 bytes.
+func TestTextsBeyondTheFirstRoom(t *testing.T) {
+	many := strings.TrimSuffix(strings.Repeat("port 80 or ", 200), " or ")
+	done := make(chan []any)
+	go func() {
+		// 200 times `ld #0`, and a return.
+		filter, _ := bpftap.FromInsns(append(make([]bpftap.Insn, 200), bpftap.Insn{Code: 6}))
+		listed, err := filter.Listing()
+		image, other := filter.Image()
+		text, last := compiled(t, many).Canonical()
+		done <- []any{text, last, listed, err, strings.Count(image, "\n"), other}
+	}()
+	select {
+	case seen := <-done:
+		same(t, "long texts", seen, []any{many, nil, "201\n" + strings.Repeat("0 0 0 0\n", 200) + "6 0 0 0\n", nil, 201, nil})
+	case <-time.After(20 * time.Second):
+		t.Fatal("the calls do not return")
+	}
 }
 
 func TestFaultsHaveNamesAndPlaces(t *testing.T) {
@@ -217,6 +302,31 @@ func TestLongExpressionsHaveStackEnough(t *testing.T) {
 	}
 	for n := 0; n < 8; n++ {
 		same(t, "a goroutine", <-done, true)
+	}
+}
+
+// This test runs itself once more, with threads of 128 KiB: the hint to a long expression needs more.
+func TestLongExpressionsHaveAHintOnSmallStacks(t *testing.T) {
+	if os.Getenv("BPFTAP_SMALL_STACKS") == "" {
+		again := exec.Command("sh", "-c", `ulimit -s 128 && exec "$0" -test.run '^TestLongExpressionsHaveAHintOnSmallStacks$'`, os.Args[0])
+		again.Env = append(os.Environ(), "BPFTAP_SMALL_STACKS=1")
+		if printed, err := again.CombinedOutput(); err != nil {
+			t.Fatalf("%v: %.1000s", err, printed)
+		}
+		return
+	}
+	done := make(chan error)
+	for n := 0; n < 8; n++ {
+		go func() {
+			_, err := bpftap.Compile(strings.Repeat("ip or ", 1300) + " proot")
+			done <- err
+		}()
+	}
+	for n := 0; n < 8; n++ {
+		var found *bpftap.Error
+		if err := <-done; !errors.As(err, &found) || found.Hint != "did you mean `proto`?" {
+			t.Errorf("%v", err)
+		}
 	}
 }
 

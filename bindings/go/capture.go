@@ -64,7 +64,8 @@ func (r *Reader) end(fault C.uint32_t, place uint64) {
 	}
 }
 
-// Next is the next packet, whose bytes lie in the capture. After the last one the error is io.EOF, or that of a torn or bad record.
+// Next is the next packet, whose bytes lie in the capture; append to them makes a copy. After the last one the error is io.EOF, or that of a torn
+// or bad record.
 func (r *Reader) Next() (Packet, error) {
 	if r.last != nil {
 		return Packet{}, r.last
@@ -73,7 +74,8 @@ func (r *Reader) Next() (Packet, error) {
 	if r.end(record.fault, uint64(record.place)); r.last != nil {
 		return Packet{}, r.last
 	}
-	data := r.memory[record.offset : uint64(record.offset)+uint64(record.captured)]
+	end := uint64(record.offset) + uint64(record.captured)
+	data := r.memory[record.offset:end:end]
 	return Packet{data, uint32(record.wire), time.Unix(int64(record.seconds), int64(record.nanos)).UTC()}, nil
 }
 

@@ -66,6 +66,7 @@ def pip_installs_it(scene):
             scene.check(f"installed from {what[0]}", done(scene, [sys.executable, "-c", shown], env={**bare(), "PYTHONPATH": str(into)}), (f"{version()} True\n", 0))
             about = (into / f"bpftap-{version()}.dist-info" / "METADATA").read_text()
             scene.check("its page", (about.count("\nClassifier: ") > 5, "# bpftap for Python" in about), (True, True))
+            scene.check("links of its page to files that are not in it", re.findall(r"\]\((?!https?:)[^)]*\)", about), [])
             licences = [path.name for path in (into / f"bpftap-{version()}.dist-info" / "licenses").iterdir()]
             scene.check("its licences", sorted(licences), ["LICENSE-APACHE", "LICENSE-MIT", "NOTICES"])
 
@@ -169,7 +170,8 @@ def repository(scene):
 
 @case
 def first_answers_come_as_the_page_says(scene):
-    """The lines of docs/LIBRARY.md for C, Python, Rust and Go, in a clone whose library is already under ~/.local: each prints what the page says."""
+    """The lines of docs/LIBRARY.md for C, Python, Rust and Go, in a clone whose library is already under ~/.local: each prints what the page
+    says, one after the other."""
     if not is_there(scene) or not scene.has("gcc", "pkg-config", "cargo", "go"):
         return
     scene.start({})
@@ -187,9 +189,60 @@ def first_answers_come_as_the_page_says(scene):
         if "venv" in block and done(scene, [sys.executable, "-c", "import ensurepip"])[1]:
             scene.leave("python3 has no venv")
             continue
-        shutil.rmtree(top / "first", ignore_errors=True)
         said, status = done(scene, ["sh", "-ec", "\n".join(lines)], at=top, limit=5 * LIMIT, env=environment)
         scene.check(lines[-1], (said.splitlines()[-1:], status), ([wanted], 0))
+
+
+@case
+def faults_of_its_page_are_those_of_the_library(scene):
+    """The table of docs/LIBRARY.md has the numbers of the header's enum, each with the name that the library writes."""
+    if not is_there(scene):
+        return
+    scene.start({})
+    table = (ROOT / "docs" / "LIBRARY.md").read_text().partition("| Of | Numbers |")[2].partition("\n\n")[0]
+    listed = {int(number): name for number, name in re.findall(r"(?<=[ ,])(\d+) ([A-Z]\w+)", table)}
+    header = (ROOT / "include" / "bpftap.h").read_text().partition("enum bpftap_fault {")[2].partition("};")[0]
+    numbers = sorted(int(number) for number in re.findall(r"^ +BPFTAP_\w+ = (\d+)", header, re.M))
+    scene.check("numbers", sorted(listed), numbers)
+    said, status = done(scene, [sys.executable, ROOT / "tests" / "library" / "names.py", *map(str, numbers)], env=environment_of_python())
+    scene.check("names", ([listed.get(number) for number in numbers], status), (said.split(), 0))
+
+
+@case
+def pages_of_calls_say_what_each_does(scene):
+    """The line below NAME of each page of the manual fits a terminal, and no page begins with what another one says."""
+    scene.start({})
+    for page in sorted((ROOT / "man").glob("bpftap_*.3")):
+        text = page.read_text()
+        named = re.search(r"^\.Nd (.*)$", text, re.M)
+        if named:
+            scene.check(f"{page.name}: {named[1]}", len(named[1]) <= 68, True)
+            described = text.partition(".Sh DESCRIPTION\n")[2].partition("\n")[0]
+            scene.check(f"{page.name}: {described}", re.match(r"The same|Does the same|Do the same", described), None)
+    span = (ROOT / "man" / "bpftap_run_each.3").read_text()
+    scene.check("the comment of a struct", "A packet that lies in a memory:" in span, True)
+
+
+@case
+def ship_builds_nothing(scene):
+    """In a clone that is newer than its release `bindings/ship` says what to do, and proves nothing."""
+    scene.start({})
+    top = scene.folder / "top"
+    shutil.copytree(ROOT / "bindings", top / "bindings", ignore=shutil.ignore_patterns("native", "target", "__pycache__"))
+    for name in ("release/lib.sh", "release/files", "crates.txt"):
+        (top / name).parent.mkdir(exist_ok=True)
+        shutil.copy(ROOT / name, top / name)
+    scene.put({"top/release/SHA256SUMS": f"# sources {'0' * 64}\n", "top/build": "#!/bin/sh\ntouch built\nexit 1\n"})
+    (top / "build").chmod(0o755)
+    lines = [f"ship: the sources are newer than the release: run {top}/build bpftap_c, which makes their library in out/lib",
+             f"  or ship the released one: BPFTAP_LIB=$(sh '{top}/release/lib.sh' unpacked_path bpftap-x86_64-linux.tar.xz)/lib '{top}/bindings/ship'"]
+    for archive in (False, True):
+        if archive:
+            scene.put({"top/release/bpftap-x86_64-linux.tar.xz": "an archive"})
+        said, status = done(scene, [top / "bindings" / "ship"], env=bare())
+        shown = [line for line in said.splitlines() if not line.startswith(("sha256sum: ", "find: "))]
+        scene.check(f"ship, with an archive: {archive}", (shown, status), (lines[: 1 + archive], 1))
+    scene.check("what was built or shipped", [path.name for path in (top / "built", top / "bindings" / "go" / "native") if path.exists()], [])
 
 
 @case

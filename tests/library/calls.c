@@ -464,6 +464,34 @@ static void reads_spans(void) {
     free(memory);
 }
 
+/* The spans of a capture by windows of it, each of these many bytes, as the header says: every record once, with its bytes. */
+static void reads_spans_by_windows(size_t room) {
+    enum { RECORDS = 50, SIZE = 24 + RECORDS * 54 };
+    uint8_t *memory = capture(), *whole = block(SIZE), *window = block(room);
+    memcpy(whole, memory, 24);
+    for (size_t n = 0; n < RECORDS; n++) memcpy(whole + 24 + 54 * n, memory + 24 + 54 * (n % 2), 54), whole[24 + 54 * n + 16] = (uint8_t)n;
+    size_t taken = room, held = room, seen = 0;
+    memcpy(window, whole, room);
+    struct bpftap_reader reader = bpftap_open(window, held);
+    struct bpftap_span spans[3];
+    for (;;) {
+        struct bpftap_result result = bpftap_spans(window, held, &reader, spans, 3);
+        for (size_t i = 0; i < result.size; i++, seen++) CHECK(spans[i].captured == 38 && spans[i].wire == (seen % 2 ? 38 : 60) && window[spans[i].offset] == seen);
+        if (result.fault == BPFTAP_OK) continue;
+        CHECK(result.fault == BPFTAP_TORN_RECORD || result.fault == BPFTAP_END);
+        if (taken == SIZE) break;
+        held -= reader.offset;
+        memmove(window, window + reader.offset, held);
+        size_t more = room - held < SIZE - taken ? room - held : SIZE - taken;
+        memcpy(window + held, whole + taken, more);
+        held += more, taken += more, reader.offset = 0;
+    }
+    CHECK(seen == RECORDS && reader.place == RECORDS && reader.offset == held);
+    free(window);
+    free(whole);
+    free(memory);
+}
+
 static void writes(void) {
     uint8_t *wanted = capture(), *to = block(132);
     struct bpftap_reader reader = bpftap_open(wanted, 132);
@@ -691,6 +719,7 @@ int main(void) {
     hints();
     reads();
     reads_spans();
+    for (size_t room = 54; room <= 300; room++) reads_spans_by_windows(room);
     writes();
     cuts();
     plays_steps();

@@ -5,6 +5,7 @@ from __future__ import annotations
 from collections.abc import Iterable
 
 from ._filters import Filter
+from ._library import iter_of
 from ._packets import Packet
 
 
@@ -12,6 +13,6 @@ def assert_all_match(packets: Iterable[Packet | bytes], expression: str) -> None
     """Fails with the place of each packet that the expression does not accept, and what decided on it."""
     __tracebackhide__ = True  # pytest shows the caller's line
     wanted = Filter(expression)
-    failed = [f"packet {place}: {wanted.why(packet)}" for place, packet in enumerate(packets) if not wanted.matches(packet)]
+    failed = [f"packet {place}: {wanted.why(packet)}" for place, packet in enumerate(iter_of("packets", packets)) if not wanted.matches(packet)]
     if failed:
         raise AssertionError(f"not {expression!r}:\n  " + "\n  ".join(failed))

@@ -13,7 +13,7 @@ from collections.abc import Callable, Iterable, Iterator
 
 from ._errors import Fault, raise_fault
 from ._filters import Filter, FilterError, filter_of
-from ._library import END, MAX_SNAP, Record, buffer_of, bytes_of, in_range, lib, room_of, view_of
+from ._library import END, MAX_SNAP, Record, buffer_of, bytes_of, in_range, iter_of, lib, not_a, room_of, view_of
 from ._packets import Packet
 
 SECOND = 10**9
@@ -67,6 +67,13 @@ def _spans_of(memory, size, reader):
             return rows, (0 if found.fault == END else found.fault, found.place)
 
 
+def _content_of(content):
+    """The bytes of a capture, which are not copied."""
+    if isinstance(content, (str, os.PathLike)):
+        raise not_a("content", content, "bytes-like: read(path) reads a file, and has its bytes as .content")
+    return view_of("content", content)
+
+
 class Capture:
     """A capture in memory: an iterable of its packets, with a length and an index. A torn or bad record ends it: it raises the `CaptureError`
     that `fault` has, after the packets before it.
@@ -75,8 +82,8 @@ class Capture:
     back."""
 
     def __init__(self, content: bytes):
-        self._content = content if isinstance(content, bytes) else view_of("content", content)
-        with buffer_of(self._content) as (memory, size):
+        self._content = content if isinstance(content, bytes) else _content_of(content)
+        with buffer_of("content", self._content) as (memory, size):
             self._reader = lib.bpftap_open(memory, size)
             raise_fault(CaptureError, self._reader.fault, 0)
             self._rows, self._end = _spans_of(memory, size, self._reader)
@@ -188,7 +195,9 @@ def encode(packets: Iterable[Packet], snap: int = MAX_SNAP, nanoseconds: bool = 
     header = room_of(24)
     _put(lib.bpftap_put_header(order, unit, in_range("snap", snap), header, 24))
     parts = [header]
-    for place, packet in enumerate(packets):
+    for place, packet in enumerate(iter_of("packets", packets)):
+        if not hasattr(packet, "nanos"):
+            raise not_a(f"packet {place}", packet, "a Packet")
         data = bytes_of("data", packet.data)
         to = room_of(len(data) + 16)
         record = record_of(packet, place, min(packet.nanos, SECOND))  # BadFraction from a second on
@@ -209,7 +218,7 @@ def cut(content: bytes, keep: Filter | str, snap: int = 0) -> bytes:
     If the capture ends in a torn or bad record, a `CaptureError` is raised; its attribute `written` is the cut of the packets before.
     """
     keep, snap = filter_of(keep), in_range("snap", snap)
-    with view_of("content", content) as view, buffer_of(view) as (memory, size):
+    with _content_of(content) as view, buffer_of("content", view) as (memory, size):
         to = room_of(size)
         result = lib.bpftap_cut(memory, size, keep._insns, keep._size, snap, to, size)
     try:

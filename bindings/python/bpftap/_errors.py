@@ -4,7 +4,8 @@ from ._library import NO_MEMORY, lib, text
 
 
 class Fault(ValueError):
-    """A fault: its line, as the program prints it; its name; and its place, or None if it has none."""
+    """A fault: its line, as `BadWord 4`; its name; and its place, or None if it has none. The program prints the same line, but `TooLong` for
+    `RecordTooLong`."""
 
     def __init__(self, line):
         super().__init__(line)

@@ -11,7 +11,7 @@ from typing import TYPE_CHECKING, Any, NamedTuple
 
 from . import _library
 from ._errors import Fault, raise_fault
-from ._library import MAX_INSNS, MAX_SNAP, Insn, buffer_of, in_range, int_of, lib, program_run, quick_run, text, utf8
+from ._library import MAX_INSNS, MAX_SNAP, Insn, buffer_of, in_range, int_of, iter_of, lib, program_run, quick_run, text, utf8
 from ._packets import Packet, parts_of
 from ._stacks import reading
 
@@ -20,14 +20,16 @@ if TYPE_CHECKING:
 
 
 class FilterError(Fault):
-    """An expression, a listing or a program is refused. It is printed as the program prints it: the line of the fault, and the hint below."""
+    """An expression, a listing or a program is refused. It is printed as the line of the fault; below it, of `compare`, which expression it is
+    of; and the hint."""
     number: int | None = None
     """Which expression `compare` refused, 1 or 2; `None` if another call failed."""
     hint: str | None = None
     """What helps to fix an expression, a line or two; `None` if there is nothing to say."""
 
     def __str__(self) -> str:
-        return "\n  ".join([super().__str__(), *(self.hint or "").splitlines()])
+        which = [f"in the {'first' if self.number == 1 else 'second'} expression"] if self.number else []
+        return "\n  ".join([super().__str__(), *which, *(self.hint or "").splitlines()])
 
 
 class Verdict(enum.IntEnum):
@@ -75,7 +77,7 @@ QUICK = 2**30
 
 def _row(place: int, insn: Sequence[int]) -> tuple[int, ...]:
     """The fields of an instruction."""
-    fields = tuple(insn)
+    fields = tuple(iter_of(f"instruction {place}", insn))
     if len(fields) != 4:
         raise ValueError(f"instruction {place} is not (code, jt, jf, k): {fields}")
     most = (2**16 - 1, 2**8 - 1, 2**8 - 1, 2**32 - 1)
@@ -111,7 +113,7 @@ class Filter:
     @classmethod
     def from_program(cls, program: Iterable[Sequence[int]]) -> Filter:
         """Of instructions, each four numbers `(code, jt, jf, k)`."""
-        rows = [_row(place, insn) for place, insn in enumerate(program)]
+        rows = [_row(place, insn) for place, insn in enumerate(iter_of("program", program))]
         insns = (Insn * max(1, len(rows)))(*rows)
         raise_refusal(lib.bpftap_check(insns, len(rows)))
         return cls._of(insns, len(rows))
@@ -158,7 +160,7 @@ class Filter:
 
     def run_each(self, packets: Iterable[Packet | bytes], wire: Iterable[int] | None = None) -> array[int]:
         """What the filter answers to each of many packets. `wire` are their lengths on the wire; without it they are as `run` says."""
-        answers, left, wires = array("I"), iter(packets), None if wire is None else iter(wire)
+        answers, left, wires = array("I"), iter_of("packets", packets), None if wire is None else iter_of("wire", wire)
         while part := [*itertools.islice(left, BATCH)]:
             if wires is None and {*map(type, part)} == {bytes}:
                 answers.extend(self._run_joined(part))
@@ -188,7 +190,7 @@ class Filter:
         begins (64 bits), and how many of its bytes were captured and were on the wire (32 bits each). Memory and spans are buffers (`bytes`,
         `bytearray`, `mmap`, `memoryview`, an array of numpy), and are not copied."""
         spans = getattr(spans, "rows", spans)
-        with buffer_of(memory) as (content, size), buffer_of(spans) as (where, spans_size):
+        with buffer_of("memory", memory) as (content, size), buffer_of("spans", spans) as (where, spans_size):
             if spans_size % 16:
                 raise ValueError(f"spans have {spans_size} bytes, which is not a multiple of 16")
             count = spans_size // 16
@@ -267,7 +269,7 @@ class Filter:
         """For tests: fails unless the filter accepts the packets of these places, counted from 0, and no other one. The failure has a line
         for each packet that differs, with what decided on it."""
         __tracebackhide__ = True  # pytest shows the caller's line
-        packets, places = [*packets], {*exactly}
+        packets, places = [*iter_of("packets", packets)], {int_of("a place in exactly", place) for place in iter_of("exactly", exactly)}
         failed = [self._differs(place, packet, place in places) for place, packet in enumerate(packets)]
         failed = [line for line in failed if line]
         failed += [f"packet {place}: there are only {len(packets)} packets" for place in sorted(places - {*range(len(packets))})]

@@ -166,7 +166,7 @@ def text(call, room=4096):
 
 
 def version() -> str:
-    """The version of the C library, as `2.0.0`."""
+    """The version of the C library: three numbers with dots between them."""
     return text(lib.bpftap_version)[1].decode().partition(" ")[0]
 
 
@@ -181,10 +181,13 @@ _release_buffer = ctypes.PYFUNCTYPE(None, POINTER(_View))(("PyBuffer_Release", c
 
 
 @contextlib.contextmanager
-def buffer_of(memory):
+def buffer_of(what, memory):
     """Where the bytes of a buffer are, read-only or not, and how many there are. They are not copied."""
     view = _View()
-    _get_buffer(memory, view, 0)
+    try:
+        _get_buffer(memory, view, 0)
+    except TypeError:
+        raise not_a(what, memory, "bytes-like") from None
     try:
         yield c_char_p(view.buf if view.len else b""), view.len
     finally:
@@ -200,7 +203,8 @@ def room_of(size):
     return _new_bytes(None, size)
 
 
-def _not(what, value, kind):
+def not_a(what, value, kind):
+    """The error of an argument, or a part of one, that is of another type."""
     return TypeError(f"{what} is of type {type(value).__name__}, which is not {kind}")
 
 
@@ -211,7 +215,7 @@ def bytes_of(what, content):
     try:
         return bytes(memoryview(content))
     except TypeError:
-        raise _not(what, content, "bytes-like") from None
+        raise not_a(what, content, "bytes-like") from None
 
 
 def view_of(what, content):
@@ -219,13 +223,21 @@ def view_of(what, content):
     try:
         return memoryview(content).cast("B")
     except TypeError:
-        raise _not(what, content, "bytes-like and contiguous" if hasattr(content, "contiguous") else "bytes-like") from None
+        raise not_a(what, content, "bytes-like and contiguous" if hasattr(content, "contiguous") else "bytes-like") from None
+
+
+def iter_of(what, items):
+    """An iterator over the items."""
+    try:
+        return iter(items)
+    except TypeError:
+        raise not_a(what, items, "iterable") from None
 
 
 def utf8(what, text):
     """The bytes of a text. Half of a surrogate pair is none: the library then returns NotText."""
     if not isinstance(text, str):
-        raise _not(what, text, "a str")
+        raise not_a(what, text, "a str")
     return text.encode("utf-8", "surrogatepass")
 
 
@@ -233,7 +245,7 @@ def int_of(what, number):
     try:
         return operator.index(number)
     except TypeError:
-        raise _not(what, number, "an int") from None
+        raise not_a(what, number, "an int") from None
 
 
 def in_range(what, number, most=2**32 - 1):

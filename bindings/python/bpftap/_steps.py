@@ -3,10 +3,11 @@
 from __future__ import annotations
 
 import html
-from collections.abc import Iterable, Iterator, Sequence
+from collections.abc import Iterable, Iterator
 from dataclasses import dataclass, field
 
 from ._captures import Capture, CaptureError
+from ._library import iter_of, not_a
 from ._listeners import Listener
 from ._packets import Message, Packet
 
@@ -55,7 +56,7 @@ def _packets(captures: Iterable[Capture], replay: Replay) -> Iterator[tuple[int,
     """The packets of the captures in order, each with the number of its capture and its place there, up to the first torn or bad record."""
     for number, capture in enumerate(captures):
         try:
-            for place, packet in enumerate(capture):
+            for place, packet in enumerate(iter_of(f"capture {number}", capture)):
                 yield number, place, packet
         except CaptureError as error:
             replay.fault, replay.capture = error, number
@@ -64,6 +65,8 @@ def _packets(captures: Iterable[Capture], replay: Replay) -> Iterator[tuple[int,
 
 def _step(place: int, step: str, listeners: int) -> tuple[str, int]:
     """What a step does, and to which listener."""
+    if not isinstance(step, str):
+        raise not_a(f"step {place}", step, "a str")
     word, _, number = step.partition(" ")
     if step == "arrive":
         return step, 0
@@ -72,15 +75,19 @@ def _step(place: int, step: str, listeners: int) -> tuple[str, int]:
     return word, int(number)
 
 
-def steps(listeners: Sequence[Listener], script: Iterable[str], captures: Iterable[Capture]) -> Replay:
+def steps(listeners: Iterable[Listener], script: Iterable[str], captures: Iterable[Capture]) -> Replay:
     """Plays steps to listeners over captures, as `bpftap steps` does. A step is `arrive`, at which the next packet of the captures arrives at
     every listener, or `flush L`, `read L` or `close L`, with the number of a listener from 0. After the last packet `arrive` does nothing.
 
     All steps are checked before the first one is played: a `ValueError` names one that is no step. The captures are read to their end, even
     if the script ends before."""
-    played = [_step(place, step, len(listeners)) for place, step in enumerate(script)]
+    listeners = [*iter_of("listeners", listeners)]
+    for number, listener in enumerate(listeners):
+        if not isinstance(listener, Listener):
+            raise not_a(f"listener {number}", listener, "a Listener")
+    played = [_step(place, step, len(listeners)) for place, step in enumerate(iter_of("script", script))]
     replay, batches = Replay(), [[] for _ in listeners]
-    packets = _packets(captures, replay)
+    packets = _packets(iter_of("captures", captures), replay)
     for word, number in played:
         if word == "arrive":
             found = next(packets, None)

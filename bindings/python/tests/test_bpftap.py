@@ -63,7 +63,9 @@ class Filters(unittest.TestCase):
                 call()
             for error in (caught.exception, pickle.loads(pickle.dumps(caught.exception))):
                 self.assertEqual((error.hint, error.number), ("did you mean `proto`?", number))
-                self.assertEqual(str(error), "BadWord 9\n  did you mean `proto`?")
+                self.assertEqual(str(error), "BadWord 9\n" + "  in the second expression\n" * (number == 2) + "  did you mean `proto`?")
+        with self.assertRaisesRegex(FilterError, r"\ABadWord 5\n  in the first expression\n"):
+            bpftap.compare("port http", "port http")
         with self.assertRaises(FilterError) as caught:
             Filter("ip6")
         self.assertRegex(str(caught.exception), r"\ABadWord 0\n  only Ethernet .*\n  libpcap may read that: .*\Z")
@@ -136,6 +138,33 @@ class Filters(unittest.TestCase):
                            (lambda: Listener("ip", 96, "4096"), "capacity is of type str"), (lambda: Listener("ip").arrive(UDP, "0"), "capture is of type str")]:
             with self.assertRaisesRegex(TypeError, f"^{what}"):
                 call()
+
+    def test_arguments_that_are_not_iterable_are_named(self):
+        udp, path = Filter("udp"), pathlib.Path(tempfile.gettempdir()) / "bpftap-never-written.pcap"
+        for call, what in [
+                (lambda: udp.run_each(5), "packets is"), (lambda: udp.run_each([UDP], 5), "wire is"), (lambda: Filter.from_program(5), "program is"),
+                (lambda: Filter.from_program([(6, 0, 0, 0), 5]), "instruction 1 is"), (lambda: udp.assert_matches(5, []), "packets is"),
+                (lambda: udp.assert_matches([], exactly=5), "exactly is"), (lambda: bpftap.assert_all_match(5, "ip"), "packets is"),
+                (lambda: bpftap.write(path, 5), "packets is"), (lambda: bpftap.steps(5, "", []), "listeners is"), (lambda: bpftap.steps([], 5, []), "script is"),
+                (lambda: bpftap.steps([], [], 5), "captures is"), (lambda: bpftap.steps([], [], [[], 5]), "capture 1 is")]:
+            with self.assertRaisesRegex(TypeError, f"^{what} of type int, which is not iterable$"):
+                call()
+        for call, line in [
+                (lambda: udp.run_spans(5, []), "memory is of type int, which is not bytes-like"), (lambda: udp.run_spans(b"", 5), "spans is of type int, which is not bytes-like"),
+                (lambda: bpftap.write(path, [Packet(UDP, 38), 5]), "packet 1 is of type int, which is not a Packet"),
+                (lambda: bpftap.write(path, [UDP]), "packet 0 is of type bytes, which is not a Packet"),
+                (lambda: udp.assert_matches([], ["0"]), "a place in exactly is of type str, which is not an int"),
+                (lambda: bpftap.steps([Listener("ip"), "ip"], [], []), "listener 1 is of type str, which is not a Listener"),
+                (lambda: bpftap.steps([], ["arrive", 5], []), "step 1 is of type int, which is not a str")]:
+            with self.assertRaisesRegex(TypeError, f"^{line}$"):
+                call()
+        self.assertFalse(path.exists())
+
+    def test_the_path_of_a_capture_is_no_content(self):
+        for call in (bpftap.Capture, lambda given: bpftap.cut(given, "ip")):
+            for given in ("x.pcap", pathlib.PurePosixPath("x.pcap")):
+                with self.assertRaisesRegex(TypeError, rf"^content is of type {type(given).__name__}, which is not bytes-like: read\(path\) reads a file, and has its bytes as \.content$"):
+                    call(given)
 
     def test_half_a_character_is_not_text(self):
         with self.assertRaisesRegex(FilterError, "^NotText 3$"):
@@ -387,6 +416,22 @@ class Captures(unittest.TestCase):
             form = {"big_endian": capture.big_endian, "nanoseconds": capture.nanoseconds}
             self.assertEqual(bpftap._captures.encode(wanted, capture.snap, **form), content)
 
+    def test_a_capture_has_more_records_than_a_batch(self):
+        """Written by hand: record n has the second n, the nanosecond 123,456,789, 4 bytes with n, and n more on the wire."""
+        for count in (1023, 1024, 1025, 3000):
+            content = struct.pack("<IHHiIII", 0xa1b23c4d, 2, 4, 0, 0, 262144, 1) + b"".join(struct.pack("<5I", n, 123456789, 4, 4 + n, n) for n in range(count))
+            wanted = [Packet(struct.pack("<I", n), 4 + n, n, 123456789) for n in range(count)]
+            capture, long, answers = bpftap.Capture(content), Filter("len > 1000"), [n > 996 for n in range(count)]
+            spans = capture.spans()
+            self.assertEqual((len(capture), len(spans), capture.fault), (count, count, None))
+            self.assertTrue([*capture] == wanted)
+            self.assertEqual([*spans.offsets], [24 + 20 * n + 16 for n in range(count)])
+            self.assertEqual([*spans.times], [n * 10**9 + 123456789 for n in range(count)])
+            self.assertTrue([*capture.matching(long)] == wanted[997:])
+            for found in (capture.answers(long), long.run_spans(content, spans), long.run_each(wanted), long.run_each((one.data for one in wanted), (one.wire for one in wanted))):
+                self.assertEqual([answer > 0 for answer in found], answers)
+            self.assertEqual(len(Filter("").run_each([one.data for one in wanted])), count)
+
     def test_it_is_a_sequence(self):
         capture = bpftap.read(EXAMPLES / "veth.pcap")
         packets = [*capture]
@@ -478,7 +523,7 @@ class Captures(unittest.TestCase):
                     self.assertEqual(bpftap.cut(given, Filter("ip")), bpftap.cut(content, Filter("ip")))
         changed = [Packet(bytearray(packet.data), packet.wire, packet.seconds, packet.nanos) for packet in self.PACKETS]
         self.assertEqual(bpftap._captures.encode(changed), content)
-        for given in ("text", 7, None):
+        for given in (7, None):
             for call in (bpftap.Capture, lambda given: bpftap.cut(given, "ip")):
                 with self.assertRaisesRegex(TypeError, f"^content is of type {type(given).__name__}, which is not bytes-like$"):
                     call(given)

@@ -85,7 +85,8 @@ impl<'a> Packets<'a> {
         self.reader.snap
     }
 
-    /// Where the packets that are left lie, for [`Filter::run_spans`] over the same memory. The error is that of a torn or bad record.
+    /// Where the packets that are left lie, for [`Filter::run_spans`] over the same memory. If a torn or bad record ends the capture, its error is
+    /// returned, without the spans before it: iterate over the packets to have those.
     ///
     /// ```
     /// # let mut capture = bpftap::Writer::new(Vec::new(), Default::default())?;

@@ -76,7 +76,7 @@ faults! {
     NoListener = 91, "A step names a listener that does not exist.";
 }
 
-/// The line of a fault, as the program prints it.
+/// The line of a fault, as `bpftap_fault_text` writes it.
 fn line(fault: Fault, place: u64) -> String {
     text(|to, room| unsafe { ffi::bpftap_fault_text(fault as u32, place as usize, to, room) }).unwrap_or_else(|_| "NoMemory".to_owned())
 }
@@ -87,7 +87,8 @@ impl fmt::Display for Fault {
     }
 }
 
-/// Why a call failed: the fault, and its place. It is printed as the program prints it.
+/// Why a call failed: the fault, and its place. It is printed as `BadWord 5`, the line that the program prints, but for [`Fault::RecordTooLong`] and
+/// [`Fault::StepsTooMany`]: the program prints `TooLong` and `TooMany`, which are also names of other faults.
 ///
 /// ```
 /// let error = bpftap::Filter::new("port http").unwrap_err();

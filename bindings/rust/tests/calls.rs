@@ -23,6 +23,44 @@ fn packets_are_filtered() {
     assert_eq!(packets.iter().filter(|packet| dns.matches(packet.data, packet.wire)).count(), 67);
 }
 
+/// A capture with nanoseconds, written by hand: record n has the second n, the nanosecond 123,456,789, 4 bytes with n, and n more on the wire.
+fn numbered(count: u32) -> Vec<u8> {
+    let header = [0x4d, 0x3c, 0xb2, 0xa1, 2, 0, 4, 0, 0, 0, 0, 0, 0, 0, 0, 0, 0, 0, 4, 0, 1, 0, 0, 0];
+    let records = (0..count).flat_map(|n| [n, 123_456_789, 4, 4 + n, n]).flat_map(u32::to_le_bytes);
+    header.into_iter().chain(records).collect()
+}
+
+#[test]
+fn captures_have_more_records_than_a_batch() {
+    for count in [1023, 1024, 1025, 3000] {
+        let content = numbered(count);
+        let spans = Packets::new(&content).unwrap().spans().unwrap();
+        let wanted: Vec<_> = (0..count).map(|n| Span { offset: 24 + 20 * n as u64 + 16, captured: 4, wire: 4 + n }).collect();
+        assert!(spans == wanted, "the spans of {count} records, which are {}", spans.len());
+        let packets: Vec<_> = Packets::new(&content).unwrap().collect::<Result<_, _>>().unwrap();
+        assert_eq!((packets.len(), packets.last().unwrap().data), (count as usize, (count - 1).to_le_bytes().as_slice()));
+        // The wire length is above 1,000 from record 997 on.
+        let (long, matched) = (Filter::new("len > 1000").unwrap(), count as usize - 997);
+        for answers in [long.run_spans(&content, &spans), long.run_each(&packets)] {
+            assert_eq!((answers.len(), answers.iter().filter(|&&answer| answer > 0).count()), (count as usize, matched));
+        }
+    }
+}
+
+#[test]
+fn nanoseconds_are_whole() {
+    let content = numbered(3);
+    let packets = Packets::new(&content).unwrap();
+    assert!(packets.form().nanoseconds);
+    let mut writer = Writer::new(Vec::new(), packets.form()).unwrap();
+    for (n, packet) in packets.enumerate() {
+        let packet = packet.unwrap();
+        assert_eq!((packet.seconds, packet.nanos), (n as u32, 123_456_789));
+        writer.write(&packet).unwrap();
+    }
+    assert!(writer.into_inner() == content);
+}
+
 #[test]
 fn a_torn_record_is_the_last_item() {
     let mut packets = Packets::new(&VETH[..200]).unwrap();
@@ -183,6 +221,9 @@ fn long_expressions_have_stack_enough() {
     });
     let (canonical, why, compared, played) = called.unwrap().join().unwrap();
     assert!(canonical && why > 4 && compared && played);
+    let long = "ip or ".repeat(1300) + " proot";
+    let hinted = std::thread::Builder::new().stack_size(64 << 10).spawn(move || Filter::new(&long).unwrap_err().hint(&long));
+    assert_eq!(hinted.unwrap().join().unwrap().as_deref(), Some("did you mean `proto`?"));
 }
 
 #[test]
