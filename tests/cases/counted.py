@@ -9,7 +9,7 @@ TEXT = "a text of more than the 24 bytes of a header"
 # A listing that aborts on the two frames of 14 bytes, and accepts TCP.
 PROTOCOL = "4\n48 0 0 23\n21 0 1 6\n6 0 0 96\n6 0 0 0\n"
 # An expression that is read, and for which a program is too long.
-LONG = "ip" + "||ip" * 2047
+LONG = "ip" + "||ip" * 2040
 
 # A filter, and how many of the four packets it answers Yes, No and Abort; and the one packet of WHOLE, an IPv4 frame of 14 bytes.
 COUNTED = [
