@@ -157,6 +157,16 @@ def bytes_of(literal):
     return [int(number, 0) if number else ord(character) for number, character in re.findall(r"(0x\w+)|b'(.)'", literal)]
 
 
+# The texts on captures, and the link types of cooked ones, by the names that the page has for them.
+CAPTURE_TEXTS = {
+    "other": r'"(not a classic .*?)\{\}"', "link": r'"link type \{number\}\{\}(; .*?)"', "checked": r'"(link type 1 .*?)"',
+    "capture": r'"(capture on an Ethernet .*?)"', "convert": r'"(one that you have: .*?)"', "cooked": r"fn is_cooked\(number: u32\) -> bool \{\s+(.*)",
+    "short": r'"(it has \{\} bytes; .*?)"', "version": r'"(version \{major\}.*?)"', "torn": r'TornRecord\(_\), _\) => give_hint\(\s+"(.*?)"',
+    "fraction": r'"(its fraction [^"]*: the file is damaged)"\s', "smallFraction": r'"(its fraction .* microseconds)"',
+    "long": r'TooLong\(_\), _\) => give_hint\(\s+"(.*?)"',
+}
+
+
 def hints():
     """What the program prints below faults that the library has no hints on: what files of other formats begin with, and what to do with them; the
     forms of lines. A page has no standard input."""
@@ -164,11 +174,16 @@ def hints():
     named = dict(re.findall(r'const (\w+): &str =\s+"((?:[^"\\]|\\.)*)";', captures + lines))
     table = re.search(r"static OTHER_FORMATS: .*?= \[(.*?)\n\];", captures, re.S)
     rows = re.findall(r'\(\s*(&\[.*?\]|b".*?"),\s*(?:"(.*?)"|(\w+)),?\s*\)', table[1] if table else "", re.S)
-    other, link = (re.search(form, captures) for form in (r'"(not a classic .*?)\{\}"', r'"link type \{number\}\{\}(; .*?)"'))
-    if not (rows and len(rows) == table[1].count("(") and other and link and {"LISTENERS_OF_STEPS", "SCRIPT"} <= set(named)):
+    found = {name: re.search(form, captures) for name, form in CAPTURE_TEXTS.items()}
+    names = re.findall(r'^ +(\d[\d |]*|_ if is_cooked\(number\)) => "(.*?)",', captures, re.M)
+    is_known = table and len(rows) == table[1].count("(") and all(found.values()) and names and {"LISTENERS_OF_STEPS", "SCRIPT"} <= set(named)
+    if not is_known:
         raise Refused(f"the hints of {CAPTURE_HINTS.parent} have another form, which this does not know")
     formats = [[bytes_of(begins), (text or named[name]).removesuffix(", and read it from /dev/stdin")] for begins, text, name in rows]
-    return {"formats": formats, "other": other[1], "link": link[1], "listeners": named["LISTENERS_OF_STEPS"], "script": named["SCRIPT"]}
+    texts = {name: text[1] for name, text in found.items()}
+    numbers = lambda words: [int(number) for number in re.findall(r"\d+", words if words[0] != "_" else texts["cooked"])]
+    texts["linkNames"] = [[numbers(words), text] for words, text in names]
+    return {**texts, "formats": formats, "listeners": named["LISTENERS_OF_STEPS"], "script": named["SCRIPT"]}
 
 
 def packed(content):

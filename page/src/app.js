@@ -14,6 +14,7 @@ import { captureOf, cutCapture, exampleOf } from "./captures.js";
 import { captureHint } from "./hints.js";
 import { counted, find, settled } from "./dom.js";
 import { linkTo, readState } from "./state.js";
+import { takeFiles } from "./files.js";
 
 /** @typedef {import("./library.js").Library} Library */
 /** @typedef {import("./captures.js").Records} Records */
@@ -59,30 +60,22 @@ export class App {
   }
 
   listen() {
-    const open = async (/** @type {File | undefined} */ file) => {
-      if (file) this.open({ name: file.name, file: new Uint8Array(await file.arrayBuffer()) });
-    };
     // By now `writeLink` may have written the state before it into the address again.
     window.addEventListener("hashchange", (event) => this.go(readState(new URL(event.newURL).hash)));
     window.addEventListener("error", (event) => this.takeTrap(event, event.error));
     window.addEventListener("unhandledrejection", (event) => this.takeTrap(event, event.reason));
     document.addEventListener("keydown", (event) => this.key(event));
-    find("file").addEventListener("change", (event) => open(/** @type {any} */ (event.target).files[0]));
+    // A link to the address that is there already changes nothing in it.
+    document.addEventListener("click", ({ target }) => {
+      const link = target instanceof Element && target.closest("a");
+      if (link && link.hash && link.hash === location.hash) this.go(readState(link.hash));
+    });
+    takeFiles((name, file) => this.open({ name, file }));
     find("example-file").addEventListener("click", () => this.open(exampleOf(this.examples, "")));
     find("cut").addEventListener("change", () => this.cut());
     find("stop-packets").addEventListener("click", () => this.packetDesk.stop());
     find("show-filters").addEventListener("click", () => this.view("filters"));
     find("show-listeners").addEventListener("click", () => this.view("listeners"));
-    const over = (/** @type {boolean} */ isOver) => (/** @type {DragEvent} */ event) => {
-      event.preventDefault();
-      document.body.classList.toggle("over", isOver);
-    };
-    document.addEventListener("dragover", over(true));
-    document.addEventListener("dragleave", over(false));
-    document.addEventListener("drop", (event) => {
-      over(false)(event);
-      if (event.dataTransfer) open(event.dataTransfer.files[0]);
-    });
   }
 
   /**
@@ -90,8 +83,11 @@ export class App {
    * @param {PageState} state
    */
   go(state) {
-    const isOther = state.example !== this.state.example, isCutAnew = isOther || this.capture === null || state.cut !== this.state.cut;
-    if (isOther) this.source = exampleOf(this.examples, state.example);
+    // What a lesson says is of its capture, so its links open that in place of the user's.
+    const example = exampleOf(this.examples, state.example);
+    const isOther = state.example !== this.state.example || (state.lesson !== "" && this.source.file !== example.file);
+    const isCutAnew = isOther || this.capture === null || state.cut !== this.state.cut;
+    if (isOther) this.source = example;
     this.state = state;
     this.listeners.write(state);
     this.lessons.show(state);
@@ -165,7 +161,7 @@ export class App {
     }
     this.showName(this.capture);
     this.list.open(this.capture.records);
-    this.show(Math.min(Math.max(0, this.state.packet), this.capture.records.count - 1));
+    this.show(Math.max(0, this.state.packet));
     this.explain();
     this.view(this.state.view);
   }
@@ -175,6 +171,7 @@ export class App {
     const { fault, place, count } = records, text = fault === OK ? "" : `: ${this.library.faultText(fault, place)}`;
     find("capture-name").textContent = `${name}, ${counted(count, "packet")}${text}${fault !== OK && count ? "; the packets before it are shown" : ""}`;
     find("capture-hint").textContent = captureHint(this.source.file, fault);
+    find("capture-link").hidden = [...this.examples.values()].includes(this.source.file);
     find("capture-name").classList.toggle("fault", fault !== OK);
     find("counts").textContent = "";
   }
@@ -216,7 +213,7 @@ export class App {
    * @param {number} place
    */
   show(place) {
-    if (this.hasPacket(place)) this.list.show(place);
+    this.list.show(this.hasPacket(place) ? place : -1);
     this.showPacket(place);
   }
 
@@ -233,6 +230,7 @@ export class App {
     const { capture } = this;
     if (capture === null || !this.hasPacket(place)) {
       this.packet.show(this.library, this.filter, null);
+      if (capture && place > 0) find("packet-title").textContent = `No packet ${place}: the capture has ${counted(capture.records.count, "packet")}`;
       return;
     }
     const { offsets, captured, wire } = capture.records, begin = offsets[place];

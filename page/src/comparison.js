@@ -15,8 +15,8 @@ const SHORT = 2, DIFFER = 3, MOST_SHOWN = 120;
 
 const ANSWERS = [
   "Same: both accept the same packets, of all that there can be.",
-  "Same as captured: both accept the same packets, of those of which no more was captured than was on the wire.",
-  "Short: one accepts this packet, and the other one aborts.",
+  "Same as captured: both accept the same packets, unless a packet has more bytes captured than it had on the wire.",
+  "Short: one accepts this packet, and the other one aborts; the lines below say why.",
   "Differ: one accepts this packet, and the other one does not.",
   "Not decided.",
 ];

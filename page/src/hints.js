@@ -1,6 +1,9 @@
 // What helps with a fault that is of no expression: a file that is no capture, and lines of listeners and scripts.
 
-import { BAD_CAPACITY, LINK_TYPE, LISTENERS, NOT_SAVEFILE, NO_LISTENER, OK, SCRIPT, isOfCapture, isOfExpression } from "./library.js";
+import {
+  BAD_CAPACITY, BAD_FRACTION, LINK_TYPE, LISTENERS, NOT_SAVEFILE, NO_LISTENER, OK, RECORD_TOO_LONG, SCRIPT, SHORT_HEADER, TORN_RECORD, VERSION,
+  isOfCapture, isOfExpression,
+} from "./library.js";
 import { explain } from "./filter.js";
 import { find } from "./dom.js";
 
@@ -8,9 +11,11 @@ import { find } from "./dom.js";
 /** @typedef {import("./steps.js").Plan} Plan */
 /** @typedef {import("./steps.js").Replay} Replay */
 /**
- * Texts of the program: what files of other formats begin with, and what to do with them; what is said of any other file, and of another link
- * type; the forms of lines.
- * @typedef {{ formats: [number[], string][], other: string, link: string, listeners: string, script: string }} Texts
+ * Texts of the program: what files of other formats begin with, and what to do with them; names of link types; one text for each name of
+ * CAPTURE_TEXTS in make_page.py; the forms of lines.
+ * @typedef {{ formats: [number[], string][], linkNames: [number[], string][], listeners: string, script: string,
+ *   other: string, link: string, checked: string, capture: string, convert: string, cooked: string, short: string, version: string, torn: string,
+ *   fraction: string, smallFraction: string, long: string }} Texts
  */
 
 /** @returns {Texts} those that the page carries */
@@ -18,20 +23,42 @@ const texts = () => JSON.parse(find("hints").textContent || "");
 
 /**
  * @param {Uint8Array} file
- * @returns {number} the link type of a capture's header, with the further bits of its field
+ * @returns {string} what a file of another format is, and what to do with it
  */
-const linkType = (file) => new DataView(file.buffer, file.byteOffset).getUint32(20, file[0] !== 0xa1);
+function otherFormat(file) {
+  const { formats, other } = texts(), found = formats.find(([begins]) => begins.every((byte, at) => file[at] === byte));
+  return found ? found[1] : other + [...file.subarray(0, 4)].map((byte) => " " + byte.toString(16).padStart(2, "0")).join("");
+}
 
 /**
- * What a file is, and what to do with it, if it cannot be read; nothing for other faults.
+ * @param {number} number a link type, with the further bits of its field
+ * @returns {string}
+ */
+function linkHint(number) {
+  const { linkNames, link, checked, capture, convert } = texts();
+  if (number % 65536 === 1) return checked;
+  const [numbers, name] = linkNames.find(([known]) => known.includes(number)) || [[], ""], isCooked = numbers.includes(113);
+  return [`link type ${number}${name}${link}`, capture, ...(isCooked ? [convert] : [])].join("\n");
+}
+
+/**
+ * What a file is, and what to do with it, if it cannot be read to its end: the lines of the program.
  * @param {Uint8Array} file
  * @param {number} fault
  */
 export function captureHint(file, fault) {
-  if (fault === LINK_TYPE) return `link type ${linkType(file)}${texts().link}`;
-  if (fault !== NOT_SAVEFILE) return "";
-  const { formats, other } = texts(), found = formats.find(([begins]) => begins.every((byte, at) => file[at] === byte));
-  return found ? found[1] : other + [...file.subarray(0, 4)].map((byte) => " " + byte.toString(16).padStart(2, "0")).join("");
+  const { short, version, torn, fraction, smallFraction, long } = texts(), isBig = file[0] === 0xa1;
+  const view = new DataView(file.buffer, file.byteOffset, file.byteLength), hasNanos = file[0] === 0x4d || file[3] === 0x4d;
+  switch (fault) {
+    case SHORT_HEADER: return short.replace("{}", String(file.length));
+    case NOT_SAVEFILE: return otherFormat(file);
+    case VERSION: return version.replace("{major}", String(view.getUint16(4, !isBig))).replace("{minor}", String(view.getUint16(6, !isBig)));
+    case LINK_TYPE: return linkHint(view.getUint32(20, !isBig));
+    case TORN_RECORD: return torn;
+    case BAD_FRACTION: return hasNanos ? fraction : smallFraction;
+    case RECORD_TOO_LONG: return long;
+    default: return "";
+  }
 }
 
 /**

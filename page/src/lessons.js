@@ -74,10 +74,10 @@ const LESSONS = [
     stops: [
       { say: "Later fragments, and first ones with More Fragments.", show: { filter: "ip[6:2] & 0x3fff != 0", packet: 115 } },
       { say: "The first fragment has the ports.", show: { filter: "udp port 5353", packet: 115 } },
-      { say: "A later one has data at their place, so no port is looked at. Which instruction decides?", show: { filter: "udp port 5353", packet: 116 } },
+      { say: "A later one has data at their place, so the filter does not look for ports. Which instruction decides?", show: { filter: "udp port 5353", packet: 116 } },
       { say: "The rest of the datagram, by its Identification.", show: { filter: "udp port 5353 or ip[4:2] = 0x9898", packet: 117 } },
       {
-        say: "Who rejects a port lets later fragments in.",
+        say: "A filter that rejects a port lets later fragments in.",
         show: { filter: "not udp port 5353", other: "not udp port 5353 and (not udp or ip[6:2] & 0x1fff = 0)", packet: 116 },
       },
     ],

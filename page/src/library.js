@@ -6,7 +6,9 @@ import { Memory, words } from "./memory.js";
 /** @typedef {import("./memory.js").Take} Take */
 
 /** Numbers of faults, of bpftap.h. */
-export const OK = 0, NO_ROOM = 2, END = 4, NOT_SAVEFILE = 65, LINK_TYPE = 67, BAD_CAPACITY = 80, LISTENERS = 88, SCRIPT = 89, NO_LISTENER = 91;
+export const OK = 0, NO_ROOM = 2, END = 4;
+export const SHORT_HEADER = 64, NOT_SAVEFILE = 65, VERSION = 66, LINK_TYPE = 67, TORN_RECORD = 68, BAD_FRACTION = 69, RECORD_TOO_LONG = 70;
+export const BAD_CAPACITY = 80, LISTENERS = 88, SCRIPT = 89, NO_LISTENER = 91;
 /** @param {number} fault */
 export const isOfExpression = (fault) => fault >= 32 && fault < 50;
 /** @param {number} fault */

@@ -109,6 +109,7 @@ export class ListenersView {
       this.show(await this.desk.ask("steps", [this.plan, this.capture.file]));
     } catch (why) {
       if (why instanceof Ended && why.message !== "stopped") return;
+      this.clear();
       find("steps-fault").textContent = why instanceof Ended ? "Stopped." : `The library stopped in this call: ${/** @type {Error} */ (why).message}.`;
     } finally {
       clearTimeout(slow);
@@ -120,12 +121,25 @@ export class ListenersView {
   show({ reports, answers, picture }) {
     const library = /** @type {Library} */ (this.library), { file } = /** @type {Capture} */ (this.capture);
     find("steps-fault").textContent = explainSteps(library, this.plan, reports, file).join("\n");
-    if (!hasReports(reports)) return;
+    if (!hasReports(reports)) {
+      this.clear();
+      return;
+    }
     find("reports").textContent = reports.text;
     this.steps = stepsOf(answers.text);
     this.picture = picture.text;
     this.drawPicture();
     this.go(this.at);
+  }
+
+  /** Takes away what earlier steps gave, which these have no part in; the next ones begin where the user was. */
+  clear() {
+    const { at } = this;
+    find("reports").textContent = "";
+    [this.steps, this.cursors, this.picture] = [[], [], ""];
+    /** @type {ShadowRoot} */ (find("picture").shadowRoot).replaceChildren();
+    this.go(0);
+    this.at = at;
   }
 
   /** Shows the picture in a root of its own: its style is taken out of its text, which the policy of the page would refuse. */

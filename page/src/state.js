@@ -44,6 +44,7 @@ export function readState(hash) {
     const value = found.get(word);
     if (value !== null) Object.assign(state, { [name]: typeof FIRST[name] === "number" ? Number.parseInt(value, 10) || 0 : value });
   }
+  if (state.view !== "listeners") state.view = FIRST.view;
   return state;
 }
 

@@ -34,7 +34,7 @@ def packages(scene):
         (built / name).chmod(int(mode, 8))
     built.with_name(f"{built.name}.sums").write_bytes(source.lib("contents", str(built)).out)
     folder = scene.folder / "packages"
-    seen = install(scene, source, str(folder), program="package")
+    seen = install(scene, source, folder.name, program="package")
     scene.check("made", (seen.err, seen.status), (b"", 0))
     found = {path.name.partition("_")[0]: path for path in sorted(folder.glob("*.deb"))}
     scene.check("packages", sorted(found), sorted(NAMES))
@@ -107,7 +107,8 @@ def only_a_program_for_glibc_depends_on_it(scene):
     clone, number = source_in(scene), version()
     stage = scene.folder / "stage"
     install(scene, clone, str(stage / "usr"))
-    fields = lambda path: subprocess.run(["dpkg-deb", "-f", path, "Architecture", "Depends"], capture_output=True, text=True, timeout=LIMIT).stdout
+    asked = ["Architecture", "Multi-Arch", "Depends", "Recommends"]
+    fields = lambda path: subprocess.run(["dpkg-deb", "-f", path, *asked], capture_output=True, text=True, timeout=LIMIT).stdout
     for name, ((kind, libc), tool) in ARCHIVES.items():
         archive = ROOT / "release" / f"bpftap-{name}.tar.xz"
         if not archive.is_file():
@@ -123,7 +124,7 @@ def only_a_program_for_glibc_depends_on_it(scene):
             if kind == "arm64" and scene.has("lintian"):
                 scene.check(f"{name}: lintian", done(scene, ["lintian", "--allow-root", "--fail-on", "error,warning", path], limit=5 * LIMIT), ("", 0))
             if "libbpftap1_" in made:
-                scene.check(f"{name}: the library", fields(scene.folder / f"libbpftap1_{number}_{kind}.deb"), f"Architecture: {kind}\n")
+                scene.check(f"{name}: the library", fields(scene.folder / f"libbpftap1_{number}_{kind}.deb"), f"Architecture: {kind}\nMulti-Arch: same\n")
             shutil.rmtree(stage / "usr" / "lib", ignore_errors=True)
 
 

@@ -68,7 +68,9 @@ def files_are_put_under_the_prefix(scene):
     for page in prefix.rglob("*.md"):
         missing = [str(target) for target in links(page) if not target.exists()]
         scene.check(f"links of {page.relative_to(prefix)} that lead nowhere", missing, [])
-        scene.check(f"its text", re.sub(LINK, r"\1", page.read_text()), re.sub(LINK, r"\1", (ROOT / PUT[str(page.relative_to(prefix))]).read_text()))
+        own = (ROOT / PUT[str(page.relative_to(prefix))]).read_text().replace("./bpftap ", "bpftap ").replace("`release/bpftap.html`", "`bpftap.html`")
+        scene.check("its text", re.sub(LINK, r"\1", page.read_text()), re.sub(LINK, r"\1", own))
+    scene.check("a command of its README", "$ bpftap check -d ip\n" in (prefix / "share" / "doc" / "bpftap" / "README.md").read_text(), True)
     ran = subprocess.run([prefix / "bin" / "bpftap", "--version"], capture_output=True, timeout=LIMIT)
     scene.check("the program", ran.stdout, b"bpftap 1.2.3, a stand-in\n")
     (prefix / "bin" / "other").touch()
@@ -374,9 +376,35 @@ def packages_have_what_is_installed(scene):
     subprocess.run(["tar", "-xzf", packages / names[0], "-C", scene.folder], check=True)
     scene.check("files of the archive", put_below(scene.folder / f"bpftap-{version}"), set(PUT))
     again = scene.folder / "again"
-    install(scene, source, str(again), program="package")
+    seen = install(scene, source, "again", program="package")
+    scene.check("printed for a relative folder", seen, Seen("".join(f"{again}/{name}\n" for name in names).encode(), b"", 0))
     scene.check("the same again", [name for name in names if (again / name).read_bytes() != (packages / name).read_bytes()], [])
     made_of = json.loads((packages / names[1]).read_text())
     known = {"SPDXRef-DOCUMENT", *(each["SPDXID"] for each in [*made_of["packages"], *made_of["files"]])}
     named = {each[key] for each in made_of["relationships"] for key in ("spdxElementId", "relatedSpdxElement")}
     scene.check("what it is made of", (named - known, [each["fileName"] for each in made_of["files"]]), (set(), ["./bpftap-x86_64-linux/bin/bpftap"]))
+
+
+@case
+def an_archive_is_named_by_its_program(scene):
+    """The tar archive of the static program has the name of that in the release."""
+    archive = ROOT / "release" / "bpftap-x86_64-linux-static.tar.xz"
+    if not archive.is_file():
+        return scene.leave(f"no {archive.name} is released")
+    subprocess.run(["tar", "-xJf", archive, "-C", scene.folder], check=True, timeout=LIMIT)
+    source = source_in(scene, program=(scene.folder / "bin" / "bpftap").read_bytes())
+    install(scene, source, "packages", program="package")
+    names = [path.name.split("-", 2)[2] for path in (scene.folder / "packages").glob("*.tar.gz")]
+    scene.check("archive", names, ["x86_64-linux-static.tar.gz"])
+
+
+@case
+def a_list_has_the_page_and_what_is_linked(scene):
+    """packaging/sbom lists the page with its checksum, and the crates of the toolchain that NOTICES names."""
+    source, content = source_in(scene), b"<p>a page\n"
+    (source.folder / "release" / "bpftap.html").write_bytes(content)
+    listed = json.loads(source.run(program="packaging/sbom").out)
+    sums = {each["fileName"]: {it["algorithm"]: it["checksumValue"] for it in each["checksums"]} for each in listed["files"]}
+    scene.check("the page", sums.get("./bpftap.html"), {name.upper(): hashlib.new(name, content).hexdigest() for name in ("sha1", "sha256")})
+    named = {each["name"] for each in listed["packages"]}
+    scene.check("crates of the toolchain", {"std", "core", "os", "libc", "atomic_table"} - named, set())

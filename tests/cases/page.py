@@ -1,5 +1,6 @@
 """The page: its module beside the native library, what it is made of, and what a person sees in Chromium and in Firefox."""
 import base64
+import datetime
 import gzip
 import json
 import os
@@ -10,6 +11,7 @@ import statistics
 import subprocess
 import sys
 import time
+import urllib.parse
 
 from . import hints, library
 from .common import HEADER, IP_RECORD, LIMIT, ROOT, TORN, VETH, case, records
@@ -231,7 +233,11 @@ def below_fault(scene, *words):
 
 # Files that are no captures, by what they begin with. Of some the program also says that standard input takes them.
 OTHER_FILES = {"in.gz": b"\x1f\x8b\x08", "in.xz": b"\xfd7zXZ\0", "in.snoop": b"snoop\0\0\0", "in.txt": b"some text of no format",
-               "cooked.pcap": HEADER[:20] + b"\x65\0\0\0"}
+               "raw.pcap": HEADER[:20] + b"\x65\0\0\0", "cooked.pcap": HEADER[:20] + b"\x71\0\0\0", "checked.pcap": HEADER[:20] + b"\1\0\0\x24",
+               "old.pcap": HEADER[:4] + b"\1\0\2\0", "fraction.pcap": HEADER + b"\0\0\0\0\x40\x42\x0f\0",
+               "nanos.pcap": b"\x4d\x3c\xb2\xa1" + HEADER[4:] + b"\0\0\0\0\0\xca\x9a\x3b", "long.pcap": HEADER + bytes(8) + b"\1\0\4\0"}
+# Captures that end too early.
+CUT_FILES = {"short.pcap": HEADER[:10], "torn.pcap": TORN}
 # Listeners and scripts that are refused, with a word of help.
 STEPS_REFUSED = [("foo\n", "arrive\n"), ("64 192 icmp\n", "arrive\nbla\n"), ("64 192 icmp and proot 17\n", "arrive\n")]
 
@@ -356,12 +362,147 @@ def give_files(visit):
         document.dispatchEvent(new DragEvent('drop', { dataTransfer: data, bubbles: true, cancelable: true }))""", list(HEADER + 2 * IP_RECORD))
     visit.check_has("a dropped file", "capture-name", "dropped.pcap, 2 packets")
     visit.check("nothing is said of it", visit.text("capture-hint"), "")
-    for name, first in OTHER_FILES.items():
-        visit.scene.put({name: first + bytes(40)})
+    for name, content in {**{name: first + bytes(40) for name, first in OTHER_FILES.items()}, **CUT_FILES}.items():
+        visit.scene.put({name: content})
         visit.browser.give_file("file", visit.scene.folder / name)
-        visit.check_has(name, "capture-name", f"{name}, 0 packets: ")
-        said = below_fault(visit.scene, "explain", "-e", "ip", name)[0].replace(" (raw IP)", "")
-        visit.check(f"what {name} is", said.startswith(visit.text("capture-hint") or "nothing"), True)
+        visit.check_has(name, "capture-name", f"{name}, {'1 packet' if name == 'torn.pcap' else '0 packets'}: ")
+        said = "\n".join(below_fault(visit.scene, "explain", "-e", "ip", name)).replace(", and read it from /dev/stdin", "")
+        visit.check(f"what {name} is", visit.text("capture-hint"), said)
+
+
+def give_files_again(visit):
+    """A file that is chosen twice is read twice; one that cannot be read is named; a link of a lesson opens the lesson's capture."""
+    visit.open("#k=filters&e=icmp")
+    visit.check("a link has this capture", visit.run("return document.getElementById('capture-link').hidden"), True)
+    for count in (1, 2):
+        visit.scene.put({"one.pcap": HEADER + count * IP_RECORD})
+        visit.browser.give_file("file", visit.scene.folder / "one.pcap")
+        visit.check_has(f"chosen {count} times", "capture-name", f"one.pcap, {counted(count)}")
+    visit.check("a link has another one", visit.run("return document.getElementById('capture-link').hidden"), False)
+    visit.wait("return location.hash === '#e=icmp&k=filters'")
+    visit.run("const link = document.querySelector('#lesson li a'); link.hash = location.hash; link.click()")
+    visit.check_has("the address that is there", "capture-name", "examples/veth.pcap, 253 packets")
+    visit.browser.give_file("file", visit.scene.folder / "one.pcap")
+    visit.check_has("the file again", "capture-name", "one.pcap, 2 packets")
+    visit.run("document.querySelectorAll('#lesson li a')[2].click()")
+    visit.check_has("a lesson's link", "capture-name", "examples/veth.pcap, 253 packets")
+    visit.check_has("its packet", "packet-title", "Packet 2: 98 bytes")
+    visit.run("""
+        File.prototype.arrayBuffer = () => Promise.reject(new Error('no such file'));
+        const data = new DataTransfer();
+        data.items.add(new File([], 'gone.pcap'));
+        document.dispatchEvent(new DragEvent('drop', { dataTransfer: data, bubbles: true, cancelable: true }))""")
+    visit.check_has("a file that is gone", "capture-hint", "cannot read gone.pcap: ")
+    visit.check("why", visit.text("capture-hint").endswith("no such file"), True)
+
+
+def counted(count):
+    return "1 packet" if count == 1 else f"{count} packets"
+
+
+EXPLAINED = re.compile(r"^place (\d+) time (\d+)\.(\d{9}) len (\d+) captured (\d+) (Yes|No|Abort) (.*)$", re.M)
+
+
+def read_rows(visit):
+    """The rows of the list are the lines of `explain`, for packets that were cut; the times are UTC."""
+    visit.open("#e=tcp%20port%208080%20or%20443&c=40&p=0")
+    visit.check_has("all counted", "counts", "253 packets: ")
+    visit.scene.run(["cut", "-s", "40", "-e", "", VETH, "cut.pcap"])
+    wanted = []
+    explained = visit.scene.run(["explain", "-e", "tcp port 8080 or 443", "cut.pcap"]).out.decode()
+    for place, seconds, nanos, size, captured, verdict, reason in EXPLAINED.findall(explained):
+        clock = datetime.datetime.fromtimestamp(int(seconds), datetime.timezone.utc).strftime("%H:%M:%S")
+        wanted.append([place, f"{clock}.{nanos[:6]}", f"{size} bytes" if captured == size else f"{captured} of {size} bytes", verdict, reason])
+    rows = visit.run("return [...document.querySelectorAll('.row')].map((row) => [...row.children].map((cell) => cell.textContent))")
+    visit.check("rows", (rows, len(rows) > 5), (wanted[:len(rows)], True))
+    visit.check("the first row", rows[0][:3], ["0", "07:31:58.563134", "40 of 42 bytes"])
+    visit.check("the title", visit.text("packet-title"), "Packet 0: 40 of 42 bytes")
+    visit.check("how they count", visit.run("return document.body.textContent.includes('counted from 0, times in UTC')"), True)
+
+
+# Bytes of packets of the example, their values, and the names of RFC 826, 791, 792 and 793 for them.
+FIELDS = {
+    0: [("ether[20:2]", "0x1", "ARP operation: 1"), ("ether[28:4]", "0xc0000201", "ARP sender: 192.0.2.1"),
+        ("ether[38:4]", "0xc0000202", "ARP target: 192.0.2.2")],
+    2: [("ether[0:4]", "0x2000000", "destination MAC, bytes 0-3"), ("ether[4:2]", "0xb", "destination MAC, bytes 4-5"),
+        ("ether[6:4]", "0x2000000", "source MAC, bytes 0-3"), ("ether[10:2]", "0xa", "source MAC, bytes 4-5"), ("ether[12:2]", "0x800", "ethertype: IPv4"),
+        ("ether[14]", "0x45", "IPv4 version and header length"), ("ether[16:2]", "0x54", "IPv4 length: 84"), ("ether[18:2]", "0x3179", "identification"),
+        ("ether[20:2]", "0x4000", "flags and fragment offset: no fragment, don't fragment"), ("ether[22]", "0x40", "time to live: 64"),
+        ("ether[23]", "0x1", "protocol: ICMP"), ("ether[26:4]", "0xc0000201", "source address: 192.0.2.1"),
+        ("ether[30:4]", "0xc0000202", "destination address: 192.0.2.2"), ("ether[34]", "0x8", "ICMP type: 8"), ("ether[35]", "0x0", "ICMP code: 0")],
+    124: [("ether[34:2]", "0x1f90", "source port: 8080"), ("ether[36:2]", "0xe468", "destination port: 58472"), ("ether[47]", "0x12", "TCP flags")],
+}
+# A filter, and what the blocks of its program ask.
+QUESTIONS = [
+    ("ip[2:2] > 100 and ip[4:2] >= 100 and ip[8] = 64", ["ethertype = IPv4?", "IPv4 length > 100?", "identification ≥ 0x64?", "time to live = 64?"]),
+    ("ip[6:2] & 8191 != 0 or tcp[13] & 2 != 0", ["ethertype = IPv4?", "later fragment?", "protocol = TCP?", "later fragment?", "TCP flags & 0x2 ≠ 0?"]),
+]
+
+
+def name_fields(visit):
+    """Bytes and their values by the names of their fields, and the questions of a program's blocks."""
+    for place, fields in FIELDS.items():
+        text = " or ".join(f"{look} = 255" for look, _, _ in fields)
+        visit.open(f"#e={urllib.parse.quote(text)}&p={place}")
+        visit.check_has(f"packet {place}", "packet-title", f"Packet {place}: ")
+        visit.wait_for("looks", fields[-1][0])
+        rows = visit.run("return [...document.querySelectorAll('#looks tr')].map((row) => [...row.cells].map((cell) => cell.textContent))")
+        visit.check(f"fields of packet {place}", rows, [list(field) for field in fields])
+    for text, wanted in QUESTIONS:
+        visit.filter(text)
+        titles = visit.run("return [...document.querySelectorAll('#graph .node .title')].map((title) => title.textContent)")
+        visit.check(f"questions of {text}", [title for title in titles if title.endswith("?")], wanted)
+
+
+def step_through(visit):
+    """Each step of a run that stores into a cell: the line of `explain -p`."""
+    text = "ip[0] + ip[1] * 2 > 5"
+    visit.open(f"#e={urllib.parse.quote(text)}&p=2")
+    visit.check_has("the run", "step", "Step 11 of 11")
+    explained = visit.scene.run(["explain", "-p", "2", "-e", text, VETH]).out.decode()
+    lines = re.findall(r"^(\(\d{3}\)) (.*?) +(A 0x\S+ X 0x\S+)(?: (M\[.*))?$", explained, re.M)
+    wanted = [f"Step {number} of {len(lines)}: {place} {' '.join(insn.split())}: {registers}{stored and f', {stored}'}"
+              for number, (place, insn, registers, stored) in enumerate(lines, 1)]
+    seen = visit.run("""
+        const click = (name) => document.getElementById(name).click(), said = () => document.getElementById('step').textContent;
+        click('first-step');
+        return Array.from({ length: arguments[0] }, (_, at) => { if (at) click('next-step'); return said(); })""", len(lines))
+    visit.check("steps", (seen, ", M[0] 0x45" in seen[3]), (wanted, True))
+
+
+# Pairs of filters, the first line of `compare`, and what the page says.
+PAIRS = [
+    ("ip", "ip and len >= 0", "same", "Same: both accept the same packets, of all that there can be."),
+    ("ip", "ip and greater 14", "same as captured", "Same as captured: both accept the same packets, unless a packet has more bytes captured than it had on the wire."),
+    ("port 80 or 8080", "port 8080 or 80", "differ only where one aborts", "Short: one accepts this packet, and the other one aborts; the lines below say why."),
+    ("tcp", "tcp portrange 0-65535", "differ", "Differ: one accepts this packet, and the other one does not."),
+    ("ip[8] < ip[9]", "ip[9] > ip[8]", "not decided: a relation", "Not decided. A relation, as ip[8] < 5, is not decided."),
+]
+
+
+def decide_pairs(visit):
+    """The page's sentence for each answer of `compare`, and the answers of both filters to the packet that it found."""
+    for first, second, answer, sentence in PAIRS:
+        printed = visit.scene.run(["compare", first, second]).out.decode().splitlines()
+        visit.check(f"{first} and {second}, decided", printed[0], answer)
+        visit.open(f"#e={urllib.parse.quote(first)}&o={urllib.parse.quote(second)}")
+        visit.check_has(f"{first} and {second}", "same", sentence)
+        if len(printed) > 1:
+            wanted = re.search(r" first (.*) second (.*)$", printed[1]).groups()
+            visit.check("both answers", visit.run("return [...document.querySelectorAll('#same li')].map((line) => line.textContent)"), list(wanted))
+
+
+def open_odd_links(visit):
+    """A view and a packet that do not exist."""
+    visit.open("#v=foo&e=icmp&p=9999")
+    visit.check_has("no such packet", "packet-title", "No packet 9999: the capture has 253 packets")
+    shown = visit.run("return ['filters', 'listeners'].filter((name) => !document.getElementById(name).hidden)")
+    visit.check("no such view", shown, ["filters"])
+    visit.press("Tab")
+    visit.run("location.hash = '#e=icmp&p=252'")
+    visit.check_has("the last packet", "packet-title", "Packet 252: ")
+    visit.run("location.hash = '#e=icmp&p=253'")
+    visit.check_has("one more", "packet-title", "No packet 253: the capture has 253 packets")
 
 
 def give_many_packets(visit):
@@ -384,6 +525,12 @@ def give_many_packets(visit):
     visit.check("it is in sight", visit.run("return document.getElementById('packet-99999') !== null"), True)
 
 
+def steps_of(scene, script):
+    """The words of `bpftap steps` for the example's listeners and a script."""
+    scene.put({"script.txt": script})
+    return ["steps", ROOT / "examples" / "steps" / "listeners.txt", "script.txt", VETH]
+
+
 def play_steps(visit):
     """Listeners and a script: the reports are those of `bpftap steps`, and the picture is gone through step by step."""
     steps = ROOT / "examples" / "steps"
@@ -400,6 +547,10 @@ def play_steps(visit):
     visit.check("what became of it, and why", seen, [line.strip() for line in wanted])
     drawn = visit.run("return document.getElementById('picture').shadowRoot.querySelectorAll('rect.dropped, rect.over').length")
     visit.check("drops in the picture", drawn, 3)
+    places = visit.run("""
+        const root = document.getElementById('picture').shadowRoot, x = (shapes) => [...root.querySelectorAll(shapes)].map((shape) => shape.getAttribute('x'));
+        return [x('rect.cursor'), x('g > svg rect.dropped')]""")
+    visit.check("the cursors are at the column of the drop", places, [["70", "70"], ["70"]])
     visit.browser.type_into("listeners-text", "64 95 icmp\n0 262176i arp")
     visit.check_has("a listener that is refused", "steps-fault", "BadCapacity")
     visit.check_has("its line", "steps-fault", "line 1 is: 64 95 icmp")
@@ -410,6 +561,13 @@ def play_steps(visit):
         said = below_fault(visit.scene, "steps", "listeners.txt", "script.txt", VETH)
         wanted = "\n".join([said.fault.removeprefix("bpftap: "), *said]) if "line" in said[0] else f"{said[0]}\n{said[1]}\nBadWord 9\n{said[2]}"
         visit.check_has(f"{listeners!r} and {script!r}", "steps-fault", wanted)
+    visit.browser.type_into("listeners-text", (steps / "listeners.txt").read_text())
+    visit.browser.type_into("script-text", "arrive\nread 5\narrive\n")
+    visit.check_has("the line of a listener that does not exist", "steps-fault", "NoListener 1\nline 2 is: read 5\nlisteners are counted from 0")
+    said = below_fault(visit.scene, *steps_of(visit.scene, "arrive\nread 5\narrive\n"))
+    visit.check("as the program prints it", said[0], "line 2 of SCRIPT is: read 5")
+    left = visit.run("return document.getElementById('picture').shadowRoot.childElementCount")
+    visit.check("nothing is left of the steps before", (visit.text("reports"), visit.text("column"), visit.text("column-answers"), left), ("", "", "", 0))
 
 
 def follow_lesson(visit):
@@ -466,8 +624,8 @@ def stay_quiet(visit):
     visit.check("requests", {url.partition("#")[0] for url in asked} - {f"file://{PAGE}", "about:blank"}, set())
 
 
-VISITS = [look_at_packet, see_marked_bytes, type_filters, use_keys_alone, see_difference, give_files, get_ready, give_many_packets, play_steps,
-          follow_lesson, stay_quiet, survive_trap]
+VISITS = [look_at_packet, see_marked_bytes, read_rows, name_fields, step_through, type_filters, use_keys_alone, see_difference, decide_pairs,
+          give_files, give_files_again, open_odd_links, get_ready, give_many_packets, play_steps, follow_lesson, stay_quiet, survive_trap]
 
 
 def visit_page(scene, kind):

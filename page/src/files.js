@@ -1,0 +1,35 @@
+// The files that a user gives: by the button, or dropped on the page.
+
+import { find } from "./dom.js";
+
+/**
+ * Calls with each file that is given, once it is read.
+ * @param {(name: string, file: Uint8Array) => void} onFile
+ */
+export function takeFiles(onFile) {
+  const read = async (/** @type {File | undefined} */ file) => {
+    if (!file) return;
+    try {
+      onFile(file.name, new Uint8Array(await file.arrayBuffer()));
+    } catch (why) {
+      find("capture-hint").textContent = `cannot read ${file.name}: ${why instanceof Error ? why.message : why}`;
+    }
+  };
+  /** @type {HTMLInputElement} */
+  const input = find("file");
+  input.addEventListener("change", () => {
+    if (input.files) read(input.files[0]);
+    // So that the same file can be chosen again: without a change there is no event.
+    input.value = "";
+  });
+  const over = (/** @type {boolean} */ isOver) => (/** @type {DragEvent} */ event) => {
+    event.preventDefault();
+    document.body.classList.toggle("over", isOver);
+  };
+  document.addEventListener("dragover", over(true));
+  document.addEventListener("dragleave", over(false));
+  document.addEventListener("drop", (event) => {
+    over(false)(event);
+    if (event.dataTransfer) read(event.dataTransfer.files[0]);
+  });
+}
