@@ -90,12 +90,34 @@ def bounds_decide_the_status(scene):
 
 
 @case
+def an_abort_is_not_accepted(scene):
+    """A bound is on the packets that are answered Yes: `not tcp` accepts two of four, and aborts on one. With none accepted `--at-most` holds."""
+    start(scene)
+    for bound, status in (("--exactly 2", 0), ("--exactly 3", 4), ("--at-least 3", 4), ("--at-most 2", 0)):
+        scene.expect(f"explain -q {bound} -e 'not tcp' in.pcap", status)
+    scene.expect("explain -q --at-most 5 -e rarp in.pcap")
+    scene.expect("explain -q --at-most 0 -e rarp in.pcap")
+    scene.expect("explain -q --at-least 1 -e 'not tcp' one.pcap", 4)
+
+
+@case
+def no_capture_or_listing_takes_the_counts(scene):
+    """Standard output that goes to a capture or to the listing is refused, and the file stays as it is."""
+    start(scene)
+    scene.expect("explain -c -e ip in.pcap", 1, fault_lines("SameFile in.pcap"), streams=">>in.pcap")
+    scene.expect("explain -l -e ip one.pcap in.pcap", 1, fault_lines("SameFile in.pcap"), streams=">>in.pcap")
+    scene.expect("explain -c -f ip.bpf in.pcap", 1, fault_lines("SameFile ip.bpf"), streams=">>ip.bpf")
+    scene.check("what is left", (scene.read("in.pcap"), scene.read("ip.bpf")), (MIXED, IP.encode()))
+
+
+@case
 def faults_come_before_the_answer(scene):
     """The first fault ends the reading; the packets before it are counted. Nothing is printed of a capture whose header is refused."""
     start(scene)
     scene.expect("explain -c -e ip torn.pcap in.pcap", 2, fault_lines("Capture 0 TornRecord 1"), f"torn.pcap {text_of((1, 0, 0))}{text_of((1, 0, 0))}")
     scene.expect("explain -c -e ip in.pcap text.pcap one.pcap", 1, fault_lines("Capture 1 NotSavefile"), f"in.pcap {text_of((3, 1, 0))}{text_of((3, 1, 0))}")
     scene.expect("explain -c -e ip text.pcap", 1, fault_lines("NotSavefile"))
+    scene.expect("explain -c -e ip text.pcap in.pcap", 1, fault_lines("Capture 0 NotSavefile"))
     scene.expect("explain -c -e ip in.pcap gone.pcap", 3, fault_lines("Device gone.pcap"), f"in.pcap {text_of((3, 1, 0))}{text_of((3, 1, 0))}")
     scene.expect("explain -c -e ip in.pcap", 3, fault_lines("Device standard output"), streams=">/dev/full")
     scene.expect("explain -l -e ip in.pcap", 3, fault_lines("Device standard output"), streams=">/dev/full")
