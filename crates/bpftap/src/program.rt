@@ -12,7 +12,7 @@ use cli_explain::command::explain_command;
 use cli_files::late::reserve_std_fd;
 use cli_filter_hints::quotes::{hint_listing_word, hint_unquoted};
 use cli_info::command::info_command;
-use cli_json::LineForm;
+use line_text::LineForm;
 use cli_report::commands::{
     hint_command, hint_dash_output, hint_failed_words, hint_missing, hint_option,
 };

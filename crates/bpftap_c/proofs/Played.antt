@@ -14,11 +14,11 @@ use Rattle.tap_steps.specs.declared.filters.Spec.{Spec}
 use Rattle.tap_steps.specs.declared.step.Step.{Step}
 use Rattle.tap_steps.specs.declared.playlist.PlacedPacket.{PlacedPacket}
 use Rattle.tap_steps.specs.declared.report.Report.{Report}
-use Rattle.cli_json.specs.declared.form.LineForm.{LineForm}
-use Rattle.cli_text.specs.Files.{IsFileOf}
-use Rattle.cli_steps.specs.Answers.{answers_from, cursors_of}
-use Rattle.cli_steps.specs.Listeners.{IsListenerLine, AreFirstOf}
-use Rattle.cli_steps.specs.Script.{IsStepLine}
+use Rattle.line_text.specs.declared.form.LineForm.{LineForm}
+use Rattle.line_text.specs.Files.{IsFileOf}
+use Rattle.tap_text.specs.Answers.{answers_from, cursors_of}
+use Rattle.tap_text.specs.Listeners.{IsListenerLine, AreFirstOf}
+use Rattle.tap_text.specs.Script.{IsStepLine}
 use Rattle.bpftap_c.specs.Steps.{IsAnswered, IsPlayed, IsUnplayed}
 use Rattle.bpftap_c.specs.declared.outcome.Failure.TheVariants as failures
 

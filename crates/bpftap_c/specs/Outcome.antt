@@ -13,8 +13,8 @@ use Rattle.listener.specs.declared.fault.OpenFault.{OpenFault}
 use Rattle.listener.specs.declared.fault.OpenFault.TheVariants as unopened
 use Rattle.savefile.specs.declared.fault.Fault.{Fault as CaptureFault}
 use Rattle.savefile.specs.declared.fault.Fault.TheVariants as unread
-use Rattle.cli_text.specs.declared.fault.LineFault.{LineFault}
-use Rattle.cli_text.specs.declared.fault.LineFault.TheVariants as lines
+use Rattle.line_text.specs.declared.fault.LineFault.{LineFault}
+use Rattle.line_text.specs.declared.fault.LineFault.TheVariants as lines
 use Rattle.tap.specs.declared.fault.Fault.{Fault as ReplayFault}
 use Rattle.tap.specs.declared.fault.Fault.TheVariants as unplayed
 use Rattle.bpftap_c.specs.declared.outcome.BpftapResult.{BpftapResult}

@@ -9,13 +9,13 @@ use Rattle.tap_steps.specs.declared.report.Report.{Report}
 use Rattle.tap.specs.Answers.{Traces}
 use Rattle.tap.specs.Headline.{Replays}
 use Rattle.tap.specs.Refusals.{IsFirst, NoneStands}
-use Rattle.cli_json.specs.declared.form.LineForm.{LineForm}
-use Rattle.cli_text.specs.Files.{IsFileOf}
-use Rattle.cli_steps.specs.Answers.{ArePrintedAnswers}
-use Rattle.cli_steps.specs.Listeners.{IsListenerLine}
-use Rattle.cli_steps.specs.Script.{IsStepLine}
-use Rattle.cli_steps.specs.Stepping.{IsRefusedFiles}
-use Rattle.cli_steps.specs.Printed.{reports_in}
+use Rattle.line_text.specs.declared.form.LineForm.{LineForm}
+use Rattle.line_text.specs.Files.{IsFileOf}
+use Rattle.tap_text.specs.Answers.{ArePrintedAnswers}
+use Rattle.tap_text.specs.Listeners.{IsListenerLine}
+use Rattle.tap_text.specs.Script.{IsStepLine}
+use Rattle.tap_text.specs.Plans.{IsRefusedFiles}
+use Rattle.tap_text.specs.Printed.{reports_in}
 use Rattle.bpftap_c.specs.declared.outcome.BpftapResult.{BpftapResult}
 use Rattle.bpftap_c.specs.declared.outcome.Failure.{Failure}
 use Rattle.bpftap_c.specs.declared.outcome.Failure.TheVariants.{NoMemory, Lines, Replay}

@@ -4,8 +4,8 @@ ghost use Rattle.std.specs.Prelude.{◌≡◌};
 ghost use Rattle.bpftap_c.specs.Outcome.{invalid_code, invalid_place, listing_code, listing_place, text_code, text_place, tree_code, open_code, capture_code, capture_place, line_code, line_place, replay_code, replay_place, replay_number, code_of, number_of, place_of, size_of, done, failed};
 
 use bpfvm::{Invalid, ListingFault};
-use cli_text::LineFault;
 use filtergen::{ExpressionFault, Refusal};
+use line_text::LineFault;
 use listener::OpenFault;
 
 /// What most calls return.

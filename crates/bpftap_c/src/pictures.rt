@@ -6,10 +6,10 @@ ghost use Rattle.bpftap_c.specs.Steps.{texts_of, IsDrawn, IsUnplayed, PutsPictur
 use crate::memory::put_text;
 use crate::outcome::Failure;
 use crate::steps::{BpftapCapture, BpftapReplay, no_replay, replay_of, slices_of};
-use cli_steps::plan::read_plan;
 use std::alloc::{AllocError, Global};
 use tap::trace;
 use tap_picture::write_picture;
+use tap_text::plan::read_plan;
 
 /// A picture, and the record fault that a capture ended with, with the number of that capture; or why there is none.
 fn picture(

@@ -1,17 +1,17 @@
 //! What listeners answer to the steps that are played.
 
 ghost use Rattle.std.specs.Prelude.{IfErr, IfOk, map};
-ghost use Rattle.cli_json.specs.declared.form.LineForm.TheVariants.{Text, Json};
+ghost use Rattle.line_text.specs.declared.form.LineForm.TheVariants.{Text, Json};
 ghost use Rattle.bpftap_c.specs.Steps.{texts_of, IsAnswered, IsUnplayed, PutsAnswers};
 
 use crate::memory::put_text;
 use crate::outcome::Failure;
 use crate::steps::{BpftapCapture, BpftapReplay, no_replay, replay_of, slices_of};
-use cli_json::LineForm;
-use cli_steps::answers::{answer_cursors, line_for, write_answers};
-use cli_steps::plan::read_plan;
+use line_text::LineForm;
 use std::alloc::{AllocError, Global};
 use tap::trace;
+use tap_text::answers::{answer_cursors, line_for, write_answers};
+use tap_text::plan::read_plan;
 
 /// The answers in this form, and the record fault that a capture ended with, with the number of that capture; or why there are none.
 fn answers_text(

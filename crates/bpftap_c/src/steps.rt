@@ -1,16 +1,16 @@
 //! Steps that are played to listeners over captures.
 
 ghost use Rattle.std.specs.Prelude.{◌≡◌, IfErr, IfOk, map};
-ghost use Rattle.cli_json.specs.declared.form.LineForm.TheVariants.{Text, Json};
+ghost use Rattle.line_text.specs.declared.form.LineForm.TheVariants.{Text, Json};
 ghost use Rattle.bpftap_c.specs.Steps.{texts_of, replay_of, no_replay, IsReported, IsUnplayed, PutsReports};
 
 use crate::memory::put_text;
 use crate::outcome::{BpftapResult, Failure, failed, number_of};
-use cli_json::LineForm;
-use cli_steps::plan::read_plan;
-use cli_steps::report::print_reports_in;
+use line_text::LineForm;
 use std::alloc::{AllocError, Global};
 use tap::replay;
+use tap_text::plan::read_plan;
+use tap_text::report::print_reports_in;
 
 /// A capture. In C a pointer and a length.
 #[repr(C)]

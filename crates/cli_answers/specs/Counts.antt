@@ -3,7 +3,7 @@ use Rattle.std.specs.Prelude.{◌≡◌, ℕ, ◌+◌, ◌-◌, ◌^◌, min, Bo
 use Rattle.std.specs.Fmt.{decimal}
 use Rattle.filter_meaning.specs.declared.verdict.Verdict.{Verdict}
 use Rattle.filter_meaning.specs.declared.verdict.Verdict.TheVariants.{Yes, No, Abort}
-use Rattle.cli_text.specs.Telling.{end_of_line}
+use Rattle.line_text.specs.Texts.{end_of_line}
 use Rattle.cli_answers.specs.declared.counts.VerdictCounts.{VerdictCounts}
 use Rattle.cli_answers.specs.declared.form.PacketForm.{PacketForm}
 use Rattle.cli_answers.specs.declared.form.PacketForm.TheVariants.{Text, Json}

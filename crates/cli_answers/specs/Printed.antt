@@ -4,7 +4,7 @@ use Rattle.std.specs.Fmt.{decimal}
 use Rattle.savefile.specs.declared.packet.Packet.{Packet}
 use Rattle.bpfvm.specs.declared.insn.Insn.{Insn}
 use Rattle.bpfvm.specs.Images.{brief_text}
-use Rattle.cli_text.specs.Time.{nine_digits}
+use Rattle.line_text.specs.Time.{nine_digits}
 
 -- `place P time S.NNNNNNNNN`
 unfoldable pub time_text : ℕ → Packet → List ℕ

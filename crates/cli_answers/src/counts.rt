@@ -1,7 +1,7 @@
 //! How many packets a filter answered so.
 
 ghost use Rattle.std.specs.Prelude.{◌≡◌, ◌<◌, ◌≤◌, ◌+◌, ◌^◌, OnOk, string_bytes};
-ghost use Rattle.cli_text.specs.Sending.{Takes};
+ghost use Rattle.line_text.specs.Sending.{Takes};
 ghost use Rattle.cli_answers.specs.Counts.{counted, counts_in, counts_json, counts_text, plus};
 
 use crate::form::PacketForm;

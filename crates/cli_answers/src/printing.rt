@@ -1,11 +1,11 @@
 //! How printing ends.
 
 ghost use Rattle.std.specs.Prelude.{◌≡◌};
-ghost use Rattle.cli_text.specs.Sending.{Takes};
+ghost use Rattle.line_text.specs.Sending.{Takes};
 ghost use Rattle.cli_answers.specs.declared.printing.Unprinted.TheVariants.{NoMemory, Output};
 
 use bpfvm::NoMemory;
-use cli_text::sending::send;
+use line_text::sending::send;
 use std::io;
 use std::io::Write;
 

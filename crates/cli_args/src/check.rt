@@ -13,7 +13,7 @@ pub struct CheckWords<'a> {
     pub expr: Option<&'a str>,
     /// The path of the listing, if `-f` is given.
     pub listing: Option<&'a str>,
-    /// The snapshot length of an expression's program, 1 to [`cli_text::MAX_SNAP`].
+    /// The snapshot length of an expression's program, 1 to [`savefile::MAX_SNAP`].
     pub snap: u32,
     /// How many options `-d` are given: by one the program is printed by the names of its instructions, by two as an array of C,
     /// and by three as numbers.

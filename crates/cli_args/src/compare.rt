@@ -9,7 +9,7 @@ use std::alloc::{AllocError, Global};
 /// What one call of `bpftap compare` asks for.
 #[derive(Drop)]
 pub struct CompareWords<'a> {
-    /// The snapshot length of an expression's program, 1 to [`cli_text::MAX_SNAP`].
+    /// The snapshot length of an expression's program, 1 to [`savefile::MAX_SNAP`].
     pub snap: u32,
     /// The first expression.
     pub first: &'a str,

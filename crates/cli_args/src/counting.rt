@@ -4,7 +4,7 @@ ghost use Rattle.std.specs.Prelude.{◌≡◌, ◌&&◌, nat_le};
 
 use crate::snap::snap_of;
 use clap::ArgMatches;
-use cli_text::fields::number;
+use line_text::fields::number;
 use std::alloc::{AllocError, Global};
 
 /// What is printed of captures whose packets are counted.

@@ -12,7 +12,7 @@ use std::alloc::{AllocError, Global};
 /// What one call of `bpftap cut` asks for.
 #[derive(Drop)]
 pub struct CutWords<'a> {
-    /// The snapshot length, 1 to [`cli_text::MAX_SNAP`].
+    /// The snapshot length, 1 to [`savefile::MAX_SNAP`].
     pub snap: u32,
     /// The path of the listing, where `-f` is given.
     pub listing: Option<&'a str>,

@@ -11,7 +11,7 @@ use std::alloc::{AllocError, Global};
 /// What one call of `bpftap explain` asks for.
 #[derive(Drop)]
 pub struct ExplainWords<'a> {
-    /// The snapshot length of an expression's program, 1 to [`cli_text::MAX_SNAP`].
+    /// The snapshot length of an expression's program, 1 to [`savefile::MAX_SNAP`].
     pub snap: u32,
     /// The expression, where `-e` is given.
     pub expr: Option<&'a str>,

@@ -1,6 +1,6 @@
 //! The places of packets, as a word of the command line gives them.
 
-use cli_text::fields::number;
+use line_text::fields::number;
 
 /// The places of packets from one to another, both included.
 #[derive(Clone, Copy, Debug, PartialEq, Eq)]

@@ -1,7 +1,7 @@
 //! The snapshot length that `-s` gives.
 
 use clap::ArgMatches;
-use cli_text::fields::snapshot_length;
+use line_text::fields::snapshot_length;
 
 /// What a snapshot length is.
 pub(crate) const SNAP_WANTED: &str = "-s takes a number from 0 to 262144";

@@ -10,11 +10,11 @@ use Rattle.std.specs.Io.KnownBytes.{Appends}
 use Rattle.savefile.specs.declared.packet.Packet.{Packet}
 use Rattle.filter_explain.specs.Deciding.{verdict_text}
 use Rattle.filter_meaning.specs.declared.verdict.Verdict.{Verdict}
-use Rattle.cli_text.specs.Sending.{TakesPart}
-use Rattle.cli_text.specs.Telling.{end_of_line}
+use Rattle.line_text.specs.Sending.{TakesPart}
+use Rattle.line_text.specs.Texts.{end_of_line}
 use Rattle.cli_answers.specs.Answers.{answer, IsAnswer, PutsAnswer}
 use Rattle.cli_answers.specs.Printed.{packet_text}
-use Rattle.cli_text.proofs.Taking.{TakesPart-then}
+use Rattle.line_text.proofs.Taking.{TakesPart-then}
 use Rattle.cli_answers.specs.declared.printing.Unprinted.{Unprinted}
 use Rattle.cli_answers.specs.declared.printing.Unprinted.TheVariants.{NoMemory, Output}
 use Rattle.cli_answers.proofs.Reading.{all-more}

@@ -10,7 +10,7 @@ use Rattle.savefile.specs.declared.packet.Packet.{Packet}
 use Rattle.savefile.specs.Savefile.{encoded, header_text}
 use Rattle.savefile.specs.Writer.{HasWritten, HasWrittenPart, IsBeginning, Writing}
 use Rattle.savefile.proofs.Encoding.{encoded-begins}
-use Rattle.cli_text.specs.Sending.{TakesPart}
+use Rattle.line_text.specs.Sending.{TakesPart}
 
 begins_through : (a b c : List ℕ) → IsBeginning a b → IsBeginning b c → IsBeginning a c
 begins_through a b c (s, one) (t, two) = (s ++ t, two ∙ ap (λ (x : List ℕ). x ++ t) one ∙ append_assoc a s t)

@@ -9,8 +9,8 @@ use Rattle.filter_same.specs.declared.sameness.Sameness.{Sameness}
 use Rattle.filter_same.specs.declared.witness.Witness.{Witness}
 use Rattle.filter_same.specs.Same.{HoldsOf}
 use Rattle.std.specs.declared.io.Error.{Error}
-use Rattle.cli_text.specs.Sending.{TakesPart}
-use Rattle.cli_text.specs.Telling.{end_of_line}
+use Rattle.line_text.specs.Sending.{TakesPart}
+use Rattle.line_text.specs.Texts.{end_of_line}
 use Rattle.cli_answers.specs.declared.printing.Unprinted.{Unprinted}
 use Rattle.cli_answers.specs.declared.printing.Unprinted.TheVariants.{Output}
 use Rattle.cli_answers.specs.Answers.{Answer, answer, IsAnswer, PutsAnswer}

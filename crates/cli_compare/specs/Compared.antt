@@ -5,7 +5,7 @@ use Rattle.savefile.specs.declared.fault.Fault.{Fault}
 use Rattle.savefile.specs.declared.header.Header.{Header}
 use Rattle.savefile.specs.declared.packet.Packet.{Packet}
 use Rattle.savefile.specs.Reader.{WasBegun}
-use Rattle.cli_text.specs.Sending.{TakesPart}
+use Rattle.line_text.specs.Sending.{TakesPart}
 use Rattle.cli_answers.specs.declared.printing.Unprinted.{Unprinted}
 use Rattle.cli_answers.specs.declared.printing.Unprinted.TheVariants as unprinted
 use Rattle.cli_answers.specs.Answers.{Answer, answer, IsAnswer}

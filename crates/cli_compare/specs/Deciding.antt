@@ -15,8 +15,8 @@ use Rattle.filter_same.specs.Programs.{keeps, program_test}
 use Rattle.filter_same.specs.Same.{HoldsOf}
 use Rattle.cli_text.specs.declared.status.Status.{Status}
 use Rattle.cli_text.specs.declared.status.Status.TheVariants.{Clean, Negative, Undecided, Refused, Failed}
-use Rattle.cli_text.specs.Sending.{TakesPart}
-use Rattle.cli_text.specs.Telling.{end_of_line}
+use Rattle.line_text.specs.Sending.{TakesPart}
+use Rattle.line_text.specs.Texts.{end_of_line}
 use Rattle.cli_answers.specs.Dumps.{dump_text}
 use Rattle.cli_answers.specs.declared.filter.AskedFilter.{AskedFilter}
 use Rattle.cli_answers.specs.declared.filter.AskedFilter.TheVariants.{Expression, Program}

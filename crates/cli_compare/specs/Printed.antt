@@ -3,7 +3,7 @@ use Rattle.std.specs.Prelude.{ℕ, List, ◌++◌, codes}
 use Rattle.std.specs.Fmt.{decimal}
 use Rattle.std.specs.List.{flat_map}
 use Rattle.filter_explain.specs.Deciding.{verdict_text}
-use Rattle.cli_text.specs.Telling.{end_of_line}
+use Rattle.line_text.specs.Texts.{end_of_line}
 use Rattle.cli_answers.specs.Printed.{packet_text}
 use Rattle.cli_compare.specs.Pairs.{Difference}
 

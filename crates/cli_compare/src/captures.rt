@@ -1,7 +1,7 @@
 //! Several captures, read in order up to the first fault: the functions under `bpftap compare`.
 
 ghost use Rattle.std.specs.Prelude.{◌≡◌, ◌+◌, ◌||◌, false, true, IsErr, IsOk};
-ghost use Rattle.cli_text.specs.Sending.{Takes};
+ghost use Rattle.line_text.specs.Sending.{Takes};
 ghost use Rattle.cli_compare.specs.Captures.{ComparesIn, ComparesNext, plus};
 ghost use Rattle.cli_compare.specs.Printed.{counts_text};
 

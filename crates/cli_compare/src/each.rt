@@ -4,7 +4,7 @@ ghost use Rattle.std.specs.Prelude.{◌≡◌, ◌≢◌, ◌↔◌, ◌<◌, �
 ghost use Rattle.std.specs.Io.KnownBytes.{Consumes};
 ghost use Rattle.savefile.specs.declared.header.Header.{Header};
 ghost use Rattle.savefile.specs.Reader.{HasGiven};
-ghost use Rattle.cli_text.specs.Sending.{Takes};
+ghost use Rattle.line_text.specs.Sending.{Takes};
 ghost use Rattle.cli_compare.specs.Compared.{Compares, PrintsDifferences, PrintsOne, IsOneBroken};
 ghost use Rattle.cli_compare.specs.Pairs.{agreement, counted};
 ghost use Rattle.cli_compare.specs.Printed.{counts_text};
@@ -12,7 +12,7 @@ ghost use Rattle.cli_compare.specs.Printed.{counts_text};
 use crate::line::{put_counts, put_difference};
 use crate::pair::{Agreement, FilterPair};
 use cli_answers::printing::{Unprinted, send_last};
-use cli_text::sending::send;
+use line_text::sending::send;
 use savefile::laws::given_so_far;
 use savefile::{Fault, PacketRef, Reader, Source};
 use std::alloc::Global;

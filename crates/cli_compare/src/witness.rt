@@ -3,7 +3,7 @@
 ghost use Rattle.std.specs.Prelude.{◌≡◌, ◌≢◌, ◌↔◌, ◌⊎◌, ◌<◌, ◌∷◌, [], ◌^◌, Err, IfErr, length, OnOk, OnErr};
 ghost use Rattle.std.specs.Io.KnownBytes.{Appends};
 ghost use Rattle.savefile.specs.Savefile.{encoded};
-ghost use Rattle.cli_text.specs.Sending.{TakesPart};
+ghost use Rattle.line_text.specs.Sending.{TakesPart};
 ghost use Rattle.cli_compare.specs.Deciding.{packet_of_witness};
 
 use filter_same::Witness;

@@ -3,8 +3,8 @@ use Rattle.std.specs.Prelude.{◌≡◌, ℕ, ◌||◌, Bool, true, false, List,
 use Rattle.std.specs.Borrow.{Bor}
 use Rattle.savefile.specs.declared.fault.Fault.{Fault}
 use Rattle.savefile.specs.declared.packet.Packet.{Packet}
-use Rattle.cli_json.specs.declared.form.LineForm.{LineForm}
-use Rattle.cli_text.specs.Sending.{Takes}
+use Rattle.line_text.specs.declared.form.LineForm.{LineForm}
+use Rattle.line_text.specs.Sending.{Takes}
 use Rattle.cli_walk.specs.declared.walk.Stop.{Stop}
 use Rattle.cli_walk.specs.declared.walk.Visited.{Visited}
 use Rattle.cli_walk.specs.Walking.{Walked, visited}

@@ -1,10 +1,10 @@
 -- The lines that are printed of captures whose packets are counted.
 use Rattle.std.specs.Prelude.{ℕ, List, ◌++◌, codes}
 use Rattle.std.specs.Fmt.{decimal}
-use Rattle.cli_json.specs.Strings.{json_string}
-use Rattle.cli_json.specs.declared.form.LineForm.{LineForm}
-use Rattle.cli_json.specs.declared.form.LineForm.TheVariants.{Text, Json}
-use Rattle.cli_text.specs.Telling.{end_of_line}
+use Rattle.line_text.specs.Strings.{json_string}
+use Rattle.line_text.specs.declared.form.LineForm.{LineForm}
+use Rattle.line_text.specs.declared.form.LineForm.TheVariants.{Text, Json}
+use Rattle.line_text.specs.Texts.{end_of_line}
 use Rattle.cli_answers.specs.declared.counts.VerdictCounts.{VerdictCounts}
 
 -- `PATH N packets: Y Yes, N No, A Abort`

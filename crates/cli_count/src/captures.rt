@@ -1,7 +1,7 @@
 //! Several captures whose packets are counted, in order up to the first fault.
 
 ghost use Rattle.std.specs.Prelude.{◌≡◌, ◌||◌, ◌&&◌, false, true, IsErr, IsOk, slice_get};
-ghost use Rattle.cli_text.specs.Sending.{Takes};
+ghost use Rattle.line_text.specs.Sending.{Takes};
 ghost use Rattle.cli_answers.specs.Counts.{counts_text, counts_json, plus};
 ghost use Rattle.cli_count.specs.Captures.{CountsIn, CountsNext, Shows, shown_counts};
 
@@ -11,7 +11,7 @@ use crate::line::print_count;
 use cli_answers::captures::{goes_on, read_of};
 use cli_answers::counts::VerdictCounts;
 use cli_answers::printing::Unprinted;
-use cli_json::LineForm;
+use line_text::LineForm;
 use cli_walk::{Stop, Visited, Visitor, Walk, visit_captures};
 use savefile::Source;
 use std::alloc::Global;

@@ -12,7 +12,7 @@ use cli_answers::hints::hint_stop;
 use cli_answers::printing::Unprinted;
 use cli_args::counting::{CountShown, CountWords};
 use cli_files::captures::output_buffer;
-use cli_json::LineForm;
+use line_text::LineForm;
 use cli_report::HintSink;
 use cli_report::failures::hint_output;
 use cli_report::probe::ProbedInput;

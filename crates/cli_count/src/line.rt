@@ -1,13 +1,13 @@
 //! The lines of captures whose packets are counted.
 
 ghost use Rattle.std.specs.Prelude.{◌≡◌, ◌++◌, IfOk, OnOk, Some, string_bytes};
-ghost use Rattle.cli_text.specs.Sending.{Takes};
+ghost use Rattle.line_text.specs.Sending.{Takes};
 ghost use Rattle.cli_count.specs.Lines.{count_json, count_line, count_text, counts_json, member_json, path_json, path_line};
 
 use cli_answers::counts::VerdictCounts;
 use cli_answers::printing::Unprinted;
-use cli_json::{LineForm, put_string};
-use cli_text::sending::send;
+use line_text::{LineForm, put_string};
+use line_text::sending::send;
 use std::alloc::{AllocError, Global};
 use std::io::Write;
 

@@ -8,7 +8,7 @@ use crate::line::print_path;
 use cli_answers::captures::{goes_on, read_of};
 use cli_answers::printing::Unprinted;
 use cli_answers::seek::{PacketTest, Sought, find_first};
-use cli_json::LineForm;
+use line_text::LineForm;
 use cli_walk::{Stop, Visited, Visitor, Walk, visit_captures};
 use savefile::{Fault, Source};
 use std::alloc::Global;

@@ -2,7 +2,7 @@
 use Rattle.std.proofs.Common.{◌≡◌, ℕ, suc, ◌+◌, ◌<◌, List, ◌++◌, length, get_or, drop, append_assoc, arith, sym, subst, ap, ◌∙◌}
 use Rattle.std.proofs.lemmas.List.{drop_more}
 use Rattle.bpfvm.specs.declared.insn.Insn.{Insn}
-use Rattle.cli_text.specs.Texts.{numbered}
+use Rattle.line_text.specs.Texts.{numbered}
 use Rattle.cli_cut.specs.Objects.{element_json}
 
 pub one-more : (old new total : List ℕ) (insns : List Insn) (place : ℕ) (d : Insn) → place < length insns

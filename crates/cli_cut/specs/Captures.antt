@@ -1,7 +1,7 @@
 -- How many packets `bpftap cut` of several captures reports.
 use Rattle.std.specs.Prelude.{ℕ, List, [], Option, Some, None, Result, Ok, Err, slice_get, if◌then◌else◌}
 use Rattle.savefile.specs.declared.fault.Fault.{Fault}
-use Rattle.cli_json.specs.declared.form.LineForm.{LineForm}
+use Rattle.line_text.specs.declared.form.LineForm.{LineForm}
 use Rattle.pcap_cut.specs.declared.cut.Tally.{Tally}
 use Rattle.cli_split.specs.declared.part.PartEnd.{PartEnd}
 use Rattle.cli_split.specs.declared.split.SplitEnd.{SplitEnd}

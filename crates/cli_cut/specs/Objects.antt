@@ -9,8 +9,8 @@ use Rattle.filterlang.specs.Texts.{ReadsAs}
 use Rattle.filterlang.specs.Trees.{Tree}
 use Rattle.filter_print.specs.Canonical.{canonical}
 use Rattle.filtergen.specs.Expressions.{IsProgramOf, IsUncompiled}
-use Rattle.cli_json.specs.Strings.{json_string}
-use Rattle.cli_text.specs.Texts.{numbered}
+use Rattle.line_text.specs.Strings.{json_string}
+use Rattle.line_text.specs.Texts.{numbered}
 use Rattle.cli_cut.specs.declared.print.PrintFault.{PrintFault}
 use Rattle.cli_cut.specs.declared.print.PrintFault.TheVariants as print
 use Rattle.cli_cut.specs.Printing.{IsUnprinted, given_back}

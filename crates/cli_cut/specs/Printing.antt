@@ -11,8 +11,8 @@ use Rattle.filterlang.specs.Trees.{Tree}
 use Rattle.filter_print.specs.Canonical.{canonical}
 use Rattle.filtergen.specs.declared.expression.ExpressionFault.TheVariants as faults
 use Rattle.filtergen.specs.Expressions.{IsProgramOf, IsUncompiled}
-use Rattle.cli_text.specs.Sending.{TakesPart}
-use Rattle.cli_text.specs.Telling.{end_of_line}
+use Rattle.line_text.specs.Sending.{TakesPart}
+use Rattle.line_text.specs.Texts.{end_of_line}
 use Rattle.cli_cut.specs.declared.print.ProgramForm.{ProgramForm}
 use Rattle.cli_cut.specs.declared.print.ProgramForm.TheVariants as forms
 use Rattle.cli_cut.specs.declared.print.PrintFault.{PrintFault}

@@ -1,13 +1,14 @@
 -- How a cut is reported, and the exit statuses of a cut and of a print.
 use Rattle.std.specs.Prelude.{ℕ, Bool, true, false, if◌then◌else◌, List, [], ◌++◌, Result, Ok, Err, codes}
 use Rattle.std.specs.Fmt.{decimal}
-use Rattle.cli_text.specs.Telling.{end_of_line, fault_status}
+use Rattle.cli_text.specs.Telling.{fault_status}
+use Rattle.line_text.specs.Texts.{end_of_line}
 use Rattle.cli_text.specs.declared.status.Status.{Status}
 use Rattle.cli_text.specs.declared.status.Status.TheVariants as status
 use Rattle.cli_cut.specs.declared.print.PrintFault.{PrintFault}
 use Rattle.cli_cut.specs.declared.print.PrintFault.TheVariants as print
-use Rattle.cli_json.specs.declared.form.LineForm.{LineForm}
-use Rattle.cli_json.specs.declared.form.LineForm.TheVariants.{Text, Json}
+use Rattle.line_text.specs.declared.form.LineForm.{LineForm}
+use Rattle.line_text.specs.declared.form.LineForm.TheVariants.{Text, Json}
 use Rattle.pcap_cut.specs.declared.cut.Tally.{Tally}
 use Rattle.pcap_cut.specs.declared.cut.End.{End}
 use Rattle.pcap_cut.specs.declared.cut.End.TheVariants.{Clean, Input, Output}

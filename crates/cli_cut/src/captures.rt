@@ -1,7 +1,7 @@
 //! `bpftap cut` of several captures, one after the other: a split into one OUT.
 
 ghost use Rattle.std.specs.Prelude.{◌≡◌, slice_get};
-ghost use Rattle.cli_text.specs.Sending.{Takes};
+ghost use Rattle.line_text.specs.Sending.{Takes};
 ghost use Rattle.cli_cut.specs.Captures.{first_told, part_told, total_told};
 
 use crate::hints::hint_frames;
@@ -10,7 +10,7 @@ use crate::plan::read_filter;
 use crate::report::report_tally;
 use bpfvm::Program;
 use cli_args::cut::CutWords;
-use cli_json::LineForm;
+use line_text::LineForm;
 use cli_report::HintSink;
 use cli_report::probe::ProbedOutput;
 use cli_split::command::split_flushed;

@@ -3,13 +3,13 @@
 ghost use Rattle.std.specs.Prelude.{◌≡◌, ◌<◌, ◌^◌, ◌++◌, codes, IfErr, IfOk, OnOk, option_map, string_bytes};
 ghost use Rattle.std.specs.Io.KnownBytes.{Appends};
 ghost use Rattle.filterlang.specs.Trees.{tree_of};
-ghost use Rattle.cli_text.specs.Texts.{numbered};
+ghost use Rattle.line_text.specs.Texts.{numbered};
 ghost use Rattle.cli_cut.specs.Printing.{IsUnprinted};
 ghost use Rattle.cli_cut.specs.Objects.{PrintsObject, IsObjectUnprinted, element_json, expression_json, insn_json, named, program_json};
 
 use crate::print::{PrintFault, print, read_text};
 use bpfvm::{Brief, Insn, NoMemory, Program, code};
-use cli_json::put_string;
+use line_text::put_string;
 use filtergen::{ExpressionFault, compile_text};
 use filterlang::{Expr, parse};
 use std::alloc::{AllocError, Global};

@@ -3,14 +3,14 @@
 ghost use Rattle.std.specs.Prelude.{◌≡◌, ◌++◌, IfOk, OnOk, IfErr, string_bytes};
 ghost use Rattle.std.specs.Io.KnownBytes.{Appends};
 ghost use Rattle.filterlang.specs.Trees.{tree_of};
-ghost use Rattle.cli_text.specs.Telling.{end_of_line};
+ghost use Rattle.line_text.specs.Texts.{end_of_line};
 ghost use Rattle.filter_print.specs.Canonical.{canonical};
 ghost use Rattle.cli_cut.specs.Printing.{Prints, PrintsRead, IsPart, IsUnchecked, IsUnprinted, IsUnread, IsUnshown, begins_with_minus, given_back, program_text};
 
 use bpf_asm::write_array;
 use bpfvm::{NoMemory, Program, write_image, write_listing};
-use cli_text::MAX_SNAP;
-use cli_text::sending::send;
+use savefile::MAX_SNAP;
+use line_text::sending::send;
 use filter_print::Canonical;
 use filtergen::{ExpressionFault, compile_text};
 use filterlang::{Expr, parse};

@@ -1,16 +1,17 @@
 //! How a cut or a print ended, as it is reported, and its exit status.
 
 ghost use Rattle.std.specs.Prelude.{◌≡◌, IfOk};
-ghost use Rattle.cli_text.specs.Sending.{Takes};
+ghost use Rattle.line_text.specs.Sending.{Takes};
 ghost use Rattle.cli_text.specs.Status.{code};
 ghost use Rattle.cli_cut.specs.Telling.{count_told, is_counted, print_status, status_of, tally_json, tally_line, tally_text};
 
 use crate::print::PrintFault;
 use cli_filter::expression_report;
-use cli_json::LineForm;
+use line_text::LineForm;
 use cli_text::report::fault_status;
-use cli_text::sending::send;
-use cli_text::{Line, Status};
+use line_text::sending::send;
+use cli_text::Status;
+use line_text::Line;
 use fault_report::captures::output_fault;
 use fault_report::reporting::{report_capture, report_fault, report_memory, report_unwritten};
 use fault_report::{FaultSink, TextSink};

@@ -11,8 +11,8 @@ use Rattle.savefile.specs.declared.header.Header.{Header}
 use Rattle.savefile.specs.declared.packet.Packet.{Packet}
 use Rattle.savefile.specs.Reader.{HasGiven, IsCause, Leaves, Lends, Reading, WasBegun, WasRead, WasRefused}
 use Rattle.filter_meaning.specs.declared.verdict.Verdict.{Verdict}
-use Rattle.cli_text.specs.Sending.{Takes, TakesPart}
-use Rattle.cli_text.proofs.Taking.{TakesPart-more, TakesPart-then}
+use Rattle.line_text.specs.Sending.{Takes, TakesPart}
+use Rattle.line_text.proofs.Taking.{TakesPart-more, TakesPart-then}
 use Rattle.cli_answers.specs.declared.counts.VerdictCounts.{VerdictCounts}
 use Rattle.cli_answers.specs.declared.printing.Unprinted.{Unprinted}
 use Rattle.cli_answers.specs.declared.printing.Unprinted.TheVariants as unprinted

@@ -9,8 +9,8 @@ use Rattle.savefile.specs.declared.packet.Packet.{Packet}
 use Rattle.savefile.specs.Reader.{HasGiven, IsCause, Reading, WasBegun, WasRead}
 use Rattle.filter_meaning.specs.declared.verdict.Verdict.{Verdict}
 use Rattle.filter_meaning.specs.declared.verdict.Verdict.TheVariants.{Yes, No, Abort}
-use Rattle.cli_text.specs.Sending.{TakesPart}
-use Rattle.cli_text.specs.Texts.{numbered}
+use Rattle.line_text.specs.Sending.{TakesPart}
+use Rattle.line_text.specs.Texts.{numbered}
 use Rattle.cli_answers.specs.declared.counts.VerdictCounts.{VerdictCounts}
 use Rattle.cli_explain.specs.declared.each.Explained.{Explained}
 use Rattle.cli_answers.specs.declared.printing.Unprinted.{Unprinted}

@@ -12,8 +12,8 @@ use Rattle.filter_meaning.specs.declared.verdict.Verdict.TheVariants.{Yes, No, A
 use Rattle.filter_meaning.specs.Meaning.{meaning}
 use Rattle.filter_explain.specs.Asking.{Question, IsLast, questions}
 use Rattle.filter_explain.specs.Deciding.{part_text}
-use Rattle.cli_json.specs.Strings.{json_string}
-use Rattle.cli_text.specs.Telling.{end_of_line}
+use Rattle.line_text.specs.Strings.{json_string}
+use Rattle.line_text.specs.Texts.{end_of_line}
 use Rattle.cli_answers.specs.declared.filter.AskedFilter.{AskedFilter}
 use Rattle.cli_answers.specs.declared.filter.AskedFilter.TheVariants.{Expression, Program}
 use Rattle.cli_answers.specs.declared.form.PacketForm.{PacketForm}

@@ -12,7 +12,7 @@ use crate::line::put_line;
 use cli_answers::counts::VerdictCounts;
 use cli_answers::printing::Unprinted;
 use cli_answers::{AskedFilter, PacketForm};
-use cli_text::sending::send;
+use line_text::sending::send;
 use filter_meaning::Verdict;
 use savefile::laws::given_so_far;
 use savefile::{Fault, PacketRef, Reader, Source};

@@ -11,7 +11,7 @@ use crate::form::LineBuffer;
 use bpfvm::{Brief, Insn, NoMemory, Program};
 use cli_answers::AskedFilter;
 use cli_answers::run_end::{end_of_run, ended_as};
-use cli_json::put_string;
+use line_text::put_string;
 use filter_explain::{AskedPart, decide, put_part};
 use filter_meaning::{AbortCause, Verdict};
 use filterlang::Expr;

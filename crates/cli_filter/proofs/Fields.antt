@@ -3,7 +3,7 @@ use Rattle.std.proofs.Common.{◌≡◌, ℕ, ◌⊎◌, inl, inr, List, [], ◌
 use Rattle.std.proofs.lemmas.List.Elements.{All-same}
 use Rattle.std.specs.Str.{IsUtf8}
 use Rattle.bpfvm.specs.Listing.{space}
-use Rattle.cli_text.proofs.Cuts.{NoSpace, not-lacking, cut-one}
+use Rattle.line_text.proofs.Cuts.{NoSpace, not-lacking, cut-one}
 use Rattle.cli_filter.specs.Plan.{AreCut, AreLastFields}
 
 -- a text without a space is no word with more after it

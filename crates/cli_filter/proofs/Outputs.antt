@@ -13,7 +13,7 @@ use Rattle.std.proofs.lemmas.List.Quantifiers.{all_pairs_push}
 use Rattle.std.proofs.lemmas.Slice.Eq.{bytes_eq-Decides}
 use Rattle.std.proofs.lemmas.Map.Text.{is_eq-slice_cmp}
 use Rattle.bpfvm.specs.Listing.{further_lines}
-use Rattle.cli_text.proofs.Reading.{IsRead, IsRead-none, IsRead-more, IsRead-all, length-Say}
+use Rattle.line_text.proofs.Reading.{IsRead, IsRead-none, IsRead-more, IsRead-all, length-Say}
 use Rattle.cli_filter.specs.Plan.{HaveOwnOutputs, AreLines, IsFirstBadLine}
 
 -- whether one of these has this OUT

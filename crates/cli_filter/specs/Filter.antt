@@ -4,7 +4,7 @@ use Rattle.bpfvm.specs.declared.insn.Insn.{Insn}
 use Rattle.bpf_asm.specs.declared.notation.ProgramTextFault.TheVariants as text_faults
 use Rattle.bpf_asm.specs.Notation.{IsProgramText, IsNoProgramText}
 use Rattle.filtergen.specs.Expressions.{IsProgramOf, IsUncompiled}
-use Rattle.cli_text.specs.Snapshot.{effective_snaplen}
+use Rattle.savefile.specs.Snapshot.{effective_snaplen}
 use Rattle.cli_filter.specs.declared.program.FilterFault.{FilterFault}
 use Rattle.cli_filter.specs.declared.program.FilterFault.TheVariants.{Twice, Listing, Assembly, Expression}
 

@@ -13,8 +13,8 @@ use Rattle.filtergen.specs.declared.expression.ExpressionFault.TheVariants.{Text
 use Rattle.filtergen.specs.Expressions.{IsProgramOf, IsUncompiled}
 use Rattle.filterlang.specs.Faults.{fault_text}
 use Rattle.filtergen_facts.specs.Faults.{refusal_text}
-use Rattle.cli_text.specs.Fields.{IsWord}
-use Rattle.cli_text.specs.Files.{Say, IsFileOf}
+use Rattle.line_text.specs.Fields.{IsWord}
+use Rattle.line_text.specs.Files.{Say, IsFileOf}
 use Rattle.cli_filter.specs.declared.plan.PlanFault.{PlanFault}
 use Rattle.cli_filter.specs.declared.plan.PlanFault.TheVariants.{Line, Expression, TooMany, NoMemory}
 

@@ -6,7 +6,7 @@ use bpfvm::{Invalid, ListingFault};
 use cli_report::HintSink;
 use cli_report::files::{LISTING, count_lines, hint_bad_line, line_at, show_line};
 use cli_report::stream::give_hint;
-use cli_text::fields::first_line;
+use line_text::fields::first_line;
 use visible_text::Shown;
 
 /// The line of the first instruction of a listing.

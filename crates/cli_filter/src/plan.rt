@@ -3,12 +3,12 @@
 ghost use Rattle.std.specs.Prelude.{◌≡◌, ℕ, List, IfErr, IfNone, IfOk, IfSome, Some, length};
 ghost use Rattle.std.specs.List.{AllZip};
 ghost use Rattle.cli_filter.specs.Plan.{AreCut, AreLines, AreNoLines, AreLastFields, AreUncompiled, IsCompiled, IsRefusedPlan, lacks_memory, plan_fault_text, uncompiled_text};
-ghost use Rattle.cli_text.specs.Fields.{IsWord};
+ghost use Rattle.line_text.specs.Fields.{IsWord};
 ghost use Rattle.cli_filter.specs.declared.plan.PlanFault.TheVariants.{NoMemory};
 
 use crate::report::expression_report;
 use bpfvm::Program;
-use cli_text::fields::{first_line, split_once};
+use line_text::fields::{first_line, split_once};
 use fault_report::{Report, Word};
 use filtergen::{ExpressionFault, compile_text};
 use filtergen_facts::Refusal;

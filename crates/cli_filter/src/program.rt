@@ -6,7 +6,7 @@ ghost use Rattle.cli_filter.specs.Filter.{IsFilter, IsNoFilter};
 use crate::report::filter_report;
 use bpf_asm::{AssemblyFault, ProgramTextFault, read_program};
 use bpfvm::{ListingFault, Program};
-use cli_text::effective_snaplen;
+use savefile::effective_snaplen;
 use fault_report::printed::ReportText;
 use filtergen::{ExpressionFault, compile_text};
 use std::alloc::Global;

@@ -11,8 +11,8 @@ use Rattle.savefile.specs.Faults.{fault_text}
 use Rattle.pcap_info.specs.declared.contents.Contents.{Contents}
 use Rattle.pcap_info.specs.declared.contents.KindCounts.{KindCounts}
 use Rattle.pcap_info.specs.declared.contents.Moment.{Moment}
-use Rattle.cli_text.specs.Telling.{end_of_line}
-use Rattle.cli_text.specs.Time.{nine_digits}
+use Rattle.line_text.specs.Texts.{end_of_line}
+use Rattle.line_text.specs.Time.{nine_digits}
 
 -- ` packets N len L captured C`
 unfoldable pub totals_text : Contents → List ℕ

@@ -7,8 +7,8 @@ use Rattle.savefile.specs.Faults.{fault_name, fault_place}
 use Rattle.pcap_info.specs.declared.contents.Contents.{Contents}
 use Rattle.pcap_info.specs.declared.contents.KindCounts.{KindCounts}
 use Rattle.pcap_info.specs.declared.contents.Moment.{Moment}
-use Rattle.cli_json.specs.Strings.{json_string}
-use Rattle.cli_text.specs.Telling.{end_of_line}
+use Rattle.line_text.specs.Strings.{json_string}
+use Rattle.line_text.specs.Texts.{end_of_line}
 use Rattle.cli_info.specs.Lines.{order_text, unit_text}
 
 abbrev pub number_of_packets_json : ℕ → List ℕ

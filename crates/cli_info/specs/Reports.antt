@@ -3,8 +3,8 @@ use Rattle.std.specs.Prelude.{ℕ, List, ◌++◌, Option, Result, Ok, Err}
 use Rattle.savefile.specs.declared.fault.Fault.{Fault}
 use Rattle.savefile.specs.declared.header.Header.{Header}
 use Rattle.pcap_info.specs.declared.contents.Contents.{Contents}
-use Rattle.cli_json.specs.declared.form.LineForm.{LineForm}
-use Rattle.cli_json.specs.declared.form.LineForm.TheVariants.{Text, Json}
+use Rattle.line_text.specs.declared.form.LineForm.{LineForm}
+use Rattle.line_text.specs.declared.form.LineForm.TheVariants.{Text, Json}
 use Rattle.cli_text.specs.declared.status.Status.{Status}
 use Rattle.cli_text.specs.declared.status.Status.TheVariants.{Clean}
 use Rattle.cli_text.specs.Telling.{fault_status}

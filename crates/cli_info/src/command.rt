@@ -4,7 +4,7 @@ use crate::report::{print_survey, report_survey};
 use cli_args::info::InfoWords;
 use cli_files::captures::output_buffer;
 use cli_files::paths::{Opening, STANDARD_OUTPUT, refuse_shared_files};
-use cli_json::LineForm;
+use line_text::LineForm;
 use cli_report::HintSink;
 use cli_report::failures::{hint_input, hint_output};
 use cli_report::probe::ProbedInput;

@@ -3,7 +3,7 @@
 ghost use Rattle.std.specs.Prelude.{◌≡◌, ◌++◌, OnOk, Some, string_bytes};
 ghost use Rattle.cli_info.specs.Lines.{contents_text, end_text, header_text, kinds_text, moment_text, moments_text, order_text, rest_of_line, totals_text, unit_text};
 
-use cli_text::time::NineDigits;
+use line_text::time::NineDigits;
 use pcap_info::contents::{Contents, KindCounts, Moment};
 use pcap_info::survey::CaptureSurvey;
 use savefile::{Fault, Header, Order, Unit};

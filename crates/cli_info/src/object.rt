@@ -4,7 +4,7 @@ ghost use Rattle.std.specs.Prelude.{◌≡◌, ◌++◌, OnOk, string_bytes};
 ghost use Rattle.cli_info.specs.Objects.{contents_json, end_json, header_json, kinds_json, lengths_json, moment_json, moments_json, number_of_packets_json, object_json, totals_json};
 
 use crate::line::{order_word, unit_word};
-use cli_json::put_string;
+use line_text::put_string;
 use pcap_info::contents::{Contents, KindCounts, Moment};
 use pcap_info::survey::CaptureSurvey;
 use savefile::{Fault, Header};

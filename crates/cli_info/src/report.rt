@@ -1,16 +1,16 @@
 //! What is printed and reported of a capture, and the exit status.
 
 ghost use Rattle.std.specs.Prelude.{◌≡◌, ◌++◌, IfOk, OnOk, string_bytes};
-ghost use Rattle.cli_text.specs.Sending.{Takes};
+ghost use Rattle.line_text.specs.Sending.{Takes};
 ghost use Rattle.cli_text.specs.Telling.{fault_status};
 ghost use Rattle.cli_info.specs.Reports.{line_in, survey_status};
 
 use crate::line::put_rest_of_line;
 use crate::object::put_object;
-use cli_json::LineForm;
+use line_text::LineForm;
 use cli_text::Status;
 use cli_text::report::fault_status;
-use cli_text::sending::send;
+use line_text::sending::send;
 use fault_report::FaultSink;
 use fault_report::reporting::report_device;
 use pcap_info::survey::CaptureSurvey;

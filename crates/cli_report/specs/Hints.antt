@@ -1,8 +1,8 @@
 -- Where hints are wanted, and their lines.
 use Rattle.std.specs.Prelude.{ℕ, Bool, false, List, ◌++◌, codes}
-use Rattle.cli_json.specs.declared.form.LineForm.{LineForm}
-use Rattle.cli_json.specs.declared.form.LineForm.TheVariants.{Text, Json}
-use Rattle.cli_text.specs.Telling.{end_of_line}
+use Rattle.line_text.specs.declared.form.LineForm.{LineForm}
+use Rattle.line_text.specs.declared.form.LineForm.TheVariants.{Text, Json}
+use Rattle.line_text.specs.Texts.{end_of_line}
 
 -- below the line of a fault, indented by two blanks
 abbrev pub hint_line : List ℕ → List ℕ

@@ -5,7 +5,7 @@ ghost use Rattle.listener.specs.Messages.{size};
 
 use crate::captures::is_capture;
 use crate::stream::{HintSink, give_hint};
-use cli_text::fields::first_line;
+use line_text::fields::first_line;
 use std::io;
 use visible_text::Shown;
 

@@ -1,16 +1,16 @@
 //! Standard error that may take hints, and the line of a hint.
 
 ghost use Rattle.std.specs.Prelude.{◌≡◌, ◌≢◌, Bool, true, false, OnOk, OnErr, IfErr, IfOk, IfSome};
-ghost use Rattle.cli_json.specs.declared.form.LineForm.TheVariants.{Json, Text};
+ghost use Rattle.line_text.specs.declared.form.LineForm.TheVariants.{Json, Text};
 ghost use Rattle.std.specs.Io.{WritesAtMost};
 ghost use Rattle.std.specs.Io.KnownBytes.{WriteAppends};
 ghost use Rattle.std.specs.IoError.{error_kind};
-ghost use Rattle.cli_text.specs.Sending.{Takes};
+ghost use Rattle.line_text.specs.Sending.{Takes};
 ghost use Rattle.cli_report.specs.Hints.{hint_line, wants_hints};
 
-use cli_json::LineForm;
-use cli_text::Line;
-use cli_text::sending::send;
+use line_text::LineForm;
+use line_text::Line;
+use line_text::sending::send;
 use fault_report::FaultSink;
 use std::fmt::Display;
 use std::io;

@@ -2,7 +2,7 @@
 use Rattle.std.proofs.Common.{◌≡◌, ℕ, suc, zero, List, ◌∷◌, ◌++◌, All, refl, sym, ◌∙◌, subst}
 use Rattle.std.proofs.lemmas.List.Elements.{All-same}
 use Rattle.bpfvm.specs.Listing.{space}
-use Rattle.cli_text.proofs.Cuts.{NoSpace, not-lacking, cut-one}
+use Rattle.line_text.proofs.Cuts.{NoSpace, not-lacking, cut-one}
 use Rattle.cli_filter.specs.Plan.{AreLastFields}
 use Rattle.cli_filter.proofs.Fields.{fields_once}
 use Rattle.cli_run.specs.declared.plan.RunLine.{RunLine}

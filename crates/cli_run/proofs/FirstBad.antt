@@ -3,7 +3,7 @@ use Rattle.std.proofs.Common.{◌≡◌, ℕ, zero, suc, ◌+◌, ◌<◌, inl, 
 use Rattle.std.proofs.Math.Seq.{get_or-append_seam}
 use Rattle.std.proofs.lemmas.Bool.{cases_order}
 use Rattle.std.proofs.lemmas.List.{get_or_append_left}
-use Rattle.cli_text.specs.Files.{Say}
+use Rattle.line_text.specs.Files.{Say}
 use Rattle.cli_run.specs.declared.plan.RunLine.{RunLine}
 use Rattle.cli_run.specs.Laws.{FirstBadIsOne, NoneIsBad}
 use Rattle.cli_run.specs.Listeners.{IsRunLine, HaveOwnOutputs, IsFirstBadRunLine}

@@ -1,7 +1,7 @@
 -- The interface of each line is there.
 use Rattle.std.proofs.Common.{ℕ, ◌<◌, List, [], ◌∷◌, All, take}
 use Rattle.std.proofs.lemmas.List.Elements.{All-nil, All-cons, All-take, All-same}
-use Rattle.cli_text.specs.Files.{Say}
+use Rattle.line_text.specs.Files.{Say}
 use Rattle.cli_run.specs.declared.plan.RunLine.{RunLine}
 use Rattle.cli_run.specs.Listeners.{IsRunLine, AreRunLines}
 

@@ -2,7 +2,7 @@
 use Rattle.std.specs.Prelude.{◌≡◌, ℕ, ◌-◌, ◌^◌, ◌<◌, List, ◌∷◌, ◌++◌}
 use Rattle.bpfvm.specs.Listing.{space, IsNumber}
 use Rattle.bpfvm.specs.declared.insn.Insn.{Insn}
-use Rattle.cli_text.specs.Fields.{IsWord, IsSnap, IsCapacity}
+use Rattle.line_text.specs.Fields.{IsWord, IsSnap, IsCapacity}
 use Rattle.cli_filter.specs.Plan as plan
 use Rattle.cli_filter.specs.Plan.{AreLastFields}
 use Rattle.cli_filter.specs.declared.plan.PlanFault.{PlanFault}

@@ -8,10 +8,11 @@ use Rattle.replay_types.specs.declared.report.InterfaceReport.{InterfaceReport}
 use Rattle.replay_types.specs.declared.report.ListenerReport.{ListenerReport}
 use Rattle.replay_types.specs.declared.report.TaskEnd.{TaskEnd}
 use Rattle.replay_types.specs.declared.report.TaskEnd.TheVariants as task
-use Rattle.cli_json.specs.declared.form.LineForm.{LineForm}
-use Rattle.cli_json.specs.declared.form.LineForm.TheVariants.{Text, Json}
-use Rattle.cli_text.specs.Telling.{end_of_line, told_line}
-use Rattle.cli_text.specs.Texts.{numbered}
+use Rattle.line_text.specs.declared.form.LineForm.{LineForm}
+use Rattle.line_text.specs.declared.form.LineForm.TheVariants.{Text, Json}
+use Rattle.cli_text.specs.Telling.{told_line}
+use Rattle.line_text.specs.Texts.{end_of_line}
+use Rattle.line_text.specs.Texts.{numbered}
 
 -- how the writing of a listener's packets ended
 abbrev pub end_text : TaskEnd → List ℕ

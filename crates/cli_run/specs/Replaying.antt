@@ -7,9 +7,9 @@ use Rattle.replay_types.specs.declared.report.InterfaceReport.{InterfaceReport}
 use Rattle.replay_types.specs.declared.report.ListenerReport.{ListenerReport}
 use Rattle.replay_types.specs.declared.report.TaskEnd.{TaskEnd}
 use Rattle.replay_types.specs.declared.report.TaskEnd.TheVariants as task
-use Rattle.cli_json.specs.declared.form.LineForm.{LineForm}
+use Rattle.line_text.specs.declared.form.LineForm.{LineForm}
 use Rattle.cli_text.specs.declared.report.Outcome.{Outcome}
-use Rattle.cli_text.specs.Sending.{Streams, Takes}
+use Rattle.line_text.specs.Sending.{Streams, Takes}
 use Rattle.cli_text.specs.declared.status.Status.{Status}
 use Rattle.cli_text.specs.declared.status.Status.TheVariants.{Clean, Refused, Failed}
 use Rattle.cli_text.specs.Status.{greater}

@@ -6,11 +6,11 @@ use Rattle.std.specs.Io.KnownBytes.{Keeps}
 use Rattle.std.specs.declared.alloc.Global.{Global}
 use Rattle.std.specs.declared.vec.Vec.{Vec}
 use Rattle.bpfvm.specs.declared.insn.Insn.{Insn}
-use Rattle.cli_json.specs.declared.form.LineForm.TheVariants.{Text}
+use Rattle.line_text.specs.declared.form.LineForm.TheVariants.{Text}
 use Rattle.cli_text.specs.declared.report.Outcome.{Outcome}
 use Rattle.cli_text.specs.declared.status.Status.TheVariants.{Refused}
 use Rattle.cli_text.specs.Status.{code}
-use Rattle.cli_text.specs.Sending.{Streams, Takes}
+use Rattle.line_text.specs.Sending.{Streams, Takes}
 use Rattle.cli_text.specs.Telling.{told_line}
 use Rattle.replay_types.specs.Refusals.{IsFirst, NoneStands}
 use Rattle.replay.specs.Replayed.{IsReplayed}

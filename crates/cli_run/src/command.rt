@@ -14,7 +14,7 @@ use cli_files::captures::output_buffer;
 use cli_files::reading::read_text;
 use cli_filter::plan::Plan;
 use cli_filter::plan_hints::hint_plan;
-use cli_json::LineForm;
+use line_text::LineForm;
 use cli_report::HintSink;
 use cli_report::failures::hint_printed;
 use cli_report::files::{LISTENERS_OF_RUN, hint_returns};

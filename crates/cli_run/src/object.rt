@@ -3,7 +3,7 @@
 ghost use Rattle.std.specs.Prelude.{◌≡◌, OnOk, Some};
 ghost use Rattle.cli_run.specs.Printed.{end_members, listener_object};
 
-use cli_text::Line;
+use line_text::Line;
 use replay_types::{ListenerReport, TaskEnd};
 use std::fmt::{Display, Formatter};
 use std::{fmt, io};

@@ -6,7 +6,7 @@ ghost use Rattle.cli_run.specs.Listeners.{AreNumbers, AreRunLines, IsCompiled, I
 
 use cli_filter::plan;
 use cli_filter::plan::{Plan, PlanFault, PlanFaultText, PlanLine, output_and_expression};
-use cli_text::fields::{capacity_and_mode, number, snapshot_length, split_once};
+use line_text::fields::{capacity_and_mode, number, snapshot_length, split_once};
 use listener::Mode;
 use replay_types::{MAX_INTERFACES, MAX_TASKS};
 use std::alloc::Global;

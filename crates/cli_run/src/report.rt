@@ -1,18 +1,19 @@
 //! What `bpftap run` prints of each listener, what it reports of each interface, and its exit status.
 
 ghost use Rattle.std.specs.Prelude.{◌≡◌, ◌++◌, OnOk, Some};
-ghost use Rattle.cli_json.specs.declared.form.LineForm.TheVariants.{Text};
-ghost use Rattle.cli_text.specs.Sending.{Takes, streams};
+ghost use Rattle.line_text.specs.declared.form.LineForm.TheVariants.{Text};
+ghost use Rattle.line_text.specs.Sending.{Takes, streams};
 ghost use Rattle.cli_text.specs.Telling.{output_line};
-ghost use Rattle.cli_text.specs.Texts.{numbered};
+ghost use Rattle.line_text.specs.Texts.{numbered};
 ghost use Rattle.cli_run.specs.Printed.{end_text, interface_told, listener_line, listener_text, printed_replay, told_replay};
 ghost use Rattle.cli_run.specs.Replaying.{ReportsRun, interface_status, listeners_status, report_status, run_status, task_status};
 
 use crate::object::put_listener_object;
-use cli_json::LineForm;
+use line_text::LineForm;
 use cli_text::report::{Outcome, fault_status, print_status, report_line, report_output};
-use cli_text::sending::send;
-use cli_text::{Line, Status};
+use line_text::sending::send;
+use cli_text::Status;
+use line_text::Line;
 use replay_types::{InterfaceEnd, InterfaceReport, ListenerReport, TaskEnd};
 use std::fmt::{Display, Formatter};
 use std::io::Write;

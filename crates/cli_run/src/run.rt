@@ -2,8 +2,8 @@
 //! over files.
 
 ghost use Rattle.std.specs.Prelude.{◌≡◌, ◌<◌, ◌≤◌, List, All, IfErr, IfOk, IfSome, length, vec_capacity, vec_len};
-ghost use Rattle.cli_json.specs.declared.form.LineForm.TheVariants.{Text};
-ghost use Rattle.cli_text.specs.Sending.{Takes, streams};
+ghost use Rattle.line_text.specs.declared.form.LineForm.TheVariants.{Text};
+ghost use Rattle.line_text.specs.Sending.{Takes, streams};
 ghost use Rattle.cli_text.specs.Telling.{told_line};
 ghost use Rattle.cli_text.specs.declared.status.Status.TheVariants.{Refused};
 ghost use Rattle.cli_run.specs.Running.{IsNoReplayOf, IsReplayOf, Makes, Runs, RunsTo};

@@ -4,12 +4,12 @@ ghost use Rattle.std.specs.Prelude.{◌≡◌, ◌+◌, ◌%◌, ◌^◌, ◌≤
 ghost use Rattle.std.specs.Io.{WritesAtMost};
 ghost use Rattle.std.specs.Io.KnownBytes.{WriteAppends};
 ghost use Rattle.std.specs.List.{AllZip};
-ghost use Rattle.cli_text.specs.Sending.{streams};
+ghost use Rattle.line_text.specs.Sending.{streams};
 ghost use Rattle.cli_run.specs.Flushing.{AreFlushed, IsFlushed, bytes_of, packets_of};
 ghost use Rattle.cli_run.specs.Replaying.{ReportsRun};
 
 use crate::report::report_run_in;
-use cli_json::LineForm;
+use line_text::LineForm;
 use cli_text::report::Outcome;
 use replay_types::{InterfaceReport, ListenerReport, TaskEnd};
 use savefile::Counted;

@@ -1,9 +1,9 @@
 -- The plan of LINES.
 use Rattle.std.proofs.Common.{◌≡◌, ℕ, ◌<◌, ◌≤◌, List, ◌∷◌, ◌++◌, All, length, length-take, take, take_all, ap, sym, ◌∙◌, subst, arith}
 use Rattle.bpfvm.specs.Listing.{space}
-use Rattle.cli_text.specs.Fields.{IsSnap}
-use Rattle.cli_text.specs.Files.{IsFileOf}
-use Rattle.cli_text.proofs.Cuts.{NoSpace, not-lacking, cut-one}
+use Rattle.line_text.specs.Fields.{IsSnap}
+use Rattle.line_text.specs.Files.{IsFileOf}
+use Rattle.line_text.proofs.Cuts.{NoSpace, not-lacking, cut-one}
 use Rattle.std.proofs.lemmas.List.Elements.{All-same}
 use Rattle.cli_filter.specs.Plan as plan
 use Rattle.cli_filter.specs.Plan.{AreLastFields}

@@ -4,8 +4,8 @@ use Rattle.std.specs.Prelude.{if◌then◌else◌}
 use Rattle.std.specs.Result.{is_err}
 use Rattle.savefile.specs.declared.fault.Fault.{Fault}
 use Rattle.pcap_cut.specs.declared.cut.Tally.{Tally}
-use Rattle.cli_json.specs.declared.form.LineForm.{LineForm}
-use Rattle.cli_text.specs.Texts.{numbered}
+use Rattle.line_text.specs.declared.form.LineForm.{LineForm}
+use Rattle.line_text.specs.Texts.{numbered}
 use Rattle.cli_split.specs.declared.plan.SplitLine.{SplitLine}
 use Rattle.cli_split.specs.declared.split.SplitEnd.{SplitEnd}
 use Rattle.cli_split.specs.Printed.{count_line, line_text, printed_split, told_part}

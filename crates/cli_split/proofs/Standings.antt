@@ -17,7 +17,7 @@ use Rattle.pcap_cut.specs.Outcome.{tallied, IsTally}
 use Rattle.pcap_cut.proofs.Accepted.{accepted-append, accepted-nil, tally-more}
 use Rattle.pcap_cut.proofs.Outcomes.{took}
 use Rattle.pcap_cut.proofs.Writing.{goes-further, same-unless-different}
-use Rattle.cli_text.specs.Snapshot.{effective_snaplen}
+use Rattle.savefile.specs.Snapshot.{effective_snaplen}
 use Rattle.cli_split.specs.declared.part.Outlet.{Outlet}
 use Rattle.cli_split.specs.declared.part.Part.{Part}
 use Rattle.cli_split.specs.declared.part.PartEnd.{PartEnd}

@@ -2,8 +2,8 @@
 use Rattle.std.specs.Prelude.{◌≡◌, ℕ, ◌<◌, List, ◌∷◌, ◌++◌, length}
 use Rattle.bpfvm.specs.Listing.{space}
 use Rattle.bpfvm.specs.declared.insn.Insn.{Insn}
-use Rattle.cli_text.specs.Fields.{IsWord, IsSnap}
-use Rattle.cli_text.specs.Files.{IsFileOf}
+use Rattle.line_text.specs.Fields.{IsWord, IsSnap}
+use Rattle.line_text.specs.Files.{IsFileOf}
 use Rattle.cli_filter.specs.Plan as plan
 use Rattle.cli_filter.specs.Plan.{AreLastFields}
 use Rattle.cli_filter.specs.declared.plan.PlanFault.{PlanFault}

@@ -3,11 +3,11 @@ use Rattle.std.specs.Prelude.{ℕ, List, [], ◌++◌, Option, Some, None, Resul
 use Rattle.std.specs.Fmt.{decimal}
 use Rattle.savefile.specs.declared.fault.Fault.{Fault}
 use Rattle.pcap_cut.specs.declared.cut.Tally.{Tally}
-use Rattle.cli_json.specs.declared.form.LineForm.{LineForm}
-use Rattle.cli_json.specs.declared.form.LineForm.TheVariants.{Text, Json}
-use Rattle.cli_json.specs.Strings.{json_string}
-use Rattle.cli_text.specs.Telling.{end_of_line}
-use Rattle.cli_text.specs.Texts.{numbered}
+use Rattle.line_text.specs.declared.form.LineForm.{LineForm}
+use Rattle.line_text.specs.declared.form.LineForm.TheVariants.{Text, Json}
+use Rattle.line_text.specs.Strings.{json_string}
+use Rattle.line_text.specs.Texts.{end_of_line}
+use Rattle.line_text.specs.Texts.{numbered}
 use Rattle.cli_split.specs.declared.part.PartEnd.{PartEnd}
 use Rattle.cli_split.specs.declared.plan.SplitLine.{SplitLine}
 use Rattle.cli_split.specs.declared.split.SplitEnd.{SplitEnd}

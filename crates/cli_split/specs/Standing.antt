@@ -8,7 +8,7 @@ use Rattle.savefile.specs.declared.packet.Packet.{Packet}
 use Rattle.pcap_cut.specs.Copying.{Wrote}
 use Rattle.pcap_cut.specs.Cut.{accepted}
 use Rattle.pcap_cut.specs.Outcome.{IsTally}
-use Rattle.cli_text.specs.Snapshot.{effective_snaplen}
+use Rattle.savefile.specs.Snapshot.{effective_snaplen}
 use Rattle.cli_split.specs.declared.part.Outlet.{Outlet}
 use Rattle.cli_split.specs.declared.part.Part.{Part}
 use Rattle.cli_split.specs.declared.part.PartEnd.{PartEnd}

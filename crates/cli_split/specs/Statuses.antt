@@ -2,8 +2,8 @@
 use Rattle.std.specs.Prelude.{◌≡◌, List, ℕ, Option, fold, Result, Ok, Err}
 use Rattle.std.specs.declared.io.Error.{Error}
 use Rattle.savefile.specs.declared.fault.Fault.{Fault}
-use Rattle.cli_json.specs.declared.form.LineForm.{LineForm}
-use Rattle.cli_text.specs.Sending.{Takes}
+use Rattle.line_text.specs.declared.form.LineForm.{LineForm}
+use Rattle.line_text.specs.Sending.{Takes}
 use Rattle.cli_text.specs.Status.{greater}
 use Rattle.cli_text.specs.Telling.{fault_status, print_status_of}
 use Rattle.cli_text.specs.declared.status.Status.{Status}

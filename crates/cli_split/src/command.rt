@@ -13,7 +13,7 @@ use cli_files::captures::output_buffer;
 use cli_files::reading::read_text;
 use cli_filter::plan::{Plan, PlanFault};
 use cli_filter::plan_hints::hint_plan;
-use cli_json::LineForm;
+use line_text::LineForm;
 use cli_report::HintSink;
 use cli_report::failures::hint_printed;
 use cli_report::files::{LINES, hint_returns};

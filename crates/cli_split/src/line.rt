@@ -4,7 +4,7 @@ ghost use Rattle.std.specs.Prelude.{◌≡◌, OnOk, string_bytes};
 ghost use Rattle.cli_split.specs.Printed.{count_line, count_object, count_text};
 
 use crate::plan::SplitLine;
-use cli_json::{LineForm, put_string};
+use line_text::{LineForm, put_string};
 use pcap_cut::cut::Tally;
 use std::alloc::{AllocError, Global};
 

@@ -11,7 +11,7 @@ ghost use Rattle.cli_split.specs.Writing.{IsLeft};
 ghost use Rattle.cli_split.specs.declared.part.Part.{Part};
 
 use bpfvm::Program;
-use cli_text::effective_snaplen;
+use savefile::effective_snaplen;
 use pcap_cut::cut::{Tally, put_accepted};
 use savefile::laws::growing_text;
 use savefile::{Fault, Order, PacketRef, Sink, Unit, Writer};

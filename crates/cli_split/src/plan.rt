@@ -7,7 +7,7 @@ ghost use Rattle.cli_split.specs.Lines.{AreSplitLines, IsCompiled, IsRefusedPlan
 use cli_filter::plan::{
     Plan, PlanFault, PlanFaultText, PlanLine, compile_lines, output_and_expression, read_lines,
 };
-use cli_text::fields::{snapshot_length, split_once};
+use line_text::fields::{snapshot_length, split_once};
 use std::alloc::Global;
 
 /// How many lines LINES has at most: each OUT is an open file with a buffer in front of it.

@@ -1,8 +1,8 @@
 //! What `bpftap split` prints of each OUT, what it reports, and its exit status.
 
 ghost use Rattle.std.specs.Prelude.{◌≡◌, slice_get};
-ghost use Rattle.cli_text.specs.Sending.{Takes};
-ghost use Rattle.cli_text.specs.Texts.{numbered};
+ghost use Rattle.line_text.specs.Sending.{Takes};
+ghost use Rattle.line_text.specs.Texts.{numbered};
 ghost use Rattle.cli_split.specs.Printed.{line_text, output_of, part_line, printed_split};
 ghost use Rattle.cli_split.specs.Splitting.{passes_header};
 ghost use Rattle.cli_split.specs.Statuses.{ReportsSplit, parts_status, split_status, stop_status, written_status};
@@ -11,10 +11,10 @@ use crate::line::put_count;
 use crate::part::PartEnd;
 use crate::plan::SplitLine;
 use crate::split::{SplitEnd, Stop};
-use cli_json::LineForm;
+use line_text::LineForm;
 use cli_text::Status;
 use cli_text::report::fault_status;
-use cli_text::sending::send;
+use line_text::sending::send;
 use fault_report::FaultSink;
 use fault_report::captures::output_fault;
 use fault_report::reporting::{report_fault, report_nth_capture, report_output};

@@ -6,9 +6,9 @@ use Rattle.tap.specs.declared.fault.Fault.TheVariants.{TooMany, NoListener, Capt
 use Rattle.tap_steps.specs.declared.filters.Spec.{Spec}
 use Rattle.tap_steps.specs.declared.step.Step.{Step}
 use Rattle.tap.specs.Refusals.{AreTooMany, IsFirst}
-use Rattle.cli_json.specs.declared.form.LineForm.{LineForm}
+use Rattle.line_text.specs.declared.form.LineForm.{LineForm}
 use Rattle.cli_text.specs.declared.report.Outcome.{Outcome}
-use Rattle.cli_text.specs.Sending.{Streams}
+use Rattle.line_text.specs.Sending.{Streams}
 use Rattle.cli_steps.specs.Playing.{Plays}
 
 -- the first fault that stands is told by so many listeners as are kept

@@ -3,9 +3,9 @@ use Rattle.std.proofs.Common.{◌≡◌, ℕ, inl, inr, Bool, true, false, List,
 use Rattle.std.specs.Prelude.{Vec}
 use Rattle.std.specs.declared.alloc.Global.{Global}
 use Rattle.savefile.specs.declared.fault.Fault.{Fault as RecordFault}
-use Rattle.cli_json.specs.declared.form.LineForm.{LineForm}
+use Rattle.line_text.specs.declared.form.LineForm.{LineForm}
 use Rattle.cli_text.specs.declared.report.Outcome.{Outcome}
-use Rattle.cli_text.specs.Sending.{Takes, Streams}
+use Rattle.line_text.specs.Sending.{Takes, Streams}
 use Rattle.cli_text.specs.Status.{greater}
 use Rattle.cli_text.specs.Telling.{print_status_of}
 use Rattle.tap_steps.specs.declared.answer.Answered.{Answered}
@@ -20,7 +20,7 @@ use Rattle.tap.specs.Filters.{AreExpressionsOf}
 use Rattle.tap.specs.Headline.{Replays}
 use Rattle.tap.specs.Refusals.{NoneStands}
 use Rattle.cli_steps.specs.declared.steps.Replayed.{Replayed}
-use Rattle.cli_steps.specs.Printed.{reports_in}
+use Rattle.tap_text.specs.Printed.{reports_in}
 use Rattle.cli_steps.specs.Playing.{IsAnswersText, IsPrintStatus, record_fault_status, failed_output_line, record_fault_line, Reported, Plays, PlaysAs, trace_text}
 
 -- what is printed of a trace before its reports are the legal answers, if they are explained

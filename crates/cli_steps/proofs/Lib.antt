@@ -1,11 +1,2 @@
-mod Words
-mod Fielded
-mod Keeping
-mod FirstBad
-mod Answering
-mod Cursors
-mod Rejecting
-mod Putting
 mod Beyond
 mod Ending
-mod Agreeing

@@ -1,11 +1,3 @@
-pub mod Listeners
-pub mod Script
-pub mod Laws
-pub mod Reasons
-pub mod Members
-pub mod Rejections
-pub mod Answers
-pub mod Printed
 pub mod Playing
 pub mod Stepping
 pub mod Telling

@@ -15,18 +15,18 @@ use Rattle.tap.specs.Faults.{fault_text}
 use Rattle.tap.specs.Filters.{AreExpressionsOf}
 use Rattle.tap.specs.Headline.{Replays}
 use Rattle.tap.specs.Refusals.{IsFirst, NoneStands}
-use Rattle.cli_json.specs.declared.form.LineForm.{LineForm}
+use Rattle.line_text.specs.declared.form.LineForm.{LineForm}
 use Rattle.cli_text.specs.declared.status.Status.{Status}
 use Rattle.cli_text.specs.declared.status.Status.TheVariants as status
 use Rattle.cli_text.specs.declared.report.Outcome.{Outcome}
 use Rattle.cli_text.specs.Status.{greater}
-use Rattle.cli_text.specs.Sending.{Takes, TakesPart, Streams}
+use Rattle.line_text.specs.Sending.{Takes, TakesPart, Streams}
 use Rattle.cli_text.specs.Telling.{told_line}
 use Rattle.cli_steps.specs.declared.steps.Detail.{Detail}
 use Rattle.cli_steps.specs.declared.steps.Detail.TheVariants as detail
 use Rattle.cli_steps.specs.declared.steps.Replayed.{Replayed}
-use Rattle.cli_steps.specs.Answers.{cursors_of, answers_from, ArePrintedAnswers}
-use Rattle.cli_steps.specs.Printed.{reports_in}
+use Rattle.tap_text.specs.Answers.{cursors_of, answers_from, ArePrintedAnswers}
+use Rattle.tap_text.specs.Printed.{reports_in}
 
 -- How the printing of a text ended, as a status: the writer took the text, or it failed, and took a prefix of it.
 abbrev pub IsPrintStatus : Option (List ℕ) → Option (List ℕ) → List ℕ → Status → Type 0

@@ -3,24 +3,19 @@ use Rattle.std.specs.Prelude.{◌≡◌, ℕ, ◌⊎◌, false, List}
 use Rattle.std.specs.Io.KnownBytes.{Keeps}
 use Rattle.tap_steps.specs.declared.filters.Spec.{Spec}
 use Rattle.tap_steps.specs.declared.step.Step.{Step}
-use Rattle.cli_json.specs.declared.form.LineForm.{LineForm}
-use Rattle.cli_text.specs.declared.fault.LineFault.{LineFault}
-use Rattle.cli_text.specs.declared.fault.LineFault.TheVariants.{Listeners, Script, NoMemory}
-use Rattle.cli_text.specs.Files.{IsFileOf, IsFirstBad}
+use Rattle.line_text.specs.declared.form.LineForm.{LineForm}
+use Rattle.line_text.specs.declared.fault.LineFault.{LineFault}
+use Rattle.line_text.specs.Files.{IsFileOf}
 use Rattle.cli_text.specs.declared.status.Status.TheVariants as status
 use Rattle.cli_text.specs.declared.report.Outcome.{Outcome}
 use Rattle.cli_text.specs.Status.{code}
-use Rattle.cli_text.specs.Sending.{Takes, Streams}
-use Rattle.cli_text.specs.Telling.{told_line, line_fault_text}
-use Rattle.cli_steps.specs.Listeners.{IsListenerLine}
-use Rattle.cli_steps.specs.Script.{IsStepLine}
+use Rattle.line_text.specs.Sending.{Takes, Streams}
+use Rattle.cli_text.specs.Telling.{told_line}
+use Rattle.line_text.specs.Faults.{line_fault_text}
+use Rattle.tap_text.specs.Listeners.{IsListenerLine}
+use Rattle.tap_text.specs.Script.{IsStepLine}
+use Rattle.tap_text.specs.Plans.{IsRefusedFiles}
 use Rattle.cli_steps.specs.Playing.{Plays}
-
--- Why the files are not taken: the first bad line, one of LISTENERS before one of SCRIPT, or memory ran out.
-abbrev pub IsRefusedFiles : List ℕ → List ℕ → LineFault → Type 0
-IsRefusedFiles listeners script (Listeners n) = IsFirstBad IsListenerLine listeners n
-IsRefusedFiles listeners script (Script n) = ((specs : List Spec) × IsFileOf IsListenerLine listeners specs) × IsFirstBad IsStepLine script n
-IsRefusedFiles listeners script NoMemory = Unit {0}
 
 -- The files say listeners and steps, and these were played.
 pub record Played (form : LineForm) (listeners script : List ℕ) (captures : List (List ℕ)) (old new : Streams) (outcome : Outcome) : Type 0 where

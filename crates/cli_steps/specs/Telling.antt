@@ -1,9 +1,9 @@
 -- What `bpftap steps` prints of what was played.
 use Rattle.std.specs.Prelude.{◌≡◌, Bool, List, ℕ, Option, None, Result}
-use Rattle.cli_json.specs.declared.form.LineForm.{LineForm}
+use Rattle.line_text.specs.declared.form.LineForm.{LineForm}
 use Rattle.cli_text.specs.declared.report.Outcome.{Outcome}
 use Rattle.cli_text.specs.declared.status.Status.{Status}
-use Rattle.cli_text.specs.Sending.{streams}
+use Rattle.line_text.specs.Sending.{streams}
 use Rattle.cli_steps.specs.declared.steps.Replayed.{Replayed}
 use Rattle.cli_steps.specs.Playing.{PlaysAs}
 use Rattle.tap.specs.declared.fault.Fault.{Fault}

@@ -7,22 +7,22 @@ ghost use Rattle.cli_steps.specs.Telling.{PrintsPlayed};
 use crate::hints::{hint_line, hint_replay};
 use crate::paths::{check_paths, read_captures};
 use crate::picture::draw;
-use crate::plan::{StepsPlan, read_plan};
 use crate::reported::{line_fault, report_played};
 use crate::steps::{Detail, Printing, Replayed, play_plan_in};
 use cli_args::steps::StepsWords;
 use cli_files::piped::Piped;
 use cli_files::reading::read_text;
-use cli_json::LineForm;
 use cli_report::failures::hint_output;
 use cli_report::files::hint_returns;
 use cli_report::{FailureProbe, HintSink};
 use cli_text::Status;
 use fault_report::reporting::{report_fault, report_memory};
+use line_text::LineForm;
 use std::alloc::{AllocError, Global};
 use std::fs::Files;
 use std::io;
 use std::io::{BufWriter, Write};
+use tap_text::plan::{StepsPlan, read_plan};
 
 /// How many bytes of output are gathered before they are written.
 const OUTPUT_BUFFER: usize = 1 << 16;

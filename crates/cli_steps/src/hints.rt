@@ -1,6 +1,5 @@
 //! Hints on the faults of `bpftap steps`, after the lines that report them.
 
-use crate::plan::StepsPlan;
 use crate::steps::Replayed;
 use cli_filter_hints::expressions::{hint_refusal, hint_text_fault};
 use cli_report::HintSink;
@@ -9,11 +8,12 @@ use cli_report::files::{
     LISTENERS_OF_STEPS, SCRIPT, hint_bad_line, hint_capacity, hint_no_listener,
 };
 use cli_report::stream::give_hint;
-use cli_text::LineFault;
+use line_text::LineFault;
 use listener::OpenFault;
 use savefile::Fault;
 use std::alloc::Global;
 use tap::{Filter, MAX_CAPTURES, MAX_LISTENERS, Spec};
+use tap_text::plan::StepsPlan;
 
 /// Hints on a line of LISTENERS or SCRIPT that is refused.
 pub fn hint_line<E: HintSink>(listeners: &[u8], script: &[u8], fault: LineFault, err: &mut E) {

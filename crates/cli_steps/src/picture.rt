@@ -1,6 +1,5 @@
 //! The picture that `bpftap steps -p` draws.
 
-use crate::plan::StepsPlan;
 use cli_files::reading::report_io;
 use cli_report::HintSink;
 use cli_text::Status;
@@ -9,6 +8,7 @@ use std::fs;
 use std::fs::Files;
 use tap::Trace;
 use tap_picture::write_picture;
+use tap_text::plan::StepsPlan;
 
 /// Draws a replay to a file, and returns the exit status.
 pub fn draw<R: Files + AllocGlobal, E: HintSink>(

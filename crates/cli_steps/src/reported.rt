@@ -1,10 +1,10 @@
 //! The faults of a replay, as values that are reported.
 
 use crate::steps::Replayed;
-use cli_text::LineFault;
 use fault_report::captures::{device, nth_capture_fault};
 use fault_report::reporting::report;
 use fault_report::{FaultSink, Report, Subject, Word};
+use line_text::LineFault;
 use std::io;
 use tap::Fault;
 

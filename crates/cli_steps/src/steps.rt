@@ -2,24 +2,25 @@
 
 ghost use Rattle.std.specs.Prelude.{◌≡◌, ◌++◌, true, false, map, IfOk, OnErr};
 ghost use Rattle.std.specs.Io.KnownBytes.{Keeps};
-ghost use Rattle.cli_json.specs.declared.form.LineForm.TheVariants.{Text};
-ghost use Rattle.cli_text.specs.Sending.{Takes, streams};
-ghost use Rattle.cli_steps.specs.Answers.{answers_from};
-ghost use Rattle.cli_steps.specs.Printed.{reports_in};
+ghost use Rattle.line_text.specs.declared.form.LineForm.TheVariants.{Text};
+ghost use Rattle.line_text.specs.Sending.{Takes, streams};
+ghost use Rattle.tap_text.specs.Answers.{answers_from};
+ghost use Rattle.tap_text.specs.Printed.{reports_in};
 ghost use Rattle.cli_steps.specs.Playing.{trace_text, is_explained, is_traced, PlaysAs};
 ghost use Rattle.cli_steps.specs.Stepping.{Steps, StepsTo};
 
-use crate::answers::{AnswerCursor, answer_cursors, line_for, write_answers};
-use crate::buffer::LineBuffer;
-use crate::plan::{StepsPlan, read_plan};
-use crate::report::{print_reports_in, report_end, report_refusal};
-use cli_json::LineForm;
+use crate::report::{report_end, report_refusal};
 use cli_text::Status;
 use cli_text::report::{Outcome, report_line};
+use line_text::LineForm;
 use std::alloc::{AllocError, Global};
 use std::io;
 use std::io::Write;
 use tap::{Fault, Step, Trace, replay, trace};
+use tap_text::answers::{AnswerCursor, answer_cursors, line_for, write_answers};
+use tap_text::buffer::LineBuffer;
+use tap_text::plan::{StepsPlan, read_plan};
+use tap_text::report::print_reports_in;
 
 /// What a replay has to print and return.
 #[derive(Clone, Copy, Debug, PartialEq, Eq)]

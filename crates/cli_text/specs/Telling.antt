@@ -1,16 +1,14 @@
 -- How a fault is reported, and its exit status.
 use Rattle.std.specs.Prelude.{ℕ, Bool, true, false, List, [], ◌∷◌, ◌++◌, Result, Ok, Err, if◌then◌else◌, codes}
-use Rattle.std.specs.Fmt.{decimal}
 use Rattle.std.specs.IoError.{error_kind}
 use Rattle.std.specs.declared.io.Error.{Error}
 use Rattle.std.specs.declared.io.ErrorKind.{ErrorKind}
 use Rattle.std.specs.declared.io.ErrorKind.TheVariants.{BrokenPipe}
 use Rattle.savefile.specs.declared.fault.Fault.{Fault}
 use Rattle.savefile.specs.declared.fault.Fault.TheVariants.{TornRecord, BadFraction, TooLong, Device}
-use Rattle.cli_text.specs.declared.fault.LineFault.{LineFault}
+use Rattle.line_text.specs.Texts.{end_of_line}
 use Rattle.cli_text.specs.declared.status.Status.{Status}
 use Rattle.cli_text.specs.declared.status.Status.TheVariants.{Clean, Refused, Damaged, Failed}
-use Rattle.cli_text.specs.declared.fault.LineFault.TheVariants.{Listeners, Script, NoMemory}
 
 -- the exit status of a capture's fault
 abbrev pub fault_status : Fault → Status
@@ -20,19 +18,9 @@ fault_status (BadFraction place) = Damaged
 fault_status (TooLong place) = Damaged
 fault_status other = Refused
 
--- a line feed
-abbrev pub end_of_line : List ℕ
-end_of_line = 10 ∷ []
-
 -- the line of a fault on standard error
 abbrev pub told_line : List ℕ → List ℕ
 told_line text = codes "bpftap: " ++ text ++ end_of_line
-
--- how a fault of lines reads: its name, a space and its number
-abbrev pub line_fault_text : LineFault → List ℕ
-line_fault_text (Listeners n) = codes "Listeners " ++ decimal n
-line_fault_text (Script n) = codes "Script " ++ decimal n
-line_fault_text NoMemory = codes "NoMemory"
 
 -- whether it is that nobody reads any more
 abbrev pub is_unread : ErrorKind → Bool

@@ -1,13 +1,13 @@
 //! What the program reports on standard error, and the exit status that goes with it.
 
 ghost use Rattle.std.specs.Prelude.{◌≡◌, IfOk, IfSome};
-ghost use Rattle.cli_text.specs.Sending.{Takes};
+ghost use Rattle.line_text.specs.Sending.{Takes};
 ghost use Rattle.cli_text.specs.declared.status.Status.TheVariants.{Refused};
 ghost use Rattle.cli_text.specs.Telling.{fault_status, is_unread, output_line, print_status_of, told_line};
 
-use crate::line::Line;
-use crate::sending::send;
 use crate::status::Status;
+use line_text::Line;
+use line_text::sending::send;
 use savefile::Fault;
 use std::fmt::{Display, Formatter};
 use std::io::{ErrorKind, Write};

@@ -1,7 +1,7 @@
 //! How far the reading of captures is, in a line on the terminal.
 
 use crate::screen::Screen;
-use cli_text::Line;
+use line_text::Line;
 use std::fmt::{Display, Formatter};
 use std::fs::Files;
 use std::sync::atomic::Ordering::SeqCst;

@@ -1,9 +1,9 @@
 -- A fault that is reported, as a line of text and as an object of JSON.
 use Rattle.std.specs.Prelude.{ℕ, Bool, true, false, List, [], ◌++◌, Option, Some, None, codes}
 use Rattle.std.specs.Fmt.{option_append, with_newline}
-use Rattle.cli_json.specs.Strings.{json_string}
-use Rattle.cli_json.specs.declared.form.LineForm.{LineForm}
-use Rattle.cli_json.specs.declared.form.LineForm.TheVariants.{Text, Json}
+use Rattle.line_text.specs.Strings.{json_string}
+use Rattle.line_text.specs.declared.form.LineForm.{LineForm}
+use Rattle.line_text.specs.declared.form.LineForm.TheVariants.{Text, Json}
 use Rattle.fault_report.specs.Words.{words_text, further_names, numbers_text}
 use Rattle.fault_report.specs.declared.report.Report.{Report}
 use Rattle.fault_report.specs.declared.report.Subject.{Subject}

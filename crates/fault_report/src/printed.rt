@@ -5,7 +5,7 @@ ghost use Rattle.fault_report.specs.Reports.{names_member, numbers_member, repor
 
 use crate::report::{Report, Subject};
 use crate::word::{FurtherNames, Numbers, Words};
-use cli_json::{JsonString, LineForm};
+use line_text::{JsonString, LineForm};
 use cli_text::report::EscapedPath;
 use std::fmt;
 use std::fmt::{Display, Formatter};

@@ -1,10 +1,10 @@
 //! Where faults are reported.
 
 ghost use Rattle.std.specs.Prelude.{◌≡◌};
-ghost use Rattle.cli_json.specs.declared.form.LineForm.{LineForm as Form};
-ghost use Rattle.cli_json.specs.declared.form.LineForm.TheVariants.{Text};
+ghost use Rattle.line_text.specs.declared.form.LineForm.{LineForm as Form};
+ghost use Rattle.line_text.specs.declared.form.LineForm.TheVariants.{Text};
 
-use cli_json::LineForm;
+use line_text::LineForm;
 use std::io;
 use std::io::Write;
 

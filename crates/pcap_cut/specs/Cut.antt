@@ -6,7 +6,7 @@ use Rattle.savefile.specs.declared.packet.Packet.{Packet}
 use Rattle.savefile.specs.Savefile.{encoded}
 use Rattle.bpfvm.specs.declared.insn.Insn.{Insn}
 use Rattle.bpfvm.specs.Machine.{verdict}
-use Rattle.cli_text.specs.Snapshot.{effective_snaplen}
+use Rattle.savefile.specs.Snapshot.{effective_snaplen}
 
 -- the program's answer to a packet
 abbrev pub answer : List Insn → Packet → ℕ

@@ -10,11 +10,11 @@ ghost use Rattle.savefile.specs.Reader.{HasGiven};
 ghost use Rattle.savefile.specs.Writer.{HasWritten};
 ghost use Rattle.pcap_cut.specs.Copying.{Copied, Wrote};
 ghost use Rattle.pcap_cut.specs.Cut.{accepts, accepted};
-ghost use Rattle.cli_text.specs.Snapshot.{effective_snaplen};
+ghost use Rattle.savefile.specs.Snapshot.{effective_snaplen};
 ghost use Rattle.pcap_cut.specs.Outcome.{tallied, Cuts};
 
 use bpfvm::Program;
-use cli_text::effective_snaplen;
+use savefile::effective_snaplen;
 use savefile::laws::{given_so_far, growing_text};
 use savefile::{Fault, Order, PacketRef, Reader, Sink, Source, Unit, Writer};
 use std::alloc::Global;

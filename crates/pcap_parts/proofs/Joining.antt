@@ -14,7 +14,7 @@ use Rattle.savefile.proofs.Contents.{clean_end}
 use Rattle.savefile.proofs.Joining.{IsSavefile-join}
 use Rattle.savefile.proofs.Lengths.{length-bytes_in}
 use Rattle.savefile.proofs.Records.{longest_records, AreRecords-push}
-use Rattle.cli_text.specs.Snapshot.{effective_snaplen}
+use Rattle.savefile.specs.Snapshot.{effective_snaplen}
 use Rattle.pcap_cut.specs.Cut.{accepted, cut_text}
 use Rattle.pcap_cut.proofs.Accepted.{accepted-append}
 use Rattle.pcap_parts.specs.Parts.{after_records}

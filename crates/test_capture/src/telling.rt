@@ -1,11 +1,11 @@
 //! How lines go out, and what is reported of arguments that cannot be taken.
 
-ghost use Rattle.cli_json.specs.declared.form.LineForm.TheVariants.{Text};
+ghost use Rattle.line_text.specs.declared.form.LineForm.TheVariants.{Text};
 
 use crate::same::same;
 use cli_cut::print::check;
 use cli_cut::report::report_print;
-use cli_json::LineForm;
+use line_text::LineForm;
 use cli_text::Status;
 use cli_text::report::report_words;
 use fault_report::reporting::{report_device, report_fault};

@@ -1,11 +1,11 @@
 //! The callers that the pages of `cli_text`, `tap_steps`, `cli_steps` and `tap_picture` show, crates/NAME/README.md.
 
 use crate::same::same;
-use cli_steps::script::read_script;
+use tap_text::script::read_script;
 use cli_steps::steps::steps;
-use cli_text::fields::{first_line, number, split_once};
-use cli_text::sending::send;
-use cli_text::{Line, LineFault};
+use line_text::fields::{first_line, number, split_once};
+use line_text::sending::send;
+use line_text::{Line, LineFault};
 use listener::Mode;
 use std::alloc::Global;
 use std::io;

@@ -1,7 +1,7 @@
 //! `bpftap steps` into an output that takes all and sends nothing on.
 
 use crate::same::same;
-use cli_steps::plan::{StepsPlan, read_plan};
+use tap_text::plan::{StepsPlan, read_plan};
 use cli_steps::steps::{Detail, play_plan};
 use std::process::Abort;
 use test_fixtures::captures::{HEADER, bytes_of};

@@ -2,7 +2,7 @@
 
 use crate::same::same;
 use bpfvm::read_listing;
-use cli_json::LineForm;
+use line_text::LineForm;
 use cli_run::report::{report_run, report_run_in};
 use cli_run::run::run;
 use cli_text::Status;

@@ -4,7 +4,7 @@ use crate::same::same;
 use crate::split::{item, text_of};
 use bpfvm::Program;
 use cli_filter::plan::Plan;
-use cli_json::LineForm;
+use line_text::LineForm;
 use cli_split::line::line_for;
 use cli_split::part::{Part, PartEnd};
 use cli_split::plan::{SplitLine, read_plan};

@@ -1,7 +1,7 @@
 //! What is printed and reported of a split.
 
 use crate::same::same;
-use cli_json::LineForm;
+use line_text::LineForm;
 use cli_split::line::line_for;
 use cli_split::part::PartEnd;
 use cli_split::plan::read_plan;

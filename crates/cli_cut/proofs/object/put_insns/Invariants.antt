@@ -1,5 +1,5 @@
 use Rattle.std.proofs.Common.{◌≡◌, ◌++◌, drop, string_bytes}
-use Rattle.cli_text.specs.Texts.{numbered}
+use Rattle.line_text.specs.Texts.{numbered}
 use Rattle.cli_cut.specs.Objects.{element_json}
 use Rattle.cli_cut.proofs.object.put_insns.Given as goal
 

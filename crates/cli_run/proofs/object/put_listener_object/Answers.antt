@@ -1,5 +1,5 @@
 use Rattle.std.specs.Prelude.{codes}
-use Rattle.cli_text.specs.Telling.{end_of_line}
+use Rattle.line_text.specs.Texts.{end_of_line}
 use Rattle.cli_run.specs.Printed.{end_members, listener_object}
 use Rattle.cli_run.proofs.Printing.{in_place_twice, sixteen}
 use Rattle.cli_run.proofs.object.put_listener_object.Goals as goal

@@ -1,4 +1,4 @@
-use Rattle.cli_text.proofs.Cuts.{if_none}
+use Rattle.line_text.proofs.Cuts.{if_none}
 use Rattle.cli_run.proofs.Fielded.{HasNoFields, no_fields, no_words, others}
 use Rattle.cli_run.proofs.plan.fields_of.Goals as goal
 

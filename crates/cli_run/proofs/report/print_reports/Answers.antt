@@ -1,4 +1,4 @@
-use Rattle.cli_text.proofs.Taking.{Takes-flushed}
+use Rattle.line_text.proofs.Taking.{Takes-flushed}
 use Rattle.cli_run.proofs.report.print_reports.Goals as goal
 
 pub returns : goal.returns

@@ -1,6 +1,6 @@
 use Rattle.std.proofs.lemmas.Result.{err_from_is_err_and}
 use Rattle.cli_text.specs.Telling.{output_line}
-use Rattle.cli_text.proofs.Taking.{TakesPart-more, Takes-then}
+use Rattle.line_text.proofs.Taking.{TakesPart-more, Takes-then}
 use Rattle.cli_run.specs.Printed.{told_replay}
 use Rattle.cli_run.proofs.report.report_all.Goals as goal
 

@@ -1,5 +1,5 @@
 use Rattle.std.proofs.lemmas.Result.{err_from_is_err_and}
-use Rattle.cli_text.proofs.Taking.{TakesPart-numbered, Appends-numbered}
+use Rattle.line_text.proofs.Taking.{TakesPart-numbered, Appends-numbered}
 use Rattle.cli_run.specs.Printed.{interface_told}
 use Rattle.cli_run.proofs.report.report_ends.Goals as goal
 

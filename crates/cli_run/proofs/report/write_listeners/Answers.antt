@@ -3,9 +3,9 @@ use Rattle.std.proofs.lemmas.List.{take_all}
 use Rattle.replay_types.specs.declared.report.ListenerReport.{ListenerReport}
 use Rattle.std.proofs.lemmas.Result.{err_from_is_err_and}
 use Rattle.std.specs.Io.KnownBytes.{Appends}
-use Rattle.cli_text.specs.Texts.{numbered}
-use Rattle.cli_text.specs.Sending.{TakesPart}
-use Rattle.cli_text.proofs.Taking.{TakesPart-none, TakesPart-numbered, Appends-numbered}
+use Rattle.line_text.specs.Texts.{numbered}
+use Rattle.line_text.specs.Sending.{TakesPart}
+use Rattle.line_text.proofs.Taking.{TakesPart-none, TakesPart-numbered, Appends-numbered}
 use Rattle.cli_run.specs.Printed.{listener_line}
 use Rattle.cli_run.proofs.report.write_listeners.Goals as goal
 

@@ -1,6 +1,6 @@
 use Rattle.std.proofs.Common.{take}
 use Rattle.std.specs.Io.KnownBytes.{Appends}
-use Rattle.cli_text.specs.Texts.{numbered}
+use Rattle.line_text.specs.Texts.{numbered}
 use Rattle.cli_run.specs.Printed.{listener_line}
 use Rattle.cli_run.proofs.report.write_listeners.Given as goal
 

@@ -1,6 +1,6 @@
 use Rattle.std.proofs.Common.{◌≡◌, ℕ, List, inl, inr, ap, length, subst, ◌∙◌, rules}
 use Rattle.std.proofs.KnownBytes.{Keeps-refl}
-use Rattle.cli_text.specs.Sending.{Takes}
+use Rattle.line_text.specs.Sending.{Takes}
 use Rattle.cli_text.specs.Telling.{told_line}
 use Rattle.cli_filter.specs.Plan.{plan_fault_text}
 use Rattle.cli_run.specs.Faults.{listeners_fault_text}

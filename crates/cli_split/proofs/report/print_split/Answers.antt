@@ -2,8 +2,8 @@ use Rattle.std.proofs.Common.{subst}
 use Rattle.std.proofs.KnownBytes.{Appends-nil}
 use Rattle.std.proofs.lemmas.Result.{err_from_is_err_and}
 use Rattle.std.specs.Io.KnownBytes.{Appends}
-use Rattle.cli_text.specs.Sending.{TakesPart}
-use Rattle.cli_text.proofs.Taking.{Takes-flushed}
+use Rattle.line_text.specs.Sending.{TakesPart}
+use Rattle.line_text.proofs.Taking.{Takes-flushed}
 use Rattle.cli_split.proofs.Printing.{printed-all, printed-none}
 use Rattle.cli_split.proofs.report.print_split.Goals as goal
 

@@ -2,8 +2,8 @@ use Rattle.std.proofs.Common.{◌≡◌, ◌∙◌, rules, subst, sym}
 use Rattle.std.proofs.KnownBytes.{Appends-nil}
 use Rattle.std.proofs.lemmas.Result.{err_from_is_err_and}
 use Rattle.std.specs.Io.KnownBytes.{Appends}
-use Rattle.cli_text.specs.Sending.{Takes}
-use Rattle.cli_text.proofs.Taking.{TakesPart-none}
+use Rattle.line_text.specs.Sending.{Takes}
+use Rattle.line_text.proofs.Taking.{TakesPart-none}
 use Rattle.cli_split.proofs.Printing.{told-none, told-whole}
 use Rattle.cli_split.proofs.report.write_part.Goals as goal
 

@@ -1,7 +1,7 @@
 use Rattle.std.proofs.KnownBytes.{Appends-nil}
 use Rattle.std.proofs.lemmas.List.{take_all}
 use Rattle.std.proofs.lemmas.Result.{err_from_is_err_and}
-use Rattle.cli_text.proofs.Taking.{TakesPart-numbered, Appends-numbered}
+use Rattle.line_text.proofs.Taking.{TakesPart-numbered, Appends-numbered}
 use Rattle.cli_split.specs.Printed.{line_text}
 use Rattle.cli_split.proofs.report.write_parts.Goals as goal
 

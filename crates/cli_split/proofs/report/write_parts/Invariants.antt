@@ -1,6 +1,6 @@
 use Rattle.std.proofs.Common.{take}
 use Rattle.std.specs.Io.KnownBytes.{Appends}
-use Rattle.cli_text.specs.Texts.{numbered}
+use Rattle.line_text.specs.Texts.{numbered}
 use Rattle.cli_split.specs.Printed.{line_text}
 use Rattle.cli_split.proofs.report.write_parts.Given as goal
 

@@ -1,6 +1,6 @@
 use Rattle.std.proofs.lemmas.Result.{err_from_is_err_and}
 use Rattle.cli_steps.specs.Playing.{failed_output_line, record_fault_line}
-use Rattle.cli_text.proofs.Taking.{TakesPart-more, Takes-then}
+use Rattle.line_text.proofs.Taking.{TakesPart-more, Takes-then}
 use Rattle.cli_steps.proofs.report.report_both.Goals as goal
 
 pub returns-in_err-report_failed_output : goal.returns-in_err-report_failed_output

@@ -1,7 +1,7 @@
 use Rattle.std.proofs.lemmas.Result.{err_from_is_err_and}
-use Rattle.cli_text.proofs.Taking.{TakesPart-more, Takes-then}
-use Rattle.cli_steps.specs.Answers.{answers_from}
-use Rattle.cli_steps.specs.Printed.{reports_in}
+use Rattle.line_text.proofs.Taking.{TakesPart-more, Takes-then}
+use Rattle.tap_text.specs.Answers.{answers_from}
+use Rattle.tap_text.specs.Printed.{reports_in}
 use Rattle.cli_steps.proofs.steps.print_both.Goals as goal
 
 pub returns-in_err-write_answers : goal.returns-in_err-write_answers

@@ -1,6 +1,6 @@
 use Rattle.std.proofs.Common.{false, inl, inr, refl}
 use Rattle.std.proofs.KnownBytes.{Keeps-refl}
-use Rattle.cli_json.specs.declared.form.LineForm.TheVariants.{Text}
+use Rattle.line_text.specs.declared.form.LineForm.TheVariants.{Text}
 use Rattle.cli_steps.proofs.Beyond.{plays-all}
 use Rattle.cli_steps.proofs.Ending.{plays-of}
 use Rattle.cli_steps.proofs.steps.steps_told.Goals as goal

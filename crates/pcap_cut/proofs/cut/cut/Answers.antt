@@ -1,7 +1,7 @@
 use Rattle.std.proofs.Common.{◌≡◌, ◌++◌, sym, subst}
 use Rattle.std.proofs.KnownBytes.{Consumes-trans}
 use Rattle.std.specs.Io.KnownBytes.{Consumes}
-use Rattle.cli_text.specs.Snapshot.{effective_snaplen}
+use Rattle.savefile.specs.Snapshot.{effective_snaplen}
 use Rattle.pcap_cut.specs.Copying.{Copied}
 use Rattle.pcap_cut.proofs.Outcomes.{copied-outcome, unread-outcome}
 use Rattle.pcap_cut.proofs.cut.cut.Goals as goal

@@ -1,8 +1,8 @@
 use Rattle.std.proofs.Common.{ℕ, List, sym, subst, ap, ◌∙◌, arith}
 use Rattle.std.specs.Str.Parse.{digits_value}
 use Rattle.bpfvm.specs.Listing.{IsNumber}
-use Rattle.cli_text.specs.Fields.{IsSnap, IsCapacity}
-use Rattle.cli_text.proofs.Cuts.{if_none}
+use Rattle.line_text.specs.Fields.{IsSnap, IsCapacity}
+use Rattle.line_text.proofs.Cuts.{if_none}
 use Rattle.cli_filter.specs.Plan.{AreLastFields}
 use Rattle.cli_run.specs.declared.plan.RunLine.{RunLine}
 use Rattle.cli_run.specs.Listeners.{IsRunLine}

@@ -1,5 +1,5 @@
 use Rattle.std.proofs.Common.{List, ℕ}
-use Rattle.cli_text.proofs.Cuts.{if_none}
+use Rattle.line_text.proofs.Cuts.{if_none}
 use Rattle.cli_split.specs.Lines.{IsSplitLine}
 use Rattle.cli_split.specs.declared.plan.SplitLine.{SplitLine}
 use Rattle.cli_split.proofs.Planned.{says_none_uncut, says_none_snap, says_none_rest, one_output}

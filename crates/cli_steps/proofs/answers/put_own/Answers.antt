@@ -1,9 +1,0 @@
-use Rattle.std.specs.Prelude.{codes}
-use Rattle.cli_text.specs.Telling.{end_of_line}
-use Rattle.cli_steps.proofs.Putting.{in_place, eight}
-use Rattle.cli_steps.proofs.answers.put_own.Goals as goal
-
-pub returns-in-Json : goal.returns-in-Json
-returns-in-Json c =
-    rw c.in-Json.is (in_place _ _ _ _ _ c.clear.ensures.bytes c.writeln-in-Json.ensures.bytes
-    (eight (codes "{\"step\":") _ (codes ",\"action\":\"") _ (codes "\",\"listener\":") _ (codes "}") end_of_line))

@@ -1,9 +1,0 @@
-use Rattle.std.proofs.Common.{take}
-use Rattle.std.specs.Io.KnownBytes.{Appends}
-use Rattle.cli_text.specs.Texts.{numbered}
-use Rattle.cli_steps.specs.declared.objects.ReportPart.TheVariants.{Batch}
-use Rattle.cli_steps.specs.Printed.{part_lines}
-use Rattle.cli_steps.proofs.report.write_batches.Given as goal
-
-abbrev pub invariant-loop-b : goal.invariant-loop-b
-invariant-loop-b g l = Appends (g.O.Write.contents l.fn.out) (g.O.Write.contents l.out) (numbered (λ b batch. part_lines l.form l.l (Batch b) batch.items) 0 (take l.b l.batches))

@@ -1,7 +1,0 @@
--- The texts of the elements of lists.
-use Rattle.std.specs.Prelude.{ℕ, suc, List, [], ◌∷◌, ◌++◌}
-
--- the texts of a list's elements, one after the other; the first element has the number n
-abbrev pub numbered : {X : Type 0} → (ℕ → X → List ℕ) → ℕ → List X → List ℕ
-numbered text n [] = []
-numbered text n (x ∷ xs) = text n x ++ numbered text (suc n) xs

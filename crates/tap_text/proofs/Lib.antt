@@ -1,0 +1,9 @@
+mod Words
+mod Fielded
+mod Keeping
+mod FirstBad
+mod Answering
+mod Cursors
+mod Rejecting
+mod Putting
+mod Agreeing

@@ -1,0 +1,24 @@
+use Rattle.std.proofs.Common.{◌∙◌, subst}
+use Rattle.std.proofs.lemmas.Result.{err_from_is_err_and}
+use Rattle.std.specs.Io.KnownBytes.{Appends}
+use Rattle.tap_text.specs.Printed.{listener_in, batches_in}
+use Rattle.line_text.specs.Sending.{TakesPart}
+use Rattle.line_text.proofs.Taking.{TakesPart-none, TakesPart-more, Takes-then}
+use Rattle.tap_text.proofs.report.write_read.Goals as goal
+
+pub returns-in_err-put_listener : goal.returns-in_err-put_listener
+returns-in_err-put_listener g c =
+    let p = err_from_is_err_and c.from_residual.result c.from_residual.ensures.1 in
+    rw p.1 (TakesPart-none _ _)
+
+pub returns-in_err-send : goal.returns-in_err-send
+returns-in_err-send g c =
+    let p = err_from_is_err_and c.from_residual-in_err-send.result c.from_residual-in_err-send.ensures.1 in
+    let text = c.as_bytes.ensures ∙ c.in_ok-put_listener.ensures in
+    rw p.1 (TakesPart-more _ _ (listener_in c.args.form c.args.l c.args.report.now) (batches_in c.args.form c.args.l c.args.report.now) (subst (TakesPart _ _) text c.in_err-send.ensures))
+
+pub returns : goal.returns
+returns g c =
+    let text = c.as_bytes.ensures ∙ c.in_ok-put_listener.ensures in
+    Takes-then _ _ _ (listener_in c.args.form c.args.l c.args.report.now) (batches_in c.args.form c.args.l c.args.report.now) _
+    (subst (Appends _ _) text c.in_ok-send.ensures) (rw c.as_slice.ensures.value at c.write_batches.ensures)

@@ -1,0 +1,9 @@
+pub mod Listeners
+pub mod Script
+pub mod Plans
+pub mod Laws
+pub mod Reasons
+pub mod Members
+pub mod Rejections
+pub mod Answers
+pub mod Printed
