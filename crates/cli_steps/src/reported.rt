@@ -1,5 +1,9 @@
 //! The faults of a replay, as values that are reported.
 
+ghost use Rattle.std.specs.Prelude.{◌≡◌, None};
+ghost use Rattle.line_text.specs.Faults.{fault_line, line_fault_name};
+ghost use Rattle.fault_report.specs.Words.{one_word, place_word};
+
 use crate::steps::Replayed;
 use fault_report::captures::{device, nth_capture_fault};
 use fault_report::reporting::report;
@@ -9,12 +13,12 @@ use std::io;
 use tap::Fault;
 
 /// The first bad line of LISTENERS or of SCRIPT.
-pub(crate) fn line_fault(fault: LineFault) -> Report<'static> {
-    match fault {
-        LineFault::Listeners(line) => Report::placed("Listeners", Word::count(line)),
-        LineFault::Script(line) => Report::placed("Script", Word::count(line)),
-        LineFault::NoMemory => Report::named("NoMemory"),
-    }
+pub(crate) fn line_fault(fault: LineFault) -> Report<'static>
+    ensures name { result.name.now ≡ line_fault_name fault }
+    ensures words { result.words ≡ one_word (place_word (fault_line fault)) }
+    ensures subject { result.subject ≡ None }
+{
+    Report::placed(fault.name(), Word::place(fault.line()))
 }
 
 /// Why there is no replay of the captures at these paths.

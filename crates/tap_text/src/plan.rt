@@ -4,7 +4,7 @@ ghost use Rattle.std.specs.Prelude.{IfOk, IfErr};
 ghost use Rattle.line_text.specs.Files.{IsFileOf};
 ghost use Rattle.tap_text.specs.Listeners.{AreFirstOf};
 ghost use Rattle.tap_text.specs.Script.{IsStepLine};
-ghost use Rattle.tap_text.specs.Stepping.{IsRefusedFiles};
+ghost use Rattle.tap_text.specs.Plans.{IsRefusedFiles};
 
 use crate::listeners::read_listeners;
 use crate::script::read_script;

@@ -1,12 +1,14 @@
-//! The callers that the pages of `cli_text`, `tap_steps`, `cli_steps` and `tap_picture` show, crates/NAME/README.md.
+//! The callers that the pages of `line_text`, `cli_text`, `tap_steps`, `tap_text`, `cli_steps` and `tap_picture` show, crates/NAME/README.md.
 
 use crate::same::same;
-use tap_text::script::read_script;
 use cli_steps::steps::steps;
+use cli_text::Status;
+use cli_text::report::{fault_status, report_line};
 use line_text::fields::{first_line, number, split_once};
 use line_text::sending::send;
 use line_text::{Line, LineFault};
 use listener::Mode;
+use savefile::Fault;
 use std::alloc::Global;
 use std::io;
 use std::io::Write;
@@ -14,6 +16,7 @@ use std::process::Abort;
 use tap::{Filter, Spec, Step, trace};
 use tap_picture::write_picture;
 use tap_steps::{MAX_CAPTURES, PlaylistFault, read_playlist};
+use tap_text::script::read_script;
 use test_fixtures::captures::{HEADER, TCP, UDP, concat};
 
 /// The port of a line `NAME PORT`.
@@ -37,6 +40,17 @@ fn print_ports<O: Write>(text: &[u8], out: &mut O) -> io::Result<()> {
         rest = after;
     }
     Ok(())
+}
+
+/// Reports the fault of a capture, if it has one, and returns the exit status.
+fn end<E: Write>(read: Result<(), Fault>, err: &mut E) -> io::Result<Status> {
+    match read {
+        Ok(()) => Ok(Status::Clean),
+        Err(fault) => {
+            report_line(fault, err)?;
+            Ok(fault_status(fault))
+        }
+    }
 }
 
 /// How many packets captures have for steps, nothing where the captures are too many.
@@ -98,6 +112,16 @@ fn ports_are_printed_line_by_line(rt: HostRuntime) {
     print_ports(text, &mut out).expect(&rt, "memory");
     let ports = b"port 80\nno port\nno port\nport 7\n";
     same(&rt, out.as_slice(), ports.as_slice());
+}
+
+#[test]
+fn a_fault_of_a_capture_is_reported(rt: HostRuntime) {
+    let mut err: Vec<u8> = Vec::new(rt.alloc());
+    let status = end(Err(Fault::TornRecord(59)), &mut err).expect(&rt, "memory");
+    assert!(rt; status == Status::Damaged);
+    same(&rt, err.as_slice(), b"bpftap: TornRecord 59\n".as_slice());
+    let status = end(Ok(()), &mut err).expect(&rt, "memory");
+    assert!(rt; status == Status::Clean);
 }
 
 #[test]

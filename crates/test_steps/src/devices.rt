@@ -1,9 +1,9 @@
 //! `bpftap steps` into an output that takes all and sends nothing on.
 
 use crate::same::same;
-use tap_text::plan::{StepsPlan, read_plan};
 use cli_steps::steps::{Detail, play_plan};
 use std::process::Abort;
+use tap_text::plan::{StepsPlan, read_plan};
 use test_fixtures::captures::{HEADER, bytes_of};
 use test_fixtures::devices::UnflushedWriter;
 
