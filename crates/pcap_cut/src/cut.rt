@@ -6,7 +6,7 @@ ghost use Rattle.savefile.specs.Savefile.{IsWritable};
 ghost use Rattle.savefile.specs.declared.header.Header.{Header};
 ghost use Rattle.savefile.specs.declared.packet.Packet.{Packet};
 ghost use Rattle.savefile.specs.declared.writing.Writer.{Writer};
-ghost use Rattle.savefile.specs.Reader.{HasGiven};
+ghost use Rattle.savefile.specs.Reader.{HasGiven, HasRecord};
 ghost use Rattle.savefile.specs.Writer.{HasWritten};
 ghost use Rattle.pcap_cut.specs.Copying.{Copied, Wrote};
 ghost use Rattle.pcap_cut.specs.Cut.{accepts, accepted};
@@ -63,7 +63,7 @@ pub struct CutEnd<R, W> {
 /// Of a packet it keeps as many bytes as the least of the snapshot length, the program's answer and the captured length;
 /// its time and its original length stay. The new header has the snapshot length, and 0 means 262,144. The capture is a
 /// savefile of pcap-savefile(5), in any byte order and unit; it is written in those given. Each packet is written before
-/// the next one is read.
+/// the next one is read, and the sink is flushed whenever the source has to be asked for the next one.
 ///
 /// The end is [`End::Clean`] if the whole capture was read and written. It is [`End::Input`]
 ///
@@ -179,6 +179,7 @@ fn copy_accepted<R: Source, W: Sink>(
 {
     let mut tally = Tally::NONE;
     loop {
+        flush_unless_ahead(reader, writer);
         match reader.advance() {
             Ok(true) => {
                 // If the sink breaks, what was read so far begins what the capture holds.
@@ -191,6 +192,20 @@ fn copy_accepted<R: Source, W: Sink>(
             Ok(false) => return (tally, End::Clean),
             Err(fault) => return (tally, End::Input(fault)),
         }
+    }
+}
+
+/// Lets the sink hand on what it has gathered, unless the reader gives the next packet without asking its source. So whoever reads along
+/// has all that was accepted while the source is waited for, and a file is written in large pieces.
+#[inline(always)]
+fn flush_unless_ahead<R: Source, W: Sink>(reader: &Reader<R>, writer: &mut Writer<W>)
+    ensures written { (start : Option (List ℕ)) (order : Order) (unit : Unit) (head : ℕ) (packets : List Packet) →
+        HasWritten W.taken start order unit head packets writer.old → HasWritten W.taken start order unit head packets writer.new }
+    ensures failures { W.failures writer.new.sink ≡ W.failures writer.old.sink }
+    ensures ahead { HasRecord reader.now.header reader.now.ahead → writer.new ≡ writer.old }
+{
+    if !reader.is_ahead() {
+        writer.flush();
     }
 }
 

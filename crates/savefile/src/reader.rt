@@ -1,10 +1,10 @@
 //! Reading a savefile, packet by packet.
 
-ghost use Rattle.std.specs.Prelude.{◌≡◌, ◌≢◌, ℕ, List, [], ◌∷◌, ◌++◌, Option, None, true, false, ◌+◌, ◌-◌, ◌^◌, ◌<◌, ◌≤◌, ◌↔◌, ◌⊎◌, length, IfOk, IfErr, IfSome, MatchOption, MatchResult};
+ghost use Rattle.std.specs.Prelude.{◌≡◌, ◌≢◌, ℕ, List, [], ◌∷◌, ◌++◌, Option, None, true, false, ◌+◌, ◌-◌, ◌^◌, ◌<◌, ◌≤◌, ◌↔◌, ◌⊎◌, length, IfOk, IfErr, IfSome, IsTrue, MatchOption, MatchResult};
 ghost use Rattle.std.specs.Io.KnownBytes.{Consumes, IsAtEnd};
 ghost use Rattle.savefile.specs.Ahead.{waiting_in, Grows};
 ghost use Rattle.savefile.specs.Savefile.{number_in, IsHeader, IsRecord, IsWritable, RefusesHeader};
-ghost use Rattle.savefile.specs.Reader.{GoesOn, HasEnded, HasFailed, HasGiven, IsCause, Leaves, LeavesNext, Lends, WasBegun, WasRead, WasRefused};
+ghost use Rattle.savefile.specs.Reader.{GoesOn, HasEnded, HasFailed, HasGiven, HasRecord, IsCause, Leaves, LeavesNext, Lends, WasBegun, WasRead, WasRefused};
 ghost use Rattle.savefile.specs.Passing.{passed_packet, MeetsEnd, MeetsFault, Passes, PassesHeader};
 
 use crate::ahead::Ahead;
@@ -12,7 +12,7 @@ use crate::device::Source;
 use crate::fault::Fault;
 use crate::header::{HEADER_LEN, Header, header_of};
 use crate::packet::{Packet, PacketRef};
-use crate::record::{RECORD_HEADER_LEN, RecordHeader};
+use crate::record::{RECORD_HEADER_LEN, RecordHeader, record_of};
 use std::alloc::{AllocError, Global};
 use std::marker::Model;
 
@@ -207,6 +207,18 @@ impl<R: Source> Reader<R> {
                 self.state = State::Broken;
                 Err(fault)
             }
+        }
+    }
+
+    /// Whether the next record is whole, and a good one, in what was taken from the source already: then the next call gives its packet and
+    /// does not ask the source. So who gathers output can hand it on before the reader waits for more. No memory is taken.
+    #[inline(always)]
+    pub fn is_ahead(&self) -> bool
+        ensures { IsTrue result ↔ HasRecord self.now.header self.now.ahead }
+    {
+        match record_of(self.header, self.given, self.ahead.waiting()) {
+            Ok(Some(_)) => true,
+            _ => false,
         }
     }
 
