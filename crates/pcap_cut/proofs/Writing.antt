@@ -1,6 +1,8 @@
 -- How a writer goes on with one packet more.
 use Rattle.std.proofs.Common.{◌≡◌, ◌≢◌, ℕ, ◌+◌, ◌<◌, ◌≤◌, ◌^◌, ◌⊎◌, inl, inr, List, [], ◌∷◌, ◌++◌, length, min, take, ap, sym, ◌∙◌, arith, subst, Option, Result, Ok, Err, OnOk, OnErr, IfErr, length-append, true, false}
 use Rattle.std.proofs.lemmas.List.{append-nil}
+use Rattle.std.specs.Io.KnownBytes.{Keeps}
+use Rattle.std.proofs.KnownBytes.{Appends-kept}
 use Rattle.savefile.specs.declared.fault.Fault.{Fault}
 use Rattle.savefile.specs.declared.fault.Fault.TheVariants.{Device, CountFull, Failed}
 use Rattle.savefile.specs.declared.header.Order.{Order}
@@ -110,3 +112,14 @@ not-opened taken start order unit snap (Err why) fault w is broke only = (broke.
 -- numbers that do not differ are the same
 pub same-unless-different : (a b : ℕ) → (a ≢ b → ⊥) → a ≡ b
 same-unless-different a b h = grind (arith, h)
+
+-- the sink handed on what it had gathered
+pub flushed-goes-on : {W : Type 0} (taken : W → Option (List ℕ)) (start : Option (List ℕ)) (order : Order) (unit : TimeUnit) (snap : ℕ) (ps : List Packet) (old new : Writer W) →
+    (new.order ≡ old.order) × (new.unit ≡ old.unit) × (new.sent ≡ old.sent) × (new.failed ≡ old.failed) → Keeps (taken old.sink) (taken new.sink) →
+    HasWritten taken start order unit snap ps old → HasWritten taken start order unit snap ps new
+flushed-goes-on taken start order unit snap ps old new (order-stays, unit-stays, sent-stays, failed-stays) kept written = record {
+  sent = record { bytes = Appends-kept start (taken old.sink) (taken new.sink) _ written.sent.bytes kept; count = sent-stays ∙ written.sent.count };
+  works = failed-stays ∙ written.works;
+  in_order = order-stays ∙ written.in_order;
+  in_unit = unit-stays ∙ written.in_unit;
+}

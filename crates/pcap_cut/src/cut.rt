@@ -1,12 +1,12 @@
 //! A capture cut by a filter: the function under `bpftap cut`.
 
-ghost use Rattle.std.specs.Prelude.{◌≡◌, ◌≢◌, ℕ, List, [], ◌∷◌, ◌++◌, Option, Err, ◌↔◌, ◌+◌, ◌<◌, ◌≤◌, ◌^◌};
+ghost use Rattle.std.specs.Prelude.{◌≡◌, ◌≢◌, ℕ, List, [], ◌∷◌, ◌++◌, Option, None, true, false, Err, IfErr, ◌↔◌, ◌+◌, ◌<◌, ◌≤◌, ◌^◌};
 ghost use Rattle.std.specs.Io.KnownBytes.{Consumes};
 ghost use Rattle.savefile.specs.Savefile.{IsWritable};
 ghost use Rattle.savefile.specs.declared.header.Header.{Header};
 ghost use Rattle.savefile.specs.declared.packet.Packet.{Packet};
 ghost use Rattle.savefile.specs.declared.writing.Writer.{Writer};
-ghost use Rattle.savefile.specs.Reader.{HasGiven};
+ghost use Rattle.savefile.specs.Reader.{HasGiven, HasRecord, IsCause, Leaves, WasBegun, WasRead};
 ghost use Rattle.savefile.specs.Writer.{HasWritten};
 ghost use Rattle.pcap_cut.specs.Copying.{Copied, Wrote};
 ghost use Rattle.pcap_cut.specs.Cut.{accepts, accepted};
@@ -63,7 +63,7 @@ pub struct CutEnd<R, W> {
 /// Of a packet it keeps as many bytes as the least of the snapshot length, the program's answer and the captured length;
 /// its time and its original length stay. The new header has the snapshot length, and 0 means 262,144. The capture is a
 /// savefile of pcap-savefile(5), in any byte order and unit; it is written in those given. Each packet is written before
-/// the next one is read.
+/// the next one is read, and the sink is flushed whenever the source has to be asked for the next one.
 ///
 /// The end is [`End::Clean`] if the whole capture was read and written. It is [`End::Input`]
 ///
@@ -179,7 +179,7 @@ fn copy_accepted<R: Source, W: Sink>(
 {
     let mut tally = Tally::NONE;
     loop {
-        match reader.advance() {
+        match advance_flushed(reader, writer) {
             Ok(true) => {
                 // If the sink breaks, what was read so far begins what the capture holds.
                 given_so_far(reader);
@@ -192,6 +192,38 @@ fn copy_accepted<R: Source, W: Sink>(
             Err(fault) => return (tally, End::Input(fault)),
         }
     }
+}
+
+/// Goes on to the next packet, as [`Reader::advance`] does. Before the source is asked for it the sink hands on what it has gathered: so
+/// whoever reads along has all that was accepted while the source is waited for, and a file is written in large pieces.
+#[inline(always)]
+fn advance_flushed<R: Source, W: Sink>(
+    reader: &mut Reader<R>,
+    writer: &mut Writer<W>,
+) -> Result<bool, Fault>
+    ensures packet { (start : Option (List ℕ)) (header : Header) (packets : List Packet) → HasGiven R.left start header packets reader.old →
+        result ≡ Ok true → HasGiven R.left start header (packets ++ reader.new.lent ∷ []) reader.new }
+    ensures end { (start : Option (List ℕ)) (header : Header) (packets : List Packet) → HasGiven R.left start header packets reader.old →
+        result ≡ Ok false → WasRead start header packets None }
+    ensures cause { (start : Option (List ℕ)) (header : Header) (packets : List Packet) → HasGiven R.left start header packets reader.old →
+        IfErr result (IsCause start (R.left reader.new.source) header packets) }
+    ensures so_far { (start : Option (List ℕ)) (header : Header) (packets : List Packet) → HasGiven R.left start header packets reader.old →
+        WasBegun start header packets }
+    ensures writable { result ≡ Ok true → IsWritable reader.new.lent }
+    ensures device { (result ≡ Err Fault.Device) ↔ (R.failures reader.new.source ≢ R.failures reader.old.source) }
+    ensures leaves { Leaves reader.old reader.new result }
+    ensures taken { (bytes : List ℕ) × Consumes (R.left reader.old.source) (R.left reader.new.source) bytes }
+    // What was written stays, and while a record waits nothing is handed on.
+    ensures written { (start : Option (List ℕ)) (order : Order) (unit : Unit) (head : ℕ) (packets : List Packet) →
+        HasWritten W.taken start order unit head packets writer.old → HasWritten W.taken start order unit head packets writer.new }
+    ensures sink_works { W.failures writer.new.sink ≡ W.failures writer.old.sink }
+    ensures ahead { HasRecord reader.old.header reader.old.ahead → writer.new ≡ writer.old }
+{
+    if reader.advance_ahead() {
+        return Ok(true);
+    }
+    writer.flush();
+    reader.advance()
 }
 
 /// Writes a packet, cut, if a program accepts it, as [`cut`] does, and counts it: one step of a cut, for callers that read

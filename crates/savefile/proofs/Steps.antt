@@ -1,5 +1,5 @@
 -- The steps of a reader.
-use Rattle.std.proofs.Common.{◌≡◌, ◌≢◌, ◌↔◌, ℕ, ◌+◌, ◌-◌, ◌*◌, ◌%◌, ◌^◌, ◌<◌, ◌≤◌, ◌⊎◌, inl, inr, Bool, true, false, cond, List, [], ◌++◌, length, take, drop, Option, Some, None, IfSome, Result, Err, nat_lt, nat_le, ◌==◌, refl, sym, ap, subst, ◌∙◌, append_assoc, arith, length-append, length-take}
+use Rattle.std.proofs.Common.{◌≡◌, ◌≢◌, ◌↔◌, ℕ, zero, suc, ◌+◌, ◌-◌, ◌*◌, ◌%◌, ◌^◌, ◌<◌, ◌≤◌, ◌⊎◌, inl, inr, Bool, true, false, cond, List, [], ◌∷◌, ◌++◌, length, take, drop, Option, Some, None, IfSome, Result, Err, nat_lt, nat_le, ◌==◌, refl, sym, ap, subst, ◌∙◌, append_assoc, arith, length-append, length-take}
 use Rattle.std.proofs.KnownBytes.{Consumes-trans}
 use Rattle.std.proofs.lemmas.Bool.{eqb-true, le-ltb, lt-leb, lt-ltb, ne_eqb}
 use Rattle.std.proofs.lemmas.List.{append-nil, nil_from_length}
@@ -208,3 +208,28 @@ record_stands order unit text lent after h r whole is follows =
       bytes = ap (λ (n : ℕ). take n (drop 16 text)) many ∙ sym is;
       follows = ap (λ (n : ℕ). drop (16 + n) text) many ∙ sym follows;
     }
+
+-- as many items as were taken are those
+take_taken : (n : ℕ) (xs : List ℕ) → take (length (take n xs)) xs ≡ take n xs
+take_taken zero xs = refl
+take_taken (suc n) [] = refl
+take_taken (suc n) (x ∷ xs) = ap (λ (t : List ℕ). x ∷ t) (take_taken n xs)
+
+-- a record that was found in what waits is passed, and its bytes are lent
+pub record_found : (order : Order) (unit : TimeUnit) (seen text lent after : List ℕ) (p : Packet) → IsRecord order unit seen p (drop (16 + length p.bytes) seen)
+    → seen ≡ text → lent ≡ take (length p.bytes) (drop 16 text) → after ≡ drop (16 + length p.bytes) text
+    → IsRecord order unit (text ++ []) (packet p.sec p.nanos p.len lent) after
+record_found order unit seen text lent after p found is lends follows =
+    let r : IsRecord order unit text p (drop (16 + length p.bytes) text) = subst (λ (t : List ℕ). IsRecord order unit t p (drop (16 + length p.bytes) t)) is found in
+    let same : lent ≡ p.bytes = lends ∙ ap (λ (b : List ℕ). take (length b) (drop 16 text)) (sym r.bytes) ∙ take_taken (captured order text) (drop 16 text) ∙ r.bytes in
+    subst (λ (t : List ℕ). IsRecord order unit t (packet p.sec p.nanos p.len lent) after) (sym (append-nil text)) (record {
+      size = r.size;
+      seconds = r.seconds;
+      below_a_second = r.below_a_second;
+      nanos = r.nanos;
+      short = r.short;
+      on_the_wire = r.on_the_wire;
+      whole = r.whole;
+      bytes = r.bytes ∙ sym same;
+      follows = r.follows ∙ sym follows;
+    })

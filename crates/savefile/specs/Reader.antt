@@ -5,7 +5,7 @@ use Rattle.savefile.specs.declared.fault.Fault.{Fault}
 use Rattle.savefile.specs.declared.fault.Fault.TheVariants.{CountFull, Device, Failed}
 use Rattle.savefile.specs.declared.header.Header.{Header}
 use Rattle.savefile.specs.declared.packet.Packet.{Packet}
-use Rattle.savefile.specs.Savefile.{Holds, IsSavefile, NoRecord, RefusesHeader}
+use Rattle.savefile.specs.Savefile.{Holds, IsRecord, IsSavefile, NoRecord, RefusesHeader}
 
 -- ---- A reader as contracts see it
 
@@ -40,6 +40,10 @@ HasFailed r = r.failed ≡ true
 -- it lends a packet: it has given one and goes on
 abbrev pub Lends : {R : Type 0} → Reading R → Type 0
 Lends r = GoesOn r × (0 < r.given)
+
+-- a text begins with a record, as savefiles of this header have them
+abbrev pub HasRecord : Header → List ℕ → Type 0
+HasRecord header text = (p : Packet) × (after : List ℕ) × IsRecord header.order header.unit text p after
 
 -- ---- Whole readings
 

@@ -4,7 +4,7 @@ ghost use Rattle.std.specs.Prelude.{◌≡◌, ◌≢◌, ℕ, List, [], ◌∷�
 ghost use Rattle.std.specs.Io.KnownBytes.{Consumes, IsAtEnd};
 ghost use Rattle.savefile.specs.Ahead.{waiting_in, Grows};
 ghost use Rattle.savefile.specs.Savefile.{number_in, IsHeader, IsRecord, IsWritable, RefusesHeader};
-ghost use Rattle.savefile.specs.Reader.{GoesOn, HasEnded, HasFailed, HasGiven, IsCause, Leaves, LeavesNext, Lends, WasBegun, WasRead, WasRefused};
+ghost use Rattle.savefile.specs.Reader.{GoesOn, HasEnded, HasFailed, HasGiven, HasRecord, IsCause, Leaves, LeavesNext, Lends, WasBegun, WasRead, WasRefused};
 ghost use Rattle.savefile.specs.Passing.{passed_packet, MeetsEnd, MeetsFault, Passes, PassesHeader};
 
 use crate::ahead::Ahead;
@@ -12,7 +12,7 @@ use crate::device::Source;
 use crate::fault::Fault;
 use crate::header::{HEADER_LEN, Header, header_of};
 use crate::packet::{Packet, PacketRef};
-use crate::record::{RECORD_HEADER_LEN, RecordHeader};
+use crate::record::{RECORD_HEADER_LEN, RecordHeader, record_of};
 use std::alloc::{AllocError, Global};
 use std::marker::Model;
 
@@ -104,6 +104,34 @@ fn read_record<R: Source>(
     }
     ahead.pass(RECORD_HEADER_LEN, captured);
     Ok(true)
+}
+
+/// Passes the record that comes next, if it is whole and a good one in what waits; its bytes are then lent.
+#[inline(always)]
+fn pass_record<R: Source>(
+    ahead: &mut Ahead<R>,
+    head: &mut RecordHeader,
+    header: Header,
+    place: u64,
+) -> bool
+    ensures packet { result ≡ true → Passes R.left header ahead.old ahead.new (passed_packet head.new ahead.new) }
+    ensures writable { result ≡ true → IsWritable (passed_packet head.new ahead.new) }
+    ensures source { ahead.new.source ≡ ahead.old.source }
+    ensures whole { (result ≡ true) ↔ HasRecord header (waiting_in ahead.old) }
+    ensures stays { result ≡ false → (ahead.new ≡ ahead.old) × (head.new ≡ head.old) }
+{
+    let Ok(Some(packet)) = record_of(header, place, ahead.waiting()) else {
+        return false;
+    };
+    let captured = packet.bytes.len();
+    *head = RecordHeader {
+        sec: packet.sec,
+        nanos: packet.nanos,
+        captured: captured as u32,
+        len: packet.len,
+    };
+    ahead.pass(RECORD_HEADER_LEN, captured);
+    true
 }
 
 impl<R: Source> Reader<R> {
@@ -208,6 +236,36 @@ impl<R: Source> Reader<R> {
                 Err(fault)
             }
         }
+    }
+
+    /// Goes on to the next packet, as [`Reader::advance`] does, if its record is whole, and a good one, in what was taken from the source already.
+    /// Else it returns `false`, and nothing changed: a call of [`Reader::advance`] would ask the source, or return the end or a fault. So who
+    /// gathers output can hand it on before the reader waits for more. The source is not asked, and no memory is taken.
+    #[inline(always)]
+    pub fn advance_ahead(&mut self) -> bool
+        ensures packet { (start : Option (List ℕ)) (header : Header) (packets : List Packet) → HasGiven R.left start header packets self.old →
+            result ≡ true → HasGiven R.left start header (packets ++ self.new.lent ∷ []) self.new }
+        ensures writable { result ≡ true → IsWritable self.new.lent }
+        ensures leaves { result ≡ true → Leaves self.old self.new (Ok true) }
+        ensures source { self.new.source ≡ self.old.source }
+        ensures header { self.new.header ≡ self.old.header }
+
+        // When it goes on, and that it changes nothing if it does not.
+        ensures ahead { (result ≡ true) ↔ (GoesOn self.old × (self.old.given ≢ 2 ^ 64 - 1) × HasRecord self.old.header self.old.ahead) }
+        ensures stays { result ≡ false → self.new ≡ self.old }
+    {
+        let State::Reading = self.state else {
+            return false;
+        };
+        let Reader { header, given, .. } = *self;
+        if given == u64::MAX {
+            return false;
+        }
+        if !pass_record(&mut self.ahead, &mut self.record, header, given) {
+            return false;
+        }
+        self.given += 1;
+        true
     }
 
     /// Lends the packet that the latest call went on to: [`Reader::advance`], or [`Reader::next`], which gave a copy of it.

@@ -29,12 +29,12 @@ loop-reader-preserved g c = record {
   copies = λ from header to order unit head given written.
       let program = c.args.program.now in
       let (packets, gives, wrote, counted) = c.loop-reader.invariant.copies from header to order unit head given written in
-      let p = c.advance.new.self.lent in (
+      let p = c.advance_flushed.new.reader.lent in (
         packets ++ p ∷ [],
         c.in-Ok-true.ensures.packet from header packets gives (cc),
         subst (λ (ps : List Packet). HasWritten g.W.Sink.taken to order unit head ps c.put_accepted.new.writer)
             (ap (λ (q : Packet). accepted program c.args.snap packets ++ accepted program c.args.snap (q ∷ [])) c.packet.ensures ∙ sym (accepted-append program c.args.snap packets (p ∷ [])))
-            (c.in-Ok.ensures.writes to order unit head (accepted program c.args.snap packets) wrote),
+            (c.in-Ok.ensures.writes to order unit head (accepted program c.args.snap packets) (c.advance_flushed.ensures.written to order unit head (accepted program c.args.snap packets) wrote)),
         tally-more program packets p c.loop-reader.tally c.put_accepted.new.tally
             (subst (λ (q : Packet). c.put_accepted.new.tally ≡ tallied (accepts program q) c.loop-reader.tally) c.packet.ensures c.put_accepted.ensures.counts) counted,
       );
@@ -45,32 +45,34 @@ loop-reader-preserved g c = record {
       let (more, goes) = c.in-Ok-true.ensures.taken in
       (before ++ more, Consumes-trans _ _ _ before more took goes);
   source_works = same-unless-different _ _ (λ different. let broke = c.in-Ok-true.ensures.device.1 different in cc) ∙ c.loop-reader.invariant.source_works;
-  sink_works = same-unless-different _ _ (λ different. let broke = c.in-Ok.ensures.sink_broke.1 different in cc) ∙ c.loop-reader.invariant.sink_works;
+  sink_works = same-unless-different _ _ (λ different. let broke = c.in-Ok.ensures.sink_broke.1 different in cc) ∙ c.advance_flushed.ensures.sink_works ∙ c.loop-reader.invariant.sink_works;
 }
 
 pub returns-in-Err-put_accepted-clause-copies : goal.returns-in-Err-put_accepted-clause-copies
 returns-in-Err-put_accepted-clause-copies g c = λ from header to order unit head given written.
     let program = c.args.program.now in
     let (packets, gives, wrote, counted) = c.loop-reader.invariant.copies from header to order unit head given written in
-    let p = c.advance.new.self.lent in (
+    let p = c.advance_flushed.new.reader.lent in (
       packets ++ p ∷ [],
       c.given_so_far.ensures from header (packets ++ p ∷ []) (c.in-Ok-true.ensures.packet from header packets gives (cc)),
       subst (λ (ps : List Packet). Wrote g.W.Sink.taken to order unit head ps (Err c.in-Err-put_accepted.fault) c.put_accepted.new.writer)
           (ap (λ (q : Packet). accepted program c.args.snap packets ++ accepted program c.args.snap (q ∷ [])) c.packet.ensures ∙ sym (accepted-append program c.args.snap packets (p ∷ [])))
-          (c.in-Err-put_accepted.ensures.writes to order unit head (accepted program c.args.snap packets) wrote),
+          (c.in-Err-put_accepted.ensures.writes to order unit head (accepted program c.args.snap packets) (c.advance_flushed.ensures.written to order unit head (accepted program c.args.snap packets) wrote)),
     )
 
 pub returns-in-Ok-false-clause-copies : goal.returns-in-Ok-false-clause-copies
 returns-in-Ok-false-clause-copies g c = λ from header to order unit head given written.
+    let program = c.args.program.now in
     let (packets, gives, wrote, counted) = c.loop-reader.invariant.copies from header to order unit head given written in
-    (packets, c.in-Ok-false.ensures.end from header packets gives (cc), wrote, counted)
+    (packets, c.in-Ok-false.ensures.end from header packets gives (cc), c.advance_flushed.ensures.written to order unit head (accepted program c.args.snap packets) wrote, counted)
 
 pub returns-in-Err-clause-copies : goal.returns-in-Err-clause-copies
 returns-in-Err-clause-copies g c = λ from header to order unit head given written.
+    let program = c.args.program.now in
     let (packets, gives, wrote, counted) = c.loop-reader.invariant.copies from header to order unit head given written in
     let told = c.in-Err.ensures in (
       packets,
-      wrote,
+      c.advance_flushed.ensures.written to order unit head (accepted program c.args.snap packets) wrote,
       counted,
       elim (told.cause from header packets gives) [
         | inl read ↦ inl read
