@@ -6,7 +6,7 @@ use Rattle.bpfvm.specs.Machine.{Registers, Effect, Goes, Ends, effect_if, number
 use Rattle.bpfvm.specs.Validity.{is_return_code}
 use Rattle.filter_meaning.specs.declared.verdict.Verdict.TheVariants.{Abort}
 use Rattle.filter_meaning.specs.Meaning.{Packet, decided}
-use Rattle.filter_same.specs.declared.builder.Builder.{Builder}
+use Rattle.filter_symbols.specs.declared.symbol.Symbols.{Symbols}
 use Rattle.filter_same.specs.declared.known.Known.{Known}
 use Rattle.filter_same.specs.declared.known.Known.TheVariants.{Nothing, Number, Length, Bytes}
 use Rattle.filter_same.specs.declared.known.KnownRegisters.{KnownRegisters}
@@ -17,7 +17,7 @@ use Rattle.filter_same.specs.declared.spots.Spot.{Spot}
 use Rattle.filter_same.specs.declared.programs.Visited.{Visited}
 use Rattle.filter_same.specs.declared.programs.Visited.TheVariants as visited
 use Rattle.filter_bdd.specs.Fields.{by_order}
-use Rattle.filter_same.specs.Packets.{IsPacket, HasHeader, verdict_at}
+use Rattle.filter_symbols.specs.Packets.{IsPacket, HasHeader, verdict_at}
 use Rattle.filter_same.specs.Programs.{run_test}
 
 -- a number is as it is known to be
@@ -54,20 +54,20 @@ IsStepOf header known i o s =
     → IsEffect i (is_return_code o) r p (effect_if o p.captured p.wire i r) s
 
 -- node i says of each packet that has the header of a builder what a run over these instructions does, if this is known of the registers
-pub record Follows (b : Builder) (insns : List Insn) (known : KnownRegisters) (i : ℕ) : Type 0 where
-  pub inside : i < length b.diagrams
-  pub says : (p : Packet) → IsPacket p → HasHeader b.header p → (r : Registers) → AreKnown known p r → verdict_at b.diagrams i p ≡ run_test insns 0 r p
+pub record Follows (b : Symbols) (insns : List Insn) (known : KnownRegisters) (i : ℕ) : Type 0 where
+  pub inside : i < length b.words.diagrams
+  pub says : (p : Packet) → IsPacket p → HasHeader b.header p → (r : Registers) → AreKnown known p r → verdict_at b.words.diagrams i p ≡ run_test insns 0 r p
 
 -- the node of a spot
-abbrev pub IsNodeOf : Builder → List Insn → Spot → ℕ → Type 0
+abbrev pub IsNodeOf : Symbols → List Insn → Spot → ℕ → Type 0
 IsNodeOf b insns spot i = Follows b (drop spot.place insns) spot.known i
 
 -- each entry has a spot, and its node
-abbrev pub AreNodes : Builder → List Insn → List (Spot × ℕ) → Type 0
+abbrev pub AreNodes : Symbols → List Insn → List (Spot × ℕ) → Type 0
 AreNodes b insns [] = ⊤
 AreNodes b insns (e ∷ es) = IsNodeOf b insns e.0 e.1 × AreNodes b insns es
 
 -- what became of a spot: its node, or a spot that is to be visited first
-abbrev pub IsVisited : Builder → List Insn → Spot → Visited → Type 0
+abbrev pub IsVisited : Symbols → List Insn → Spot → Visited → Type 0
 IsVisited b insns spot (visited.Node i) = IsNodeOf b insns spot i
 IsVisited b insns spot (visited.First after) = ⊤

@@ -3,7 +3,7 @@
 ghost use Rattle.std.specs.Prelude.{◌≡◌, ◌<◌, IfOk, IfSome, IsTrue};
 ghost use Rattle.filter_meaning.specs.Meaning.{decided};
 ghost use Rattle.filter_same.specs.Filters.{filter_test, filter_accepts};
-ghost use Rattle.filter_same.specs.Packets.{Means, Extends};
+ghost use Rattle.filter_symbols.specs.Symbols.{SaysOf, Extends};
 ghost use Rattle.filter_same.specs.Programs.{ended, program_test};
 ghost use Rattle.filter_same.specs.Same.{packet, AcceptSame};
 
@@ -67,9 +67,9 @@ impl Filter<'_> {
         alloc: Global,
         budget: usize,
     ) -> Result<u32, Refusal>
-        requires { IfSome builder.old.header (λ n. n < 16) }
-        ensures means { IfOk result (Means builder.new (filter_test self.entry)) }
-        ensures extends { Extends builder.old builder.new }
+        requires { IfSome builder.old.symbols.header (λ n. n < 16) }
+        ensures means { IfOk result (SaysOf builder.new.symbols (filter_test self.entry)) }
+        ensures extends { Extends builder.old.symbols builder.new.symbols }
     {
         match self {
             Filter::Expression(expr) => builder.tree(expr),

@@ -20,7 +20,6 @@ mod relations;
 mod sameness;
 mod spots;
 mod steps;
-mod terms;
 mod trees;
 mod witness;
 

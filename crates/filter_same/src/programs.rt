@@ -3,7 +3,8 @@
 ghost use Rattle.std.specs.Prelude.{◌≡◌, ◌*◌, ◌^◌, ◌<◌, ◌≤◌, ℕ, length, nat_le, IfOk, IfSome, IsTrue, if◌then◌else◌};
 ghost use Rattle.filter_meaning.specs.declared.verdict.Verdict.TheVariants.{Abort};
 ghost use Rattle.filter_meaning.specs.Meaning.{Packet, decided};
-ghost use Rattle.filter_same.specs.Packets.{IsPacket, HasHeader, Means, Extends, verdict_at};
+ghost use Rattle.filter_symbols.specs.Packets.{IsPacket, HasHeader, verdict_at};
+ghost use Rattle.filter_symbols.specs.Symbols.{SaysOf, Extends};
 ghost use Rattle.filter_same.specs.Programs.{program_test};
 ghost use Rattle.filter_same.specs.Walks.{IsKnown, compares, AreNodes, IsVisited};
 
@@ -41,10 +42,10 @@ fn fits(size: u32, number: u32) -> bool
 impl Builder {
     /// Whether a number of which something is known compares as a condition asks.
     fn comparison(&mut self, condition: Condition) -> Result<u32, Refusal>
-        ensures says { IfOk result (λ i. (p : Packet) → IsPacket p → HasHeader self.old.header p → (x : ℕ) → IsKnown condition.known p x
-            → verdict_at self.new.diagrams i p ≡ decided (compares condition x)) }
-        ensures inside { IfOk result (λ i. i < length self.new.diagrams) }
-        ensures extends { Extends self.old self.new }
+        ensures says { IfOk result (λ i. (p : Packet) → IsPacket p → HasHeader self.old.symbols.header p → (x : ℕ) → IsKnown condition.known p x
+            → verdict_at self.new.symbols.words.diagrams i p ≡ decided (compares condition x)) }
+        ensures inside { IfOk result (λ i. i < length self.new.symbols.words.diagrams) }
+        ensures extends { Extends self.old.symbols self.new.symbols }
     {
         let number = condition.number;
         match condition.known {
@@ -62,12 +63,12 @@ impl Builder {
     /// A node that goes on at `yes` where a condition holds, and at `no` where it does not.
     #[tactic(auto, using(crate::proofs::Builders::extends_more, crate::proofs::Builders::inside_extended))]
     fn jump(&mut self, condition: Condition, yes: u32, no: u32) -> Result<u32, Refusal>
-        requires yes { yes < length self.old.diagrams }
-        requires no { no < length self.old.diagrams }
-        ensures says { IfOk result (λ i. (p : Packet) → IsPacket p → HasHeader self.old.header p → (x : ℕ) → IsKnown condition.known p x
-            → verdict_at self.new.diagrams i p ≡ (if compares condition x then verdict_at self.old.diagrams yes p else verdict_at self.old.diagrams no p)) }
-        ensures inside { IfOk result (λ i. i < length self.new.diagrams) }
-        ensures extends { Extends self.old self.new }
+        requires yes { yes < length self.old.symbols.words.diagrams }
+        requires no { no < length self.old.symbols.words.diagrams }
+        ensures says { IfOk result (λ i. (p : Packet) → IsPacket p → HasHeader self.old.symbols.header p → (x : ℕ) → IsKnown condition.known p x
+            → verdict_at self.new.symbols.words.diagrams i p ≡ (if compares condition x then verdict_at self.old.symbols.words.diagrams yes p else verdict_at self.old.symbols.words.diagrams no p)) }
+        ensures inside { IfOk result (λ i. i < length self.new.symbols.words.diagrams) }
+        ensures extends { Extends self.old.symbols self.new.symbols }
     {
         let holds = self.comparison(condition)?;
         Ok(self.choice(holds, yes, no)?)
@@ -76,11 +77,11 @@ impl Builder {
     /// A node that aborts where fewer bytes were captured, and else goes on at another one.
     #[tactic(auto, using(crate::proofs::Builders::extends_more, crate::proofs::Builders::inside_extended))]
     fn captured(&mut self, need: u32, rest: u32) -> Result<u32, Stop>
-        requires { rest < length self.old.diagrams }
-        ensures says { IfOk result (λ i. (p : Packet) → IsPacket p → HasHeader self.old.header p
-            → verdict_at self.new.diagrams i p ≡ (if nat_le need (length p.captured) then verdict_at self.old.diagrams rest p else Abort)) }
-        ensures inside { IfOk result (λ i. i < length self.new.diagrams) }
-        ensures extends { Extends self.old self.new }
+        requires { rest < length self.old.symbols.words.diagrams }
+        ensures says { IfOk result (λ i. (p : Packet) → IsPacket p → HasHeader self.old.symbols.header p
+            → verdict_at self.new.symbols.words.diagrams i p ≡ (if nat_le need (length p.captured) then verdict_at self.old.symbols.words.diagrams rest p else Abort)) }
+        ensures inside { IfOk result (λ i. i < length self.new.symbols.words.diagrams) }
+        ensures extends { Extends self.old.symbols self.new.symbols }
     {
         let enough = self.leaf(Answer::Final(need, true))?;
         self.both(enough, rest)
@@ -89,11 +90,11 @@ impl Builder {
     /// The node of a spot, or else a spot after it whose node is not known.
     #[tactic(auto, using(crate::proofs::Builders::extends_more, crate::proofs::Builders::extends_same, crate::proofs::Builders::inside_extended))]
     fn visit(&mut self, spots: &mut Spots, insns: &[Insn], spot: Spot) -> Result<Visited, Refusal>
-        requires header { IfSome self.old.header (λ n. n < 16) }
-        requires spots { AreNodes self.old insns.now spots.old }
-        ensures node { IfOk result (IsVisited self.new insns.now spot) }
-        ensures spots { IfOk result (λ v. AreNodes self.new insns.now spots.new) }
-        ensures extends { Extends self.old self.new }
+        requires header { IfSome self.old.symbols.header (λ n. n < 16) }
+        requires spots { AreNodes self.old.symbols insns.now spots.old }
+        ensures node { IfOk result (IsVisited self.new.symbols insns.now spot) }
+        ensures spots { IfOk result (λ v. AreNodes self.new.symbols insns.now spots.new) }
+        ensures extends { Extends self.old.symbols self.new.symbols }
     {
         if let Some(node) = spots.known(insns, spot) {
             return Ok(Visited::Node(node));
@@ -104,7 +105,7 @@ impl Builder {
         let insn = &insns[spot.place];
         let here = spot.read_by(insn);
         let next = spot.place + 1;
-        let step = step_of(self.header, here.known, insn)?;
+        let step = step_of(self.symbols.header, here.known, insn)?;
         match step {
             Step::On(passed, known) => {
                 let place = next + passed as usize;
@@ -143,8 +144,8 @@ impl Builder {
 
     /// The node of the first spot.
     fn whole(&self, spots: &Spots, insns: &[Insn]) -> Result<u32, Refusal>
-        requires { AreNodes self.now insns.now spots.now }
-        ensures { IfOk result (Means self.now (program_test insns.now)) }
+        requires { AreNodes self.now.symbols insns.now spots.now }
+        ensures { IfOk result (SaysOf self.now.symbols (program_test insns.now)) }
     {
         match spots.known(insns, START) {
             Some(node) => Ok(node),
@@ -161,9 +162,9 @@ impl Builder {
         program: &Program,
         budget: usize,
     ) -> Result<u32, Refusal>
-        requires { IfSome self.old.header (λ n. n < 16) }
-        ensures means { IfOk result (Means self.new (program_test program.now)) }
-        ensures extends { Extends self.old self.new }
+        requires { IfSome self.old.symbols.header (λ n. n < 16) }
+        ensures means { IfOk result (SaysOf self.new.symbols (program_test program.now)) }
+        ensures extends { Extends self.old.symbols self.new.symbols }
     {
         let insns = program.insns();
         let mut spots = Spots::new(alloc, budget);

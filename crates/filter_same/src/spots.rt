@@ -2,7 +2,7 @@
 
 ghost use Rattle.std.specs.Prelude.{◌≡◌, List, IfOk, IfSome, IsTrue, []};
 ghost use Rattle.bpfvm.specs.declared.insn.Insn.{Insn};
-ghost use Rattle.filter_same.specs.declared.builder.Builder.{Builder};
+ghost use Rattle.filter_symbols.specs.declared.symbol.Symbols.{Symbols};
 ghost use Rattle.bpfvm.specs.Machine.{Registers};
 ghost use Rattle.filter_meaning.specs.Meaning.{Packet};
 ghost use Rattle.filter_same.specs.Walks.{AreKnown, IsNodeOf, AreNodes};
@@ -85,7 +85,7 @@ impl Spots {
 
     /// The node of a spot that has nothing but what its instruction reads, if it was walked.
     fn node(&self, spot: Spot) -> Option<u32>
-        ensures { IfSome result (λ i. (b : Builder) → (insns : List Insn) → AreNodes b insns self.now
+        ensures { IfSome result (λ i. (b : Symbols) → (insns : List Insn) → AreNodes b insns self.now
             → IsNodeOf b insns spot i) }
     {
         let place = self.places.get(&spot).copied()?;
@@ -98,7 +98,7 @@ impl Spots {
 
     /// The node of a spot, if it was walked.
     pub fn known(&self, insns: &[Insn], spot: Spot) -> Option<u32>
-        ensures { IfSome result (λ i. (b : Builder) → AreNodes b insns.now self.now → IsNodeOf b insns.now spot i) }
+        ensures { IfSome result (λ i. (b : Symbols) → AreNodes b insns.now self.now → IsNodeOf b insns.now spot i) }
     {
         let insn = insns.get(spot.place)?;
         self.node(spot.read_by(insn))
@@ -107,7 +107,7 @@ impl Spots {
     /// Keeps the node of a spot, and returns it.
     pub fn keep(&mut self, spot: Spot, node: u32) -> Result<u32, Stop>
         ensures node { IfOk result (λ i. i ≡ node) }
-        ensures kept { IfOk result (λ i. (b : Builder) → (insns : List Insn) → AreNodes b insns self.old
+        ensures kept { IfOk result (λ i. (b : Symbols) → (insns : List Insn) → AreNodes b insns self.old
             → IsNodeOf b insns spot node → AreNodes b insns self.new) }
     {
         let place = self.nodes.len();

@@ -5,7 +5,7 @@ ghost use Rattle.bpfvm.specs.Codes.{Accumulator, Index, AnyBit, operation_of};
 ghost use Rattle.bpfvm.specs.Machine.{Registers, Goes, loaded, number_at, holds};
 ghost use Rattle.filter_meaning.specs.Meaning.{Packet};
 ghost use Rattle.filter_bdd.specs.Fields.{by_order};
-ghost use Rattle.filter_same.specs.Packets.{IsPacket, HasHeader};
+ghost use Rattle.filter_symbols.specs.Packets.{IsPacket, HasHeader};
 ghost use Rattle.filter_same.specs.Walks.{IsKnown, AreKnown, IsEffect, IsStepOf};
 
 use crate::builder::Refusal;
