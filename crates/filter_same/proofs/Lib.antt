@@ -7,3 +7,5 @@ pub mod Runs
 pub mod Walks
 pub mod Accepting
 pub mod Layers
+pub mod Codes
+pub mod Instructions

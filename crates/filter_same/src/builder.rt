@@ -11,38 +11,6 @@ use filter_symbols::Symbols;
 use filter_tree::Direction;
 use std::alloc::Global;
 
-/// Why no node was made.
-#[derive(Clone, Copy, Debug, PartialEq, Eq)]
-pub(crate) enum Refusal {
-    /// Memory was refused.
-    Memory,
-    /// The budget is spent.
-    Budget,
-    /// A relation, or what a program compares, is nothing that can be tested.
-    Relation,
-    /// The header length is asked for, and not known.
-    Header,
-}
-
-impl From<Stop> for Refusal {
-    fn from(stop: Stop) -> Refusal {
-        match stop {
-            Stop::Memory => Refusal::Memory,
-            Stop::Budget => Refusal::Budget,
-        }
-    }
-}
-
-impl From<filter_symbols::Refusal> for Refusal {
-    fn from(refusal: filter_symbols::Refusal) -> Refusal {
-        match refusal {
-            filter_symbols::Refusal::Memory => Refusal::Memory,
-            filter_symbols::Refusal::Budget => Refusal::Budget,
-            filter_symbols::Refusal::Header => Refusal::Header,
-        }
-    }
-}
-
 /// Makes nodes that say what tests say of packets, of those whose IPv4 header has so many words if that is given.
 #[derive(Drop)]
 pub(crate) struct Builder {

@@ -8,10 +8,11 @@ ghost use Rattle.filter_symbols.specs.Symbols.{SaysOf, Extends};
 ghost use Rattle.filter_same.specs.Filters.{filter_test};
 ghost use Rattle.filter_same.specs.Findings.{ClaimOf, ClaimsOf, Claims, HoldsUnlessNo, AcceptsAlike, AreNotApart};
 
-use crate::builder::{Builder, Refusal};
+use crate::builder::Builder;
 use crate::filters::Filter;
 use crate::witness::{Extent, Witness};
 use filter_bdd::{Answer, Budget, Operation, Stop};
+use filter_symbols::Refusal;
 use std::alloc::Global;
 
 /// What is so of two filters. Each claim is so where the one before it is.
@@ -179,10 +180,9 @@ fn find(
     requires { IfSome header (λ n. n < 16) }
     ensures { IfOk result (λ found. ClaimsOf header (filter_test first.entry) (filter_test second.entry) found.claim) }
 {
-    let spots = budget.nodes;
     let mut builder = Builder::new(alloc, header, *budget);
-    let left = first.node(&mut builder, alloc, spots)?;
-    let right = second.node(&mut builder, alloc, spots)?;
+    let left = first.node(&mut builder, alloc)?;
+    let right = second.node(&mut builder, alloc)?;
     let found = builder.find(alloc, left, right)?;
     *budget = builder.symbols.words.diagrams.budget();
     Ok(found)

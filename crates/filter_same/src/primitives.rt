@@ -5,10 +5,11 @@ ghost use Rattle.filter_tree.specs.declared.tree.Primitive.TheVariants.{EtherHos
 ghost use Rattle.filter_meaning.specs.Meaning.{is_type, is_protocol, is_first_fragment_of, plain_test, by_direction, has_address, in_net, in_any_net, has_port, has_ports, has_any_ports, is_address, address_number, and_test, primitive_test};
 ghost use Rattle.filter_symbols.specs.Symbols.{SaysOf, Extends};
 
-use crate::builder::{Builder, Refusal};
+use crate::builder::Builder;
 use crate::fields::{AT_LEAST, AT_MOST, Bytes, GREATER};
 use filter_bdd::Stop;
 use filter_meaning::{ARP, IP, RARP, protocol_number};
+use filter_symbols::Refusal;
 use filter_tree::{Direction, EthernetAddress, Network, Plain, Primitive, Transport};
 
 /// The addresses of a net, and which side of a packet they are wanted on.

@@ -5,9 +5,10 @@ ghost use Rattle.filter_tree.specs.Trees.{amount_of};
 ghost use Rattle.filter_meaning.specs.Meaning.{in_layer, in_layers, relation_test};
 ghost use Rattle.filter_symbols.specs.Symbols.{SaysOf, Extends};
 
-use crate::builder::{Builder, Refusal};
+use crate::builder::Builder;
 use filter_bdd::{Answer, Stop};
 use filter_meaning::{ARP, IP, RARP};
+use filter_symbols::Refusal;
 use filter_tree::{Comparison, Layer, Value};
 
 impl Builder {

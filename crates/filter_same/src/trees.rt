@@ -5,8 +5,9 @@ ghost use Rattle.filter_tree.specs.Trees.{tree_of};
 ghost use Rattle.filter_meaning.specs.Meaning.{meaning, primitive_test};
 ghost use Rattle.filter_symbols.specs.Symbols.{SaysOf, Extends};
 
-use crate::builder::{Builder, Refusal};
+use crate::builder::Builder;
 use filter_bdd::Answer;
+use filter_symbols::Refusal;
 use filter_tree::Expr;
 
 impl Builder {

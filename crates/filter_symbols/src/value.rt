@@ -15,7 +15,7 @@ const NETWORK: u32 = 14;
 
 impl Symbols {
     /// A number.
-    fn number(&mut self, number: u32) -> Result<Symbol, Stop>
+    pub fn number(&mut self, number: u32) -> Result<Symbol, Stop>
         ensures stands { IfOk result (StandsFor self.new (λ p. Some number)) }
         ensures extends { Extends self.old self.new }
     {
@@ -25,7 +25,7 @@ impl Symbols {
     }
 
     /// The length on the wire.
-    fn wire_length(&mut self) -> Result<Symbol, Stop>
+    pub fn wire_length(&mut self) -> Result<Symbol, Stop>
         ensures stands { IfOk result (StandsFor self.new (λ p. Some p.wire)) }
         ensures extends { Extends self.old self.new }
     {
