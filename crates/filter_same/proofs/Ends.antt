@@ -17,9 +17,10 @@ use Rattle.filter_bdd.specs.Answers.{joined, accepted_from, agree_from, apart_an
 use Rattle.filter_bdd.specs.Diagrams.{answer, Gives, Grew}
 use Rattle.filter_bdd.specs.Fields.{by_order, number_of}
 use Rattle.filter_bdd.proofs.Tables.{grown-answer}
-use Rattle.filter_same.specs.declared.builder.Builder.{Builder}
+use Rattle.filter_symbols.specs.declared.symbol.Symbols.{Symbols}
 use Rattle.filter_same.specs.Same.{IsCaptured}
-use Rattle.filter_same.specs.Packets.{bit_of, verdict_of, verdict_at, IsPacket, HasHeader, Means, Extends}
+use Rattle.filter_symbols.specs.Packets.{bit_of, verdict_of, verdict_at, IsPacket, HasHeader}
+use Rattle.filter_symbols.specs.Symbols.{SaysOf, Extends}
 use Rattle.filter_same.specs.Findings.{KeepsNo, HoldsUnlessNo, AcceptsAlike, AreNotApart, ClaimOf, Claims, ClaimsOf}
 use Rattle.filter_same.proofs.Builders.{head-back, verdict-grown}
 use Rattle.filter_same.proofs.Bits.{wire-number, header-number}
@@ -196,46 +197,46 @@ never-no c a always said =
     let there : nat_le 0 c ≡ true = grind (arith, nat_tests) in
     absurd (let e : Yes ≡ No = sym (ap (λ t. if t then Yes else Abort) there) ∙ sym (ap (verdict_of c) always) ∙ said in let f : ⊥ = cc in f)
 
-pub agree-unless : (g h : Builder) (l r i : ℕ) → Extends g h → Gives h.diagrams (λ v. joined Agree (answer g.diagrams v l) (answer g.diagrams v r)) i
-    → (t u : Test) → Means g t l → Means g u r → HoldsUnlessNo h i (AcceptsAlike t u)
+pub agree-unless : (g h : Symbols) (l r i : ℕ) → Extends g h → Gives h.words.diagrams (λ v. joined Agree (answer g.words.diagrams v l) (answer g.words.diagrams v r)) i
+    → (t u : Test) → SaysOf g t l → SaysOf g u r → HoldsUnlessNo h i (AcceptsAlike t u)
 agree-unless g h l r i grew gives t u ml mr p ok head never =
     let c = length p.captured in
     let back = head-back g h p grew head in
     ap is_yes (sym (ml.says p ok back))
-    ∙ agreed c (answer g.diagrams (bit_of p) l) (answer g.diagrams (bit_of p) r) (λ said. never (ap (verdict_of c) (gives.says (bit_of p)) ∙ said))
+    ∙ agreed c (answer g.words.diagrams (bit_of p) l) (answer g.words.diagrams (bit_of p) r) (λ said. never (ap (verdict_of c) (gives.says (bit_of p)) ∙ said))
     ∙ ap is_yes (mr.says p ok back)
 
-pub apart-unless : (g h : Builder) (l r i : ℕ) → Extends g h → Gives h.diagrams (λ v. joined Apart (answer g.diagrams v l) (answer g.diagrams v r)) i
-    → (t u : Test) → Means g t l → Means g u r → HoldsUnlessNo h i (AreNotApart t u)
+pub apart-unless : (g h : Symbols) (l r i : ℕ) → Extends g h → Gives h.words.diagrams (λ v. joined Apart (answer g.words.diagrams v l) (answer g.words.diagrams v r)) i
+    → (t u : Test) → SaysOf g t l → SaysOf g u r → HoldsUnlessNo h i (AreNotApart t u)
 apart-unless g h l r i grew gives t u ml mr p ok head never apart =
     let c = length p.captured in
     let back = head-back g h p grew head in
     let one = ml.says p ok back in
     let two = mr.says p ok back in
-    let both : verdict_of c (joined Apart (answer g.diagrams (bit_of p) l) (answer g.diagrams (bit_of p) r)) ≡ No =
+    let both : verdict_of c (joined Apart (answer g.words.diagrams (bit_of p) l) (answer g.words.diagrams (bit_of p) r)) ≡ No =
     elim apart [
-      | inl x ↦ apart-no c (answer g.diagrams (bit_of p) l) (answer g.diagrams (bit_of p) r) (inl (one ∙ x.0, two ∙ x.1))
-      | inr x ↦ apart-no c (answer g.diagrams (bit_of p) l) (answer g.diagrams (bit_of p) r) (inr (one ∙ x.0, two ∙ x.1))
+      | inl x ↦ apart-no c (answer g.words.diagrams (bit_of p) l) (answer g.words.diagrams (bit_of p) r) (inl (one ∙ x.0, two ∙ x.1))
+      | inr x ↦ apart-no c (answer g.words.diagrams (bit_of p) l) (answer g.words.diagrams (bit_of p) r) (inr (one ∙ x.0, two ∙ x.1))
     ] in
     never (ap (verdict_of c) (gives.says (bit_of p)) ∙ both)
 
 -- in a builder that has more nodes
-pub unless-grown : (g h : Builder) (i : ℕ) (P : Packet → Type 0) → Extends g h → i < length g.diagrams → HoldsUnlessNo g i P → HoldsUnlessNo h i P
+pub unless-grown : (g h : Symbols) (i : ℕ) (P : Packet → Type 0) → Extends g h → i < length g.words.diagrams → HoldsUnlessNo g i P → HoldsUnlessNo h i P
 unless-grown g h i P grew inside x p ok head never = x p ok (head-back g h p grew head) (λ said. never (verdict-grown g h i p grew inside ∙ said))
 
 -- at a node that keeps each No of packets of which Q holds
-pub unless-kept : (g h : Builder) (i j : ℕ) (P Q : Packet → Type 0) → Extends g h → KeepsNo Q g.diagrams i h.diagrams j → HoldsUnlessNo g i P
+pub unless-kept : (g h : Symbols) (i j : ℕ) (P Q : Packet → Type 0) → Extends g h → KeepsNo Q g.words.diagrams i h.words.diagrams j → HoldsUnlessNo g i P
     → HoldsUnlessNo h j (λ p. Q p → P p)
 unless-kept g h i j P Q grew keeps x p ok head never q = x p ok (head-back g h p grew head) (λ said. never (keeps.says p ok q said))
 
-pub unless-header : (g h : Builder) (i j : ℕ) (P : Packet → Type 0) → Extends g h → KeepsNo (HasHeader g.header) g.diagrams i h.diagrams j → HoldsUnlessNo g i P → HoldsUnlessNo h j P
+pub unless-header : (g h : Symbols) (i j : ℕ) (P : Packet → Type 0) → Extends g h → KeepsNo (HasHeader g.header) g.words.diagrams i h.words.diagrams j → HoldsUnlessNo g i P → HoldsUnlessNo h j P
 unless-header g h i j P grew keeps x p ok head never = unless-kept g h i j P (HasHeader g.header) grew keeps x p ok head never (head-back g h p grew head)
 
 -- at a node that says Yes of everything
-pub unless-always : (g h : Builder) (i : ℕ) (P : Packet → Type 0) → Extends g h → ((v : ℕ → Bool) → answer h.diagrams v i ≡ Final 0 true) → HoldsUnlessNo h i P
+pub unless-always : (g h : Symbols) (i : ℕ) (P : Packet → Type 0) → Extends g h → ((v : ℕ → Bool) → answer h.words.diagrams v i ≡ Final 0 true) → HoldsUnlessNo h i P
     → (p : Packet) → IsPacket p → HasHeader g.header p → P p
 unless-always g h i P grew always x p ok head =
-    x p ok (subst (λ n. HasHeader n p) (sym grew.header) head) (never-no (length p.captured) (answer h.diagrams (bit_of p) i) (always (bit_of p)))
+    x p ok (subst (λ n. HasHeader n p) (sym grew.header) head) (never-no (length p.captured) (answer h.words.diagrams (bit_of p) i) (always (bit_of p)))
 
 -- ---- Each header length
 

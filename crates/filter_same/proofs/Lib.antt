@@ -2,8 +2,10 @@ pub mod Builders
 pub mod Bits
 pub mod Means
 pub mod Ends
-pub mod Loads
 pub mod States
 pub mod Runs
 pub mod Walks
 pub mod Accepting
+pub mod Layers
+pub mod Codes
+pub mod Instructions

@@ -13,9 +13,11 @@ use Rattle.filter_bdd.specs.declared.answer.Answer.{Answer}
 use Rattle.filter_bdd.specs.declared.answer.Answer.TheVariants.{Final}
 use Rattle.filter_bdd.specs.Diagrams.{answer, Gives}
 use Rattle.filter_bdd.specs.Fields.{number_of, by_order}
-use Rattle.filter_same.specs.declared.builder.Builder.{Builder}
-use Rattle.filter_same.specs.Packets.{bit_of, verdict_of, IsPacket, HasHeader, Means}
-use Rattle.filter_same.proofs.Bits.{field-number, field-below, wire-number}
+use Rattle.filter_symbols.specs.declared.symbol.Symbols.{Symbols}
+use Rattle.filter_symbols.specs.Packets.{bit_of, verdict_of, IsPacket, HasHeader}
+use Rattle.filter_symbols.specs.Symbols.{SaysOf}
+use Rattle.filter_symbols.proofs.Frames.{field-below}
+use Rattle.filter_same.proofs.Bits.{field-number, wire-number}
 
 -- ---- Fields
 
@@ -45,12 +47,12 @@ three need m n l e g less equal greater el ee eg =
     ∙ ap (λ a. by_order m n (Final need l) (Final need e) a) eg
     ∙ order-map (Final need) m n l e g
 
-pub means-field : (b : Builder) (i o n mask number : ℕ) (l e g : Bool) (less equal greater : Answer)
+pub means-field : (b : Symbols) (i o n mask number : ℕ) (l e g : Bool) (less equal greater : Answer)
     → less ≡ Final (o + n) l → equal ≡ Final (o + n) e → greater ≡ Final (o + n) g
     → number < 2 ^ (8 * n)
-    → Gives b.diagrams (λ v. by_order (number_of v (31 + 8 * (o + n)) mask (8 * n)) (number % 2 ^ (8 * n)) less equal greater) i
+    → Gives b.words.diagrams (λ v. by_order (number_of v (31 + 8 * (o + n)) mask (8 * n)) (number % 2 ^ (8 * n)) less equal greater) i
     → (f : ℕ → Bool) → ((x : ℕ) → x < 2 ^ (8 * n) → by_order (bit_and x mask) number l e g ≡ f x)
-    → Means b (λ p. check f (number_at p.captured o n)) i
+    → SaysOf b (λ p. check f (number_at p.captured o n)) i
 means-field b i o n mask number l e g less equal greater el ee eg small gives f same = record {
   inside = gives.inside;
   says = λ p ok head.
@@ -80,6 +82,9 @@ all-ones x size small less =
 pub order-equal : (m n : ℕ) → by_order m n false true false ≡ (m == n)
 order-equal m n = grind (arith, nat_tests)
 
+pub order-greater : (m n : ℕ) → by_order m n false false true ≡ nat_lt n m
+order-greater m n = grind (arith, nat_tests)
+
 pub order-at-least : (m n : ℕ) → by_order m n false true true ≡ nat_le n m
 order-at-least m n = grind (arith, nat_tests)
 
@@ -89,12 +94,12 @@ order-at-most m n = grind (arith, nat_tests)
 pub order-some : (m : ℕ) → by_order m 0 false false true ≡ not (m == 0)
 order-some m = grind (arith, nat_tests)
 
-pub means-wire : (b : Builder) (i number : ℕ) (l e g : Bool) (less equal greater : Answer)
+pub means-wire : (b : Symbols) (i number : ℕ) (l e g : Bool) (less equal greater : Answer)
     → less ≡ Final 0 l → equal ≡ Final 0 e → greater ≡ Final 0 g
     → number < 2 ^ 32
-    → Gives b.diagrams (λ v. by_order (number_of v 31 18446744073709551615 32) (number % 2 ^ 32) less equal greater) i
+    → Gives b.words.diagrams (λ v. by_order (number_of v 31 18446744073709551615 32) (number % 2 ^ 32) less equal greater) i
     → (f : ℕ → Bool) → ((x : ℕ) → by_order x number l e g ≡ f x)
-    → Means b (λ p. decided (f p.wire)) i
+    → SaysOf b (λ p. decided (f p.wire)) i
 means-wire b i number l e g less equal greater el ee eg small gives f same = record {
   inside = gives.inside;
   says = λ p ok head.
@@ -140,13 +145,13 @@ port-said p low high n offset header is head =
     ∙ ap (check (within low high)) (sym (half-behind p n offset (subst (λ h. HasHeader h p) is head)))
 
 -- an Ethernet address, by the number that it is
-pub means-address : (b : Builder) (octets : List ℕ) (o n i : ℕ) → n ≡ address_number octets
-    → Means b (λ p. check (λ x. x == n) (number_at p.captured o 6)) i → Means b (is_address octets o) i
-means-address b octets o n i is h = subst (λ m. Means b (λ p. check (λ x. x == m) (number_at p.captured o 6)) i) is h
+pub means-address : (b : Symbols) (octets : List ℕ) (o n i : ℕ) → n ≡ address_number octets
+    → SaysOf b (λ p. check (λ x. x == n) (number_at p.captured o 6)) i → SaysOf b (is_address octets o) i
+means-address b octets o n i is h = subst (λ m. SaysOf b (λ p. check (λ x. x == m) (number_at p.captured o 6)) i) is h
 
 -- an IPv4 address, by the numbers that it and its mask are
-pub means-masked : (b : Builder) (o n m address mask i : ℕ) → n ≡ address → m ≡ mask
-    → Means b (λ p. check (λ w. bit_and w m == n) (number_at p.captured o 4)) i → Means b (has_address address mask o) i
+pub means-masked : (b : Symbols) (o n m address mask i : ℕ) → n ≡ address → m ≡ mask
+    → SaysOf b (λ p. check (λ w. bit_and w m == n) (number_at p.captured o 4)) i → SaysOf b (has_address address mask o) i
 means-masked b o n m address mask i en em h =
-    subst (λ k. Means b (λ p. check (λ w. bit_and w mask == k) (number_at p.captured o 4)) i) en
-    (subst (λ k. Means b (λ p. check (λ w. bit_and w k == n) (number_at p.captured o 4)) i) em h)
+    subst (λ k. SaysOf b (λ p. check (λ w. bit_and w mask == k) (number_at p.captured o 4)) i) en
+    (subst (λ k. SaysOf b (λ p. check (λ w. bit_and w k == n) (number_at p.captured o 4)) i) em h)

@@ -1,51 +1,45 @@
 -- Programs that are walked.
-use Rattle.std.proofs.Common.{◌≡◌, ℕ, zero, suc, ◌+◌, ◌*◌, ◌^◌, ◌<◌, ◌≤◌, inl, inr, Bool, true, false, List, [], ◌∷◌, ◌++◌, length, take, drop, refl, sym, ap, ◌∙◌, arith, subst}
-use Rattle.std.specs.Prelude.{Option, Some, nat_lt, nat_le, bit_and, option_map, ◌==◌, if◌then◌else◌}
+use Rattle.std.proofs.Common.{◌≡◌, ℕ, zero, suc, ◌+◌, ◌<◌, inl, inr, Bool, true, false, List, [], ◌∷◌, ◌++◌, length, drop, refl, sym, ap, ◌∙◌, arith, subst}
+use Rattle.std.specs.Prelude.{Option, Some, None, IfSome, nat_lt, if◌then◌else◌, option_to_list}
 use Rattle.std.specs.List.{slice_get}
-use Rattle.std.proofs.lemmas.Bool.{cases_lt}
-use Rattle.std.proofs.lemmas.Bool.Decides.{nat_tests}
-use Rattle.std.proofs.lemmas.Nat.{and_assoc}
 use Rattle.std.proofs.lemmas.Option.{get_or_from_slice_get, slice_get_within}
 use Rattle.bpfvm.specs.declared.insn.Insn.{Insn}
-use Rattle.bpfvm.specs.Codes.{Accumulator, Index, operation_of}
-use Rattle.bpfvm.specs.Machine.{Registers, Goes, effect, loaded, with_value, number_at, big_endian, initial}
+use Rattle.bpfvm.specs.Codes.{operation_of}
+use Rattle.bpfvm.specs.Machine.{Registers, Goes, effect, initial}
+use Rattle.bpfvm.specs.Validity.{is_return_code}
 use Rattle.filter_meaning.specs.declared.verdict.Verdict.{Verdict}
 use Rattle.filter_meaning.specs.declared.verdict.Verdict.TheVariants.{Yes, Abort}
-use Rattle.filter_meaning.specs.Meaning.{Packet, Test, and_then, decided, check, and_test}
-use Rattle.filter_meaning.proofs.Numbers.{number-some, number-none}
-use Rattle.filter_bdd.specs.declared.answer.Answer.TheVariants.{Final}
-use Rattle.filter_same.specs.declared.fields.Bytes.{Bytes as FieldBytes}
-use Rattle.filter_same.specs.declared.known.Known.{Known}
-use Rattle.filter_same.specs.declared.known.Known.TheVariants.{Nothing, Number, Length, Bytes}
-use Rattle.filter_same.specs.declared.known.KnownRegisters.{KnownRegisters}
-use Rattle.filter_same.specs.declared.steps.Condition.{Condition}
-use Rattle.filter_same.specs.declared.steps.Step.{Step}
-use Rattle.filter_same.specs.declared.steps.Step.TheVariants.{On, Load, Branch, End}
+use Rattle.filter_meaning.specs.Meaning.{Packet, Test, and_then, and_test, decided}
+use Rattle.filter_symbols.specs.declared.symbol.Symbols.{Symbols}
+use Rattle.filter_symbols.specs.Packets.{verdict_at, IsPacket, HasHeader}
+use Rattle.filter_symbols.specs.Symbols.{SaysOf, Extends}
+use Rattle.filter_same.specs.declared.actions.Action.{Action}
+use Rattle.filter_same.specs.declared.state.State.{State}
 use Rattle.filter_same.specs.declared.spots.Spot.{Spot}
-use Rattle.filter_bdd.specs.Diagrams.{Gives}
-use Rattle.filter_bdd.specs.Fields.{by_order}
-use Rattle.filter_same.specs.declared.builder.Builder.{Builder}
-use Rattle.filter_same.specs.Packets.{bit_of, verdict_of, verdict_at, IsPacket, HasHeader, Means, Extends}
-use Rattle.filter_same.specs.Programs.{run_test, program_test}
-use Rattle.filter_same.specs.Walks.{IsKnown, AreKnown, IsEffect, IsStepOf, compares, Follows, IsNodeOf, AreNodes}
+use Rattle.filter_same.specs.declared.steps.Step.TheVariants.{On, Branch, End}
+use Rattle.filter_same.specs.Actions.{IsAction, effect_by, is_return}
+use Rattle.filter_same.specs.Programs.{ended, run_test, program_test}
+use Rattle.filter_same.specs.States.{AreWords, IsStateOf, IsPart, IsInitial}
+use Rattle.filter_same.specs.Walks.{IsStepOf, Follows, IsNodeOf, AreNodes, AreSpots}
 use Rattle.filter_same.proofs.Builders.{means-grown, verdict-grown, head-back, inside_extended}
-use Rattle.filter_same.proofs.Means.{all-ones}
-use Rattle.filter_same.proofs.Bits.{field-below}
 use Rattle.filter_same.proofs.Runs.{run-goes, run-ends}
+use Rattle.filter_same.proofs.States.{words_grown, state-back, state-on, part-words, part-state}
 
 -- ---- Spots
 
-follows-grown : (a b : Builder) (insns : List Insn) (known : KnownRegisters) (i : ℕ) → Extends a b → Follows a insns known i → Follows b insns known i
-follows-grown a b insns known i g h = record {
+follows-grown : (a b : Symbols) (insns : List Insn) (state : State) (i : ℕ) → Extends a b → Follows a insns state i → Follows b insns state i
+follows-grown a b insns state i g h = record {
   inside = inside_extended a b i g h.inside;
-  says = λ p ok head r is. verdict-grown a b i p g h.inside ∙ h.says p ok (head-back a b p g head) r is;
+  words = words_grown a.words.diagrams b.words.diagrams state g.grew h.words;
+  says = λ p ok head r is.
+      verdict-grown a b i p g h.inside ∙ h.says p ok (head-back a b p g head) r (state-back a.words.diagrams b.words.diagrams state p r g.grew h.words is);
 }
 
-pub nodes_grown : (a b : Builder) (insns : List Insn) (es : List (Spot × ℕ)) → Extends a b → AreNodes a insns es → AreNodes b insns es
+pub nodes_grown : (a b : Symbols) (insns : List Insn) (es : List (Spot × ℕ)) → Extends a b → AreNodes a insns es → AreNodes b insns es
 nodes_grown a b insns [] g h = tt
-nodes_grown a b insns (e ∷ es) g h = (follows-grown a b (drop e.0.place insns) e.0.known e.1 g h.0, nodes_grown a b insns es g h.1)
+nodes_grown a b insns (e ∷ es) g h = (follows-grown a b (drop e.0.place insns) e.0.state e.1 g h.0, nodes_grown a b insns es g h.1)
 
-pub node-at : (b : Builder) (insns : List Insn) (es : List (Spot × ℕ)) (place : ℕ) (e : Spot × ℕ) → AreNodes b insns es → slice_get es place ≡ Some e → IsNodeOf b insns e.0 e.1
+node-at : (b : Symbols) (insns : List Insn) (es : List (Spot × ℕ)) (place : ℕ) (e : Spot × ℕ) → AreNodes b insns es → slice_get es place ≡ Some e → IsNodeOf b insns e.0 e.1
 node-at b insns [] place e h found = absurd (omega (arith, slice_get_within [] place e found))
 node-at b insns (f ∷ es) zero e h found =
     let same : f ≡ e = get_or_from_slice_get (f ∷ es) 0 e f found in
@@ -53,254 +47,145 @@ node-at b insns (f ∷ es) zero e h found =
 node-at b insns (f ∷ es) (suc place) e h found = node-at b insns es place e h.1 found
 
 -- what was found is the node of the spot that it was walked for
-pub node-found : (b : Builder) (insns : List Insn) (es : List (Spot × ℕ)) (place : ℕ) (e : Spot × ℕ) (walked spot : Spot) (node : ℕ) → AreNodes b insns es → slice_get es place ≡ Some e
+pub node-found : (b : Symbols) (insns : List Insn) (es : List (Spot × ℕ)) (place : ℕ) (e : Spot × ℕ) (walked spot : Spot) (node : ℕ) → AreNodes b insns es → slice_get es place ≡ Some e
     → e.0 ≡ walked → e.1 ≡ node → walked ≡ spot → IsNodeOf b insns spot node
 node-found b insns es place e walked spot node h found first second same =
     subst (λ s. IsNodeOf b insns s node) (first ∙ same) (subst (IsNodeOf b insns e.0) second (node-at b insns es place e h found))
 
 -- a node is kept after the others
-nodes-push : (b : Builder) (insns : List Insn) (es : List (Spot × ℕ)) (k : Spot) (i : ℕ) → AreNodes b insns es → IsNodeOf b insns k i → AreNodes b insns (es ++ (k, i) ∷ [])
+nodes-push : (b : Symbols) (insns : List Insn) (es : List (Spot × ℕ)) (k : Spot) (i : ℕ) → AreNodes b insns es → IsNodeOf b insns k i → AreNodes b insns (es ++ (k, i) ∷ [])
 nodes-push b insns [] k i h n = (n, tt)
 nodes-push b insns (e ∷ es) k i h n = (h.0, nodes-push b insns es k i h.1 n)
 
-pub nodes-kept : (b : Builder) (insns : List Insn) (old new : List (Spot × ℕ)) (k : Spot) (i : ℕ)
+pub nodes-kept : (b : Symbols) (insns : List Insn) (old new : List (Spot × ℕ)) (k : Spot) (i : ℕ)
     → new ≡ old ++ (k, i) ∷ [] → AreNodes b insns old → IsNodeOf b insns k i → AreNodes b insns new
 nodes-kept b insns old new k i is h n = subst (AreNodes b insns) (sym is) (nodes-push b insns old k i h n)
 
--- ---- Steps
-
--- bytes that are loaded into a register
-pub load-effect : (i : Insn) (p : Packet) (r : Registers) (known after : KnownRegisters) (offset size : ℕ) → size ≤ 4 → IsPacket p → AreKnown known p r
-    → after.accumulator ≡ Bytes (record { offset = offset; size = size; mask = 18446744073709551615 }) → after.index ≡ known.index
-    → IsEffect i false r p (loaded Accumulator r (number_at p.captured offset size)) (Load (offset + size) after)
-load-effect i p r known after offset size small ok is acc idx = (
-  λ there.
-      let x = big_endian (take size (drop offset p.captured)) in
-      let some = number-some p.captured offset size there in (
-        with_value Accumulator x r,
-        ap (loaded Accumulator r) some,
-        record {
-          accumulator = subst (λ k. IsKnown k p x) (sym acc) (x, some, sym (all-ones x size (omega (arith, small)) (field-below p offset size ok there)));
-          index = subst (λ k. IsKnown k p r.index) (sym idx) is.index;
-        },
-      ),
-  λ short. (ap (loaded Accumulator r) (number-none p.captured offset size short), refl),
-)
-
--- a header length that is known
-pub header-effect : (i : Insn) (p : Packet) (r : Registers) (known after : KnownRegisters) (header : Option ℕ) (offset words : ℕ) → header ≡ Some words → offset ≡ 14 → HasHeader header p → AreKnown known p r
-    → after.accumulator ≡ known.accumulator → after.index ≡ Number (4 * words)
-    → IsEffect i false r p (loaded Index r (option_map (λ b. 4 * bit_and b 15) (number_at p.captured offset 1))) (Load 15 after)
-header-effect i p r known after header offset words h at head is acc idx = (
-  λ there.
-      let x = big_endian (take 1 (drop 14 p.captured)) in
-      let some : number_at p.captured 14 1 ≡ Some x = number-some p.captured 14 1 there in
-      let e : loaded Index r (option_map (λ b. 4 * bit_and b 15) (number_at p.captured offset 1)) ≡ Goes 0 (with_value Index (4 * bit_and x 15) r) =
-      ap (λ o. loaded Index r (option_map (λ b. 4 * bit_and b 15) (number_at p.captured o 1))) at ∙ ap (λ n. loaded Index r (option_map (λ b. 4 * bit_and b 15) n)) some in (
-        with_value Index (4 * bit_and x 15) r,
-        e,
-        record {
-          accumulator = subst (λ k. IsKnown k p r.accumulator) (sym acc) is.accumulator;
-          index = subst (λ k. IsKnown k p (4 * bit_and x 15)) (sym idx) (ap (λ n. 4 * n) (subst (λ o. HasHeader o p) h head x some));
-        },
-      ),
-  λ short. (
-    ap (λ o. loaded Index r (option_map (λ b. 4 * bit_and b 15) (number_at p.captured o 1))) at
-        ∙ ap (λ n. loaded Index r (option_map (λ b. 4 * bit_and b 15) n)) (number-none p.captured 14 1 short),
-    refl,
-  ),
-)
-
--- a value goes into a register
-pub set-accumulator : (known after : KnownRegisters) (value : Known) (p : Packet) (r : Registers) (n : ℕ) → after.accumulator ≡ value → after.index ≡ known.index
-    → AreKnown known p r → IsKnown value p n → AreKnown after p (with_value Accumulator n r)
-set-accumulator known after value p r n acc idx is new = record {
-  accumulator = subst (λ k. IsKnown k p n) (sym acc) new;
-  index = subst (λ k. IsKnown k p r.index) (sym idx) is.index;
+-- a node of a spot of which less is kept
+pub node-read : (b : Symbols) (insns : List Insn) (spot here : Spot) (i : ℕ) → here.place ≡ spot.place → IsPart spot.state here.state → AreWords b.words.diagrams spot.state
+    → IsNodeOf b insns here i → IsNodeOf b insns spot i
+node-read b insns spot here i same less words h = record {
+  inside = h.inside;
+  words = words;
+  says = λ p ok head r is.
+      h.says p ok head r (part-state b.words.diagrams spot.state here.state p r less is) ∙ ap (λ place. run_test (drop place insns) 0 r p) same;
 }
 
-pub set-index : (known after : KnownRegisters) (value : Known) (p : Packet) (r : Registers) (n : ℕ) → after.accumulator ≡ known.accumulator → after.index ≡ value
-    → AreKnown known p r → IsKnown value p n → AreKnown after p (with_value Index n r)
-set-index known after value p r n acc idx is new = record {
-  accumulator = subst (λ k. IsKnown k p r.accumulator) (sym acc) is.accumulator;
-  index = subst (λ k. IsKnown k p n) (sym idx) new;
-}
+-- ---- Spots that wait
 
--- nothing needs to be known of the accumulator
-pub forgotten : (known after : KnownRegisters) (p : Packet) (r : Registers) → after.accumulator ≡ Nothing → after.index ≡ known.index → AreKnown known p r → AreKnown after p r
-forgotten known after p r acc idx is = record {
-  accumulator = subst (λ k. IsKnown k p r.accumulator) (sym acc) tt;
-  index = subst (λ k. IsKnown k p r.index) (sym idx) is.index;
-}
+pub spots_grown : (a b : Symbols) (ss : List Spot) → Extends a b → AreSpots a.words.diagrams ss → AreSpots b.words.diagrams ss
+spots_grown a b [] g h = tt
+spots_grown a b (s ∷ ss) g h = (words_grown a.words.diagrams b.words.diagrams s.state g.grew h.0, spots_grown a b ss g h.1)
 
--- what is known of a number under a mask
-pub masked-number : (known : Known) (number mask : ℕ) (p : Packet) (n : ℕ) → known ≡ Number number → IsKnown known p n → bit_and n mask ≡ bit_and number mask
-masked-number known number mask p n is h = ap (λ m. bit_and m mask) (subst (λ k. IsKnown k p n) is h)
+spots-push : (b : Symbols) (ss : List Spot) (s : Spot) → AreSpots b.words.diagrams ss → AreWords b.words.diagrams s.state → AreSpots b.words.diagrams (ss ++ s ∷ [])
+spots-push b [] s h w = (w, tt)
+spots-push b (t ∷ ss) s h w = (h.0, spots-push b ss s h.1 w)
 
-pub masked-bytes : (known : Known) (bytes : FieldBytes) (mask wide : ℕ) (p : Packet) (n : ℕ) → known ≡ Bytes bytes → wide ≡ mask → IsKnown known p n
-    → IsKnown (Bytes (record { offset = bytes.offset; size = bytes.size; mask = bit_and bytes.mask wide })) p (bit_and n mask)
-masked-bytes known bytes mask wide p n is same h =
-    let h' = subst (λ k. IsKnown k p n) is h in
-    (h'.0, h'.1, ap (λ m. bit_and m mask) h'.2 ∙ and_assoc mask h'.0 bytes.mask ∙ ap (λ m. bit_and h'.0 (bit_and bytes.mask m)) (sym same))
+pub spots-pushed : (b : Symbols) (old new : List Spot) (s : Spot) → new ≡ old ++ s ∷ [] → AreSpots b.words.diagrams old → AreWords b.words.diagrams s.state → AreSpots b.words.diagrams new
+spots-pushed b old new s is h w = subst (AreSpots b.words.diagrams) (sym is) (spots-push b old s h w)
 
-pub any-bit : (x : ℕ) → by_order x 0 false false true ≡ (if x == 0 then false else true)
-any-bit x = grind (arith, nat_tests)
-
--- a step of a code that is known
-pub step-of-code : (header : Option ℕ) (known : KnownRegisters) (i : Insn) (code : ℕ) (s : Step) → i.code ≡ code
-    → IsStepOf header known i (operation_of code) s → IsStepOf header known i (operation_of i.code) s
-step-of-code header known i code s is h = subst (λ n. IsStepOf header known i (operation_of n) s) (sym is) h
-
--- ---- Nodes
-
--- a node says what it says
-itself : (a : Builder) (i : ℕ) → i < length a.diagrams → Means a (verdict_at a.diagrams i) i
-itself a i inside = record { inside = inside; says = λ p ok head. refl }
-
-pub captured-says : (g h k : Builder) (need enough rest i : ℕ) → Extends g h → Extends h k → rest < length g.diagrams → Gives h.diagrams (λ v. Final need true) enough
-    → ((t u : Test) → Means h t enough → Means h u rest → Means k (and_test t u) i)
-    → (p : Packet) → IsPacket p → HasHeader g.header p → verdict_at k.diagrams i p ≡ (if nat_le need (length p.captured) then verdict_at g.diagrams rest p else Abort)
-captured-says g h k need enough rest i grew more inside leaf both p ok head =
-    let whole = both (verdict_at h.diagrams enough) (verdict_at g.diagrams rest) (itself h enough leaf.inside) (means-grown g h (verdict_at g.diagrams rest) rest grew (itself g rest inside)) in
-    whole.says p ok (subst (λ n. HasHeader n p) (sym (more.header ∙ grew.header)) head)
-    ∙ ap (λ a. and_then (verdict_of (length p.captured) a) (verdict_at g.diagrams rest p)) (leaf.says (bit_of p))
-    ∙ elim (nat_le need (length p.captured)) as (λ t. and_then (if t then Yes else Abort) (verdict_at g.diagrams rest p) ≡ (if t then verdict_at g.diagrams rest p else Abort)) [ true ↦ refl | false ↦ refl ]
-
-pub jump-says : (g a k : Builder) (condition : Condition) (held failed holds i : ℕ) → Extends g a → held < length g.diagrams → failed < length g.diagrams
-    → ((p : Packet) → IsPacket p → HasHeader g.header p → (x : ℕ) → IsKnown condition.known p x → verdict_at a.diagrams holds p ≡ decided (compares condition x))
-    → ((p : Packet) → (b : Bool) → verdict_at a.diagrams holds p ≡ decided b
-    → verdict_at k.diagrams i p ≡ (if b then verdict_at a.diagrams held p else verdict_at a.diagrams failed p))
-    → (p : Packet) → IsPacket p → HasHeader g.header p → (x : ℕ) → IsKnown condition.known p x
-    → verdict_at k.diagrams i p ≡ (if compares condition x then verdict_at g.diagrams held p else verdict_at g.diagrams failed p)
-jump-says g a k condition held failed holds i grew held_in failed_in said chosen p ok head x is =
-    chosen p (compares condition x) (said p ok head x is)
-    ∙ ap (λ v. if compares condition x then v else verdict_at a.diagrams failed p) (verdict-grown g a held p grew held_in)
-    ∙ ap (λ v. if compares condition x then verdict_at g.diagrams held p else v) (verdict-grown g a failed p grew failed_in)
-
-pub comparison-bytes : (g k : Builder) (condition : Condition) (bytes : FieldBytes) (number i : ℕ) → Extends g k → condition.known ≡ Bytes bytes → number ≡ condition.number
-    → ((f : ℕ → Bool) → ((x : ℕ) → x < 2 ^ (8 * bytes.size) → by_order (bit_and x bytes.mask) number condition.holds.less condition.holds.equal condition.holds.greater ≡ f x)
-    → Means k (λ p. check f (number_at p.captured bytes.offset bytes.size)) i)
-    → (p : Packet) → IsPacket p → HasHeader g.header p → (x : ℕ) → IsKnown condition.known p x → verdict_at k.diagrams i p ≡ decided (compares condition x)
-comparison-bytes g k condition bytes number i grew is same test p ok head x known =
-    let h = subst (λ k. IsKnown k p x) is known in
-    let f : ℕ → Bool = λ y. compares condition (bit_and y bytes.mask) in
-    (test f (λ y less. ap (λ n. by_order (bit_and y bytes.mask) n condition.holds.less condition.holds.equal condition.holds.greater) same)).says p ok
-    (subst (λ n. HasHeader n p) (sym grew.header) head)
-    ∙ ap (check f) h.1
-    ∙ ap (λ n. decided (compares condition n)) (sym h.2)
-
-pub comparison-wire : (g k : Builder) (condition : Condition) (i : ℕ) → Extends g k → condition.known ≡ Length
-    → ((f : ℕ → Bool) → ((x : ℕ) → by_order x condition.number condition.holds.less condition.holds.equal condition.holds.greater ≡ f x) → Means k (λ p. decided (f p.wire)) i)
-    → (p : Packet) → IsPacket p → HasHeader g.header p → (x : ℕ) → IsKnown condition.known p x → verdict_at k.diagrams i p ≡ decided (compares condition x)
-comparison-wire g k condition i grew is test p ok head x known =
-    (test (compares condition) (λ y. refl)).says p ok (subst (λ n. HasHeader n p) (sym grew.header) head)
-    ∙ ap (λ n. decided (compares condition n)) (sym (subst (λ k. IsKnown k p x) is known))
+spots-pop : (b : Symbols) (ss : List Spot) (s : Spot) → AreSpots b.words.diagrams (ss ++ s ∷ []) → AreSpots b.words.diagrams ss × AreWords b.words.diagrams s.state
+spots-pop b [] s h = (tt, h.0)
+spots-pop b (t ∷ ss) s h = let rest = spots-pop b ss s h.1 in ((h.0, rest.0), rest.1)
 
 -- ---- Spots, by what their instructions do
 
--- a node of a spot of which less is known
-pub node-read : (b : Builder) (insns : List Insn) (spot here : Spot) (i : ℕ) → here.place ≡ spot.place
-    → ((p : Packet) (r : Registers) → AreKnown spot.known p r → AreKnown here.known p r) → IsNodeOf b insns here i → IsNodeOf b insns spot i
-node-read b insns spot here i same less h = record {
-  inside = h.inside;
-  says = λ p ok head r is. h.says p ok head r (less p r is) ∙ ap (λ place. run_test (drop place insns) 0 r p) same;
-}
-
--- the same, of a node that was kept
-pub kept-read : (b : Builder) (insns : List Insn) (spot here : Spot) (node i : ℕ) → here.place ≡ spot.place
-    → ((p : Packet) (r : Registers) → AreKnown spot.known p r → AreKnown here.known p r) → i ≡ node → IsNodeOf b insns here node → IsNodeOf b insns spot i
-kept-read b insns spot here node i same less is h = node-read b insns spot here i same less (subst (IsNodeOf b insns here) (sym is) h)
-
-pub walk-on : (g : Builder) (insns : List Insn) (here next : Spot) (insn : Insn) (passed rest : ℕ) → slice_get insns here.place ≡ Some insn
-    → next.place ≡ here.place + 1 + passed → IsStepOf g.header here.known insn (operation_of insn.code) (On passed next.known) → IsNodeOf g insns next rest → IsNodeOf g insns here rest
+effect-is : (i : Insn) (a : Action) (p : Packet) (r : Registers) → IsAction (operation_of i.code) a → effect p.captured p.wire i r ≡ effect_by a p.captured p.wire i r
 unfolding effect
-walk-on g insns here next insn passed rest at place step h = record {
-  inside = h.inside;
-  says = λ p ok head r is.
-      let does = step p ok head r is in
-      h.says p ok head does.0 does.2
-      ∙ ap (λ n. run_test (drop n insns) 0 does.0 p) place
-      ∙ sym (run-goes insns here.place insn r p passed does.0 at does.1);
-}
+effect-is i a p r is = is.effect p.captured p.wire i r
 
-pub walk-end : (g k : Builder) (insns : List Insn) (here : Spot) (insn : Insn) (says : Bool) (i : ℕ) → Extends g k → slice_get insns here.place ≡ Some insn
-    → IsStepOf g.header here.known insn (operation_of insn.code) (End says) → Gives k.diagrams (λ v. Final 0 says) i → IsNodeOf k insns here i
-unfolding effect
-walk-end g k insns here insn said i grew at step leaf = record {
-  inside = leaf.inside;
-  says = λ p ok head r is.
-      let does = step p ok (head-back g k p grew head) r is in
-      let there : nat_le 0 (length p.captured) ≡ true = grind (arith, nat_tests) in
-      ap (verdict_of (length p.captured)) (leaf.says (bit_of p))
-      ∙ ap (λ t. if t then decided said else Abort) there
-      ∙ sym does.2
-      ∙ sym (run-ends insns here.place insn r p does.0 at does.1);
-}
+-- what a node says that goes on where a guard says Yes
+pub walk-on : (g h k : Symbols) (insns : List Insn) (here next : Spot) (insn : Insn) (action : Action) (guard passed rest i : ℕ) → Extends g h → Extends h k
+    → slice_get insns here.place ≡ Some insn → next.place ≡ here.place + 1 + passed → AreWords g.words.diagrams here.state → IsAction (operation_of insn.code) action
+    → IsStepOf g h here.state insn action (On guard passed next.state) → IsNodeOf h insns next rest
+    → ((t u : Test) → SaysOf h t guard → SaysOf h u rest → SaysOf k (and_test t u) i) → IsNodeOf k insns here i
+walk-on g h k insns here next insn action guard passed rest i grew more at place words act step after both =
+    let whole = both (verdict_at h.words.diagrams guard) (verdict_at h.words.diagrams rest)
+    (record { inside = step.inside.0; says = λ p ok head. refl }) (record { inside = after.inside; says = λ p ok head. refl }) in
+    let words_h = words_grown g.words.diagrams h.words.diagrams here.state grew.grew words in
+    record {
+      inside = whole.inside;
+      words = words_grown h.words.diagrams k.words.diagrams here.state more.grew words_h;
+      says = λ p ok head r is.
+          let head_h = head-back h k p more head in
+          let is_h = state-back h.words.diagrams k.words.diagrams here.state p r more.grew words_h is in
+          let is_g = state-back g.words.diagrams h.words.diagrams here.state p r grew.grew words is_h in
+          whole.says p ok head ∙ elim (step.does p ok head_h r is_g) [
+            | inl (always, (r', goes, then')) ↦
+                ap (λ v. and_then v (verdict_at h.words.diagrams rest p)) always
+                ∙ after.says p ok head_h r' then'
+                ∙ ap (λ n. run_test (drop n insns) 0 r' p) place
+                ∙ sym (run-goes insns here.place insn r p passed r' at (effect-is insn action p r act ∙ goes))
+            | inr (abort, ends, other) ↦
+                ap (λ v. and_then v (verdict_at h.words.diagrams rest p)) abort
+                ∙ sym (ap (λ b. if b then decided (nat_lt 0 0) else Abort) (act.returns ∙ other))
+                ∙ sym (run-ends insns here.place insn r p 0 at (effect-is insn action p r act ∙ ends))
+          ];
+    }
 
-pub walk-load : (g k : Builder) (insns : List Insn) (here next : Spot) (insn : Insn) (need rest i : ℕ) → Extends g k → slice_get insns here.place ≡ Some insn
-    → next.place ≡ here.place + 1 + 0 → IsStepOf g.header here.known insn (operation_of insn.code) (Load need next.known) → IsNodeOf g insns next rest → i < length k.diagrams
-    → ((p : Packet) → IsPacket p → HasHeader g.header p → verdict_at k.diagrams i p ≡ (if nat_le need (length p.captured) then verdict_at g.diagrams rest p else Abort))
+-- what a node says that goes on on one of two ways
+pub walk-branch : (g h k : Symbols) (insns : List Insn) (here one other : Spot) (insn : Insn) (action : Action) (test held failed i : ℕ) → Extends g h → Extends h k
+    → slice_get insns here.place ≡ Some insn → one.place ≡ here.place + 1 + insn.jt → one.state ≡ here.state → other.place ≡ here.place + 1 + insn.jf → other.state ≡ here.state
+    → AreWords g.words.diagrams here.state → IsAction (operation_of insn.code) action → IsStepOf g h here.state insn action (Branch test)
+    → IsNodeOf h insns one held → IsNodeOf h insns other failed → i < length k.words.diagrams
+    → ((p : Packet) → (b : Bool) → verdict_at h.words.diagrams test p ≡ decided b
+    → verdict_at k.words.diagrams i p ≡ (if b then verdict_at h.words.diagrams held p else verdict_at h.words.diagrams failed p))
     → IsNodeOf k insns here i
-unfolding effect
-walk-load g k insns here next insn need rest i grew at place step h inside node = record {
-  inside = inside;
-  says = λ p ok head' r is.
-      let head = head-back g k p grew head' in
-      let does = step p ok head r is in
-      let c = length p.captured in
-      elim (cases_lt c need) [
-        | inl short ↦
-            let t : nat_le need c ≡ false = grind (arith, nat_tests) in
-            let e = does.1 short in
-            node p ok head
-            ∙ ap (λ b. if b then verdict_at g.diagrams rest p else Abort) t
-            ∙ sym (ap (λ b. if b then decided (nat_lt 0 0) else Abort) e.1)
-            ∙ sym (run-ends insns here.place insn r p 0 at e.0)
-        | inr there ↦
-            let t : nat_le need c ≡ true = grind (arith, nat_tests) in
-            let e = does.0 there in
-            node p ok head
-            ∙ ap (λ b. if b then verdict_at g.diagrams rest p else Abort) t
-            ∙ h.says p ok head e.0 e.2
-            ∙ ap (λ n. run_test (drop n insns) 0 e.0 p) place
-            ∙ sym (run-goes insns here.place insn r p 0 e.0 at e.1)
-      ];
-}
+walk-branch g h k insns here one other insn action test held failed i grew more at place1 state1 place2 state2 words act step y n inside chosen =
+    let words_h = words_grown g.words.diagrams h.words.diagrams here.state grew.grew words in
+    record {
+      inside = inside;
+      words = words_grown h.words.diagrams k.words.diagrams here.state more.grew words_h;
+      says = λ p ok head r is.
+          let head_h = head-back h k p more head in
+          let is_h = state-back h.words.diagrams k.words.diagrams here.state p r more.grew words_h is in
+          let is_g = state-back g.words.diagrams h.words.diagrams here.state p r grew.grew words is_h in
+          let does = step.does p ok head_h r is_g in
+          let goes = effect-is insn action p r act ∙ does.2 in
+          let by : (b : Bool) → does.0 ≡ b → (if does.0 then verdict_at h.words.diagrams held p else verdict_at h.words.diagrams failed p) ≡ run_test (drop here.place insns) 0 r p =
+          λ b. elim b as (λ b. does.0 ≡ b → (if does.0 then verdict_at h.words.diagrams held p else verdict_at h.words.diagrams failed p) ≡ run_test (drop here.place insns) 0 r p) [
+            | true ↦ λ e.
+                ap (λ t. if t then verdict_at h.words.diagrams held p else verdict_at h.words.diagrams failed p) e
+                ∙ y.says p ok head_h r (subst (λ s. IsStateOf h.words.diagrams s p r) (sym state1) is_h)
+                ∙ ap (λ m. run_test (drop m insns) 0 r p) place1
+                ∙ sym (run-goes insns here.place insn r p insn.jt r at (goes ∙ ap (λ t. Goes (if t then insn.jt else insn.jf) r) e))
+            | false ↦ λ e.
+                ap (λ t. if t then verdict_at h.words.diagrams held p else verdict_at h.words.diagrams failed p) e
+                ∙ n.says p ok head_h r (subst (λ s. IsStateOf h.words.diagrams s p r) (sym state2) is_h)
+                ∙ ap (λ m. run_test (drop m insns) 0 r p) place2
+                ∙ sym (run-goes insns here.place insn r p insn.jf r at (goes ∙ ap (λ t. Goes (if t then insn.jt else insn.jf) r) e))
+          ] in
+          chosen p does.0 does.1 ∙ by does.0 refl;
+    }
 
-pub walk-branch : (g k : Builder) (insns : List Insn) (here one other : Spot) (insn : Insn) (condition : Condition) (held failed i : ℕ) → Extends g k → slice_get insns here.place ≡ Some insn
-    → one.place ≡ here.place + 1 + insn.jt → one.known ≡ here.known → other.place ≡ here.place + 1 + insn.jf → other.known ≡ here.known
-    → IsStepOf g.header here.known insn (operation_of insn.code) (Branch condition) → IsNodeOf g insns one held → IsNodeOf g insns other failed → i < length k.diagrams
-    → ((p : Packet) → IsPacket p → HasHeader g.header p → (x : ℕ) → IsKnown condition.known p x
-    → verdict_at k.diagrams i p ≡ (if compares condition x then verdict_at g.diagrams held p else verdict_at g.diagrams failed p))
-    → IsNodeOf k insns here i
-unfolding effect
-walk-branch g k insns here one other insn condition held failed i grew at place1 known1 place2 known2 step y n inside node = record {
-  inside = inside;
-  says = λ p ok head' r is.
-      let head = head-back g k p grew head' in
-      let does = step p ok head r is in
-      let by : (b : Bool) → compares condition does.0 ≡ b → (if compares condition does.0 then verdict_at g.diagrams held p else verdict_at g.diagrams failed p) ≡ run_test (drop here.place insns) 0 r p =
-      λ b. elim b as (λ b. compares condition does.0 ≡ b → (if compares condition does.0 then verdict_at g.diagrams held p else verdict_at g.diagrams failed p) ≡ run_test (drop here.place insns) 0 r p) [
-        | true ↦ λ e.
-            ap (λ t. if t then verdict_at g.diagrams held p else verdict_at g.diagrams failed p) e
-            ∙ y.says p ok head r (subst (λ k. AreKnown k p r) (sym known1) is)
-            ∙ ap (λ m. run_test (drop m insns) 0 r p) place1
-            ∙ sym (run-goes insns here.place insn r p insn.jt r at (does.2 ∙ ap (λ t. Goes (if t then insn.jt else insn.jf) r) e))
-        | false ↦ λ e.
-            ap (λ t. if t then verdict_at g.diagrams held p else verdict_at g.diagrams failed p) e
-            ∙ n.says p ok head r (subst (λ k. AreKnown k p r) (sym known2) is)
-            ∙ ap (λ m. run_test (drop m insns) 0 r p) place2
-            ∙ sym (run-goes insns here.place insn r p insn.jf r at (does.2 ∙ ap (λ t. Goes (if t then insn.jt else insn.jf) r) e))
-      ] in
-      node p ok head does.0 does.1 ∙ by (compares condition does.0) refl;
+pub walk-end : (g h : Symbols) (insns : List Insn) (here : Spot) (insn : Insn) (action : Action) (node : ℕ) → Extends g h → slice_get insns here.place ≡ Some insn
+    → AreWords g.words.diagrams here.state → IsAction (operation_of insn.code) action → IsStepOf g h here.state insn action (End node) → IsNodeOf h insns here node
+walk-end g h insns here insn action node grew at words act step = record {
+  inside = step.inside;
+  words = words_grown g.words.diagrams h.words.diagrams here.state grew.grew words;
+  says = λ p ok head r is.
+      let does = step.does p ok head r (state-back g.words.diagrams h.words.diagrams here.state p r grew.grew words is) in
+      does.2
+      ∙ sym (ap (λ b. if b then decided (nat_lt 0 does.0) else Abort) act.returns)
+      ∙ sym (run-ends insns here.place insn r p does.0 at (effect-is insn action p r act ∙ does.1));
 }
 
 -- what the node of the first spot says a program says
-pub program-means : (b : Builder) (insns : List Insn) (spot : Spot) (i : ℕ) → spot.place ≡ 0 → spot.known.accumulator ≡ Number 0 → spot.known.index ≡ Number 0
-    → IsNodeOf b insns spot i → Means b (program_test insns) i
-program-means b insns spot i place acc idx h = record {
+pub program-means : (b : Symbols) (insns : List Insn) (spot : Spot) (i : ℕ) → spot.place ≡ 0 → IsInitial b.words.diagrams spot.state → IsNodeOf b insns spot i
+    → SaysOf b (program_test insns) i
+program-means b insns spot i place first h = record {
   inside = h.inside;
-  says = λ p ok head.
-      h.says p ok head initial (record { accumulator = subst (λ k. IsKnown k p 0) (sym acc) refl; index = subst (λ k. IsKnown k p 0) (sym idx) refl })
-      ∙ ap (λ n. run_test (drop n insns) 0 initial p) place;
+  says = λ p ok head. h.says p ok head initial (first.is p) ∙ ap (λ n. run_test (drop n insns) 0 initial p) place;
 }
+
+-- the spots that still wait after one was taken
+pub spots-left : (b : Symbols) (xs ys : List Spot) → AreSpots b.words.diagrams (xs ++ ys) → AreSpots b.words.diagrams xs
+spots-left b [] ys h = tt
+spots-left b (x ∷ xs) ys h = (h.0, spots-left b xs ys h.1)
+
+pub spots-rest : (b : Symbols) (old new taken : List Spot) → old ≡ new ++ taken → AreSpots b.words.diagrams old → AreSpots b.words.diagrams new
+spots-rest b old new taken is h = spots-left b new taken (subst (AreSpots b.words.diagrams) is h)
+
+pub spots-next : (b : Symbols) (old new : List Spot) (m : Option Spot) → old ≡ new ++ option_to_list m → AreSpots b.words.diagrams old → IfSome m (λ s. AreWords b.words.diagrams s.state)
+spots-next b old new None is h = tt
+spots-next b old new (Some s) is h = (spots-pop b new s (subst (AreSpots b.words.diagrams) is h)).1

@@ -3,10 +3,10 @@ use Rattle.std.specs.Prelude.{◌≡◌, ⊤, ℕ, ◌<◌, List, length, Option
 use Rattle.filter_meaning.specs.declared.verdict.Verdict.TheVariants.{No}
 use Rattle.filter_meaning.specs.Meaning.{Packet, Test, is_yes}
 use Rattle.filter_bdd.specs.declared.table.Node.{Node}
-use Rattle.filter_same.specs.declared.builder.Builder.{Builder}
+use Rattle.filter_symbols.specs.declared.symbol.Symbols.{Symbols}
 use Rattle.filter_same.specs.declared.find.Claim.{Claim}
 use Rattle.filter_same.specs.declared.find.Claim.TheVariants.{Same, SameAsCaptured, NeverApart, Nothing}
-use Rattle.filter_same.specs.Packets.{IsPacket, HasHeader, verdict_at}
+use Rattle.filter_symbols.specs.Packets.{IsPacket, HasHeader, verdict_at}
 use Rattle.filter_same.specs.Same.{IsCaptured, AreApart}
 
 -- of each packet of which P holds, a node says No where another one did
@@ -15,8 +15,8 @@ pub record KeepsNo (P : Packet → Type 0) (old : List Node) (place : ℕ) (new 
   pub says : (p : Packet) → IsPacket p → P p → verdict_at old place p ≡ No → verdict_at new cut p ≡ No
 
 -- P holds of each packet that has the header of a builder, unless node i says No of it
-abbrev pub HoldsUnlessNo : Builder → ℕ → (Packet → Type 0) → Type 0
-HoldsUnlessNo b i P = (p : Packet) → IsPacket p → HasHeader b.header p → (verdict_at b.diagrams i p ≡ No → ⊥) → P p
+abbrev pub HoldsUnlessNo : Symbols → ℕ → (Packet → Type 0) → Type 0
+HoldsUnlessNo b i P = (p : Packet) → IsPacket p → HasHeader b.header p → (verdict_at b.words.diagrams i p ≡ No → ⊥) → P p
 
 -- two tests accept a packet, or neither does
 abbrev pub AcceptsAlike : Test → Test → Packet → Type 0

@@ -5,7 +5,7 @@ ghost use Rattle.bpfvm.specs.Machine.{number_at};
 ghost use Rattle.filter_meaning.specs.Meaning.{check, decided, within, half};
 ghost use Rattle.filter_bdd.specs.Fields.{by_order};
 ghost use Rattle.filter_bdd.specs.declared.answer.Answer.TheVariants.{Final};
-ghost use Rattle.filter_same.specs.Packets.{Means, Extends};
+ghost use Rattle.filter_symbols.specs.Symbols.{SaysOf, Extends};
 
 use crate::builder::Builder;
 use filter_bdd::{Answer, ByOrder, Field, Stop};
@@ -72,9 +72,9 @@ impl Builder {
         requires number { number < 2 ^ (8 * bytes.size) }
         ensures means { IfOk result (λ i. (f : ℕ → Bool)
             → ((x : ℕ) → x < 2 ^ (8 * bytes.size) → by_order (bit_and x bytes.mask) number holds.less holds.equal holds.greater ≡ f x)
-            → Means self.new (λ p. check f (number_at p.captured bytes.offset bytes.size)) i) }
-        ensures inside { IfOk result (λ i. i < length self.new.diagrams) }
-        ensures extends { Extends self.old self.new }
+            → SaysOf self.new.symbols (λ p. check f (number_at p.captured bytes.offset bytes.size)) i) }
+        ensures inside { IfOk result (λ i. i < length self.new.symbols.words.diagrams) }
+        ensures extends { Extends self.old.symbols self.new.symbols }
     {
         let need = bytes.offset + bytes.size;
         let field = Field {
@@ -82,20 +82,25 @@ impl Builder {
             width: 8 * bytes.size,
             mask: bytes.mask,
         };
-        self.diagrams.compare(field, number, answers(need, holds))
+        self.symbols
+            .words
+            .diagrams
+            .compare(field, number, answers(need, holds))
     }
 
     /// Whether the length on the wire compares with a number in this way.
     pub fn wire_test(&mut self, number: u32, holds: ByOrder<bool>) -> Result<u32, Stop>
-        ensures means { IfOk result (λ i. (f : ℕ → Bool) → ((x : ℕ) → by_order x number holds.less holds.equal holds.greater ≡ f x) → Means self.new (λ p. decided (f p.wire)) i) }
-        ensures extends { Extends self.old self.new }
+        ensures means { IfOk result (λ i. (f : ℕ → Bool) → ((x : ℕ) → by_order x number holds.less holds.equal holds.greater ≡ f x) → SaysOf self.new.symbols (λ p. decided (f p.wire)) i) }
+        ensures extends { Extends self.old.symbols self.new.symbols }
     {
         let field = Field {
             last: 31,
             width: 32,
             mask: u64::MAX,
         };
-        self.diagrams
+        self.symbols
+            .words
+            .diagrams
             .compare(field, u64::from(number), answers(0, holds))
     }
 
@@ -104,8 +109,8 @@ impl Builder {
         requires offset { bytes.offset < 2 ^ 16 }
         requires size { bytes.size ≤ 8 }
         requires number { number < 2 ^ (8 * bytes.size) }
-        ensures means { IfOk result (Means self.new (λ p. check (λ x. bit_and x bytes.mask == number) (number_at p.captured bytes.offset bytes.size))) }
-        ensures extends { Extends self.old self.new }
+        ensures means { IfOk result (SaysOf self.new.symbols (λ p. check (λ x. bit_and x bytes.mask == number) (number_at p.captured bytes.offset bytes.size))) }
+        ensures extends { Extends self.old.symbols self.new.symbols }
     {
         self.bytes_test(bytes, number, EQUAL)
     }
@@ -115,8 +120,8 @@ impl Builder {
         requires offset { offset < 2 ^ 16 }
         requires size { size ≤ 8 }
         requires number { number < 2 ^ (8 * size) }
-        ensures means { IfOk result (Means self.new (λ p. check (λ x. x == number) (number_at p.captured offset size))) }
-        ensures extends { Extends self.old self.new }
+        ensures means { IfOk result (SaysOf self.new.symbols (λ p. check (λ x. x == number) (number_at p.captured offset size))) }
+        ensures extends { Extends self.old.symbols self.new.symbols }
     {
         let bytes = Bytes {
             offset,

@@ -3,16 +3,17 @@
 ghost use Rattle.std.specs.Prelude.{◌≡◌, ◌<◌, IfOk, IfSome, IsTrue};
 ghost use Rattle.filter_meaning.specs.Meaning.{decided};
 ghost use Rattle.filter_same.specs.Filters.{filter_test, filter_accepts};
-ghost use Rattle.filter_same.specs.Packets.{Means, Extends};
+ghost use Rattle.filter_symbols.specs.Symbols.{SaysOf, Extends};
 ghost use Rattle.filter_same.specs.Programs.{ended, program_test};
 ghost use Rattle.filter_same.specs.Same.{packet, AcceptSame};
 
 use crate::alike::is_same_expr;
-use crate::builder::{Builder, Refusal};
+use crate::builder::Builder;
 use crate::depth::{LEVELS, is_shallow};
 use crate::witness::Witness;
 use bpfvm::{How, Program, run_to_end};
 use filter_meaning::{Verdict, evaluate};
+use filter_symbols::Refusal;
 use filter_tree::Expr;
 use std::alloc::Global;
 
@@ -41,10 +42,11 @@ fn program_verdict(program: &Program, witness: &Witness) -> Verdict
 }
 
 impl Filter<'_> {
-    /// Whether an expression has at most [`LEVELS`] levels, so that what goes down in it needs a bounded stack. A program has none.
-    pub(crate) fn is_shallow(self) -> bool {
+    /// Whether an expression has at most [`LEVELS`] levels, and each of its values at most `value_levels`, so that what goes down in it needs
+    /// a bounded stack. A program has none.
+    pub(crate) fn is_shallow(self, value_levels: u32) -> bool {
         match self {
-            Filter::Expression(expr) => is_shallow(expr, LEVELS),
+            Filter::Expression(expr) => is_shallow(expr, LEVELS, value_levels),
             Filter::Program(_) => true,
         }
     }
@@ -60,20 +62,15 @@ impl Filter<'_> {
         }
     }
 
-    /// A node that says what the filter says. At most `budget` places of a program are walked.
-    pub(crate) fn node(
-        self,
-        builder: &mut Builder,
-        alloc: Global,
-        budget: usize,
-    ) -> Result<u32, Refusal>
-        requires { IfSome builder.old.header (λ n. n < 16) }
-        ensures means { IfOk result (Means builder.new (filter_test self.entry)) }
-        ensures extends { Extends builder.old builder.new }
+    /// A node that says what the filter says.
+    pub(crate) fn node(self, builder: &mut Builder, alloc: Global) -> Result<u32, Refusal>
+        requires { IfSome builder.old.symbols.header (λ n. n < 16) }
+        ensures means { IfOk result (SaysOf builder.new.symbols (filter_test self.entry)) }
+        ensures extends { Extends builder.old.symbols builder.new.symbols }
     {
         match self {
             Filter::Expression(expr) => builder.tree(expr),
-            Filter::Program(program) => builder.program(alloc, program, budget),
+            Filter::Program(program) => builder.program(alloc, program),
         }
     }
 

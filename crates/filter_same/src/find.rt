@@ -4,14 +4,15 @@ ghost use Rattle.std.specs.Prelude.{◌≡◌, ℕ, ◌<◌, Bool, length, Some,
 ghost use Rattle.filter_meaning.specs.Meaning.{Packet, Test};
 ghost use Rattle.filter_bdd.specs.declared.answer.Answer.TheVariants.{Final};
 ghost use Rattle.filter_bdd.specs.Diagrams.{answer};
-ghost use Rattle.filter_same.specs.Packets.{Means, Extends};
+ghost use Rattle.filter_symbols.specs.Symbols.{SaysOf, Extends};
 ghost use Rattle.filter_same.specs.Filters.{filter_test};
 ghost use Rattle.filter_same.specs.Findings.{ClaimOf, ClaimsOf, Claims, HoldsUnlessNo, AcceptsAlike, AreNotApart};
 
-use crate::builder::{Builder, Refusal};
+use crate::builder::Builder;
 use crate::filters::Filter;
 use crate::witness::{Extent, Witness};
 use filter_bdd::{Answer, Budget, Operation, Stop};
+use filter_symbols::Refusal;
 use std::alloc::Global;
 
 /// What is so of two filters. Each claim is so where the one before it is.
@@ -62,45 +63,54 @@ fn is_captured(seen: &Option<Witness>) -> bool {
 impl Builder {
     /// Whether a node says Yes of everything.
     fn is_always(&self, place: u32) -> bool
-        requires { place < length self.now.diagrams }
-        ensures { IsTrue result → (v : ℕ → Bool) → answer self.now.diagrams v place ≡ Final 0 true }
+        requires { place < length self.now.symbols.words.diagrams }
+        ensures { IsTrue result → (v : ℕ → Bool) → answer self.now.symbols.words.diagrams v place ≡ Final 0 true }
     {
-        self.diagrams.is(place, Answer::Final(0, true))
+        self.symbols
+            .words
+            .diagrams
+            .is(place, Answer::Final(0, true))
     }
 
     /// A node that says No where one of two nodes accepts a packet and the other does not.
     #[tactic(auto, using(crate::proofs::Builders::extends_by))]
     fn agreement(&mut self, left: u32, right: u32) -> Result<u32, Stop>
-        requires left { left < length self.old.diagrams }
-        requires right { right < length self.old.diagrams }
-        ensures says { IfOk result (λ i. (t u : Test) → Means self.old t left → Means self.old u right → HoldsUnlessNo self.new i (AcceptsAlike t u)) }
-        ensures inside { IfOk result (λ i. i < length self.new.diagrams) }
-        ensures extends { Extends self.old self.new }
+        requires left { left < length self.old.symbols.words.diagrams }
+        requires right { right < length self.old.symbols.words.diagrams }
+        ensures says { IfOk result (λ i. (t u : Test) → SaysOf self.old.symbols t left → SaysOf self.old.symbols u right → HoldsUnlessNo self.new.symbols i (AcceptsAlike t u)) }
+        ensures inside { IfOk result (λ i. i < length self.new.symbols.words.diagrams) }
+        ensures extends { Extends self.old.symbols self.new.symbols }
     {
-        self.diagrams.apply(Operation::Agree, left, right)
+        self.symbols
+            .words
+            .diagrams
+            .apply(Operation::Agree, left, right)
     }
 
     /// A node that says No where one of two nodes says Yes of a packet and the other No.
     #[tactic(auto, using(crate::proofs::Builders::extends_by))]
     fn clash(&mut self, left: u32, right: u32) -> Result<u32, Stop>
-        requires left { left < length self.old.diagrams }
-        requires right { right < length self.old.diagrams }
-        ensures says { IfOk result (λ i. (t u : Test) → Means self.old t left → Means self.old u right → HoldsUnlessNo self.new i (AreNotApart t u)) }
-        ensures inside { IfOk result (λ i. i < length self.new.diagrams) }
-        ensures extends { Extends self.old self.new }
+        requires left { left < length self.old.symbols.words.diagrams }
+        requires right { right < length self.old.symbols.words.diagrams }
+        ensures says { IfOk result (λ i. (t u : Test) → SaysOf self.old.symbols t left → SaysOf self.old.symbols u right → HoldsUnlessNo self.new.symbols i (AreNotApart t u)) }
+        ensures inside { IfOk result (λ i. i < length self.new.symbols.words.diagrams) }
+        ensures extends { Extends self.old.symbols self.new.symbols }
     {
-        self.diagrams.apply(Operation::Apart, left, right)
+        self.symbols
+            .words
+            .diagrams
+            .apply(Operation::Apart, left, right)
     }
 
     /// What is claimed of packets of which no more was captured than was on the wire, by a node of what both accept and one of where they
     /// clash.
     #[tactic(auto, using(crate::proofs::Builders::extends_more, crate::proofs::Builders::extends_same, crate::proofs::Builders::inside_extended))]
     fn find_captured(&mut self, alloc: Global, agree: u32, clash: u32) -> Result<Finding, Stop>
-        requires header { IfSome self.old.header (λ n. n < 16) }
-        requires agree { agree < length self.old.diagrams }
-        requires clash { clash < length self.old.diagrams }
-        ensures { IfOk result (λ found. (t u : Test) → HoldsUnlessNo self.old agree (AcceptsAlike t u) → HoldsUnlessNo self.old clash (AreNotApart t u)
-            → ClaimsOf self.old.header t u found.claim) }
+        requires header { IfSome self.old.symbols.header (λ n. n < 16) }
+        requires agree { agree < length self.old.symbols.words.diagrams }
+        requires clash { clash < length self.old.symbols.words.diagrams }
+        ensures { IfOk result (λ found. (t u : Test) → HoldsUnlessNo self.old.symbols agree (AcceptsAlike t u) → HoldsUnlessNo self.old.symbols clash (AreNotApart t u)
+            → ClaimsOf self.old.symbols.header t u found.claim) }
     {
         let short = self.cut(agree)?;
         if self.is_always(short) {
@@ -126,10 +136,10 @@ impl Builder {
     /// before what cannot be captured is cut away.
     #[tactic(auto, using(crate::proofs::Builders::extends_more, crate::proofs::Builders::extends_same, crate::proofs::Builders::inside_extended))]
     fn find(&mut self, alloc: Global, left: u32, right: u32) -> Result<Finding, Stop>
-        requires header { IfSome self.old.header (λ n. n < 16) }
-        requires left { left < length self.old.diagrams }
-        requires right { right < length self.old.diagrams }
-        ensures { IfOk result (λ found. (t u : Test) → Means self.old t left → Means self.old u right → ClaimsOf self.old.header t u found.claim) }
+        requires header { IfSome self.old.symbols.header (λ n. n < 16) }
+        requires left { left < length self.old.symbols.words.diagrams }
+        requires right { right < length self.old.symbols.words.diagrams }
+        ensures { IfOk result (λ found. (t u : Test) → SaysOf self.old.symbols t left → SaysOf self.old.symbols u right → ClaimsOf self.old.symbols.header t u found.claim) }
     {
         let all = self.agreement(left, right)?;
         if self.is_always(all) {
@@ -170,12 +180,11 @@ fn find(
     requires { IfSome header (λ n. n < 16) }
     ensures { IfOk result (λ found. ClaimsOf header (filter_test first.entry) (filter_test second.entry) found.claim) }
 {
-    let spots = budget.nodes;
     let mut builder = Builder::new(alloc, header, *budget);
-    let left = first.node(&mut builder, alloc, spots)?;
-    let right = second.node(&mut builder, alloc, spots)?;
+    let left = first.node(&mut builder, alloc)?;
+    let right = second.node(&mut builder, alloc)?;
     let found = builder.find(alloc, left, right)?;
-    *budget = builder.diagrams.budget();
+    *budget = builder.symbols.words.diagrams.budget();
     Ok(found)
 }
 

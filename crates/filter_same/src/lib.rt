@@ -4,6 +4,7 @@
 //! [`decide_filters`] says the same of any two filters: each is an expression or a program.
 #![tactic(auto)]
 
+mod actions;
 mod alike;
 mod builder;
 mod cut;
@@ -11,16 +12,16 @@ mod depth;
 mod fields;
 mod filters;
 mod find;
-mod known;
 pub mod laws;
+mod live;
 mod plain;
 mod primitives;
 mod programs;
 mod relations;
 mod sameness;
 mod spots;
+mod state;
 mod steps;
-mod terms;
 mod trees;
 mod witness;
 

@@ -3,12 +3,13 @@
 ghost use Rattle.std.specs.Prelude.{◌≡◌, ◌≤◌, ◌<◌, ◌^◌, IfOk, IfSome, Some, None};
 ghost use Rattle.filter_tree.specs.declared.tree.Primitive.TheVariants.{EtherHost, EtherMulticast, IpMulticast, Less, Greater};
 ghost use Rattle.filter_meaning.specs.Meaning.{is_type, is_protocol, is_first_fragment_of, plain_test, by_direction, has_address, in_net, in_any_net, has_port, has_ports, has_any_ports, is_address, address_number, and_test, primitive_test};
-ghost use Rattle.filter_same.specs.Packets.{Means, Extends};
+ghost use Rattle.filter_symbols.specs.Symbols.{SaysOf, Extends};
 
-use crate::builder::{Builder, Refusal};
+use crate::builder::Builder;
 use crate::fields::{AT_LEAST, AT_MOST, Bytes, GREATER};
 use filter_bdd::Stop;
 use filter_meaning::protocol_number;
+use filter_symbols::Refusal;
 use filter_tree::headers::{
     ARP_SPA, ARP_TPA, ETHER_DST, ETHER_SRC, ETHER_TYPE, ETHERTYPE_ARP, ETHERTYPE_IP,
     ETHERTYPE_REVARP, IP_DST, IP_OFF, IP_OFFMASK, IP_P, IP_SRC, IPPROTO_ICMP, IPPROTO_SCTP,
@@ -45,8 +46,8 @@ impl Builder {
     /// The Ethernet type.
     pub fn is_type(&mut self, number: u32) -> Result<u32, Stop>
         requires { number < 2 ^ 16 }
-        ensures means { IfOk result (Means self.new (is_type number)) }
-        ensures extends { Extends self.old self.new }
+        ensures means { IfOk result (SaysOf self.new.symbols (is_type number)) }
+        ensures extends { Extends self.old.symbols self.new.symbols }
     {
         self.equals(ETHER_TYPE as u32, 2, u64::from(number))
     }
@@ -55,8 +56,8 @@ impl Builder {
     #[tactic(auto, using(crate::proofs::Builders::extends_more, crate::proofs::Builders::extends_same, crate::proofs::Builders::inside_extended))]
     fn is_protocol(&mut self, number: u32) -> Result<u32, Stop>
         requires { number < 2 ^ 8 }
-        ensures means { IfOk result (Means self.new (is_protocol number)) }
-        ensures extends { Extends self.old self.new }
+        ensures means { IfOk result (SaysOf self.new.symbols (is_protocol number)) }
+        ensures extends { Extends self.old.symbols self.new.symbols }
     {
         let ip = self.is_type(ETHERTYPE_IP)?;
         let protocol = self.equals(IP_P as u32, 1, u64::from(number))?;
@@ -67,8 +68,8 @@ impl Builder {
     #[tactic(auto, using(crate::proofs::Builders::extends_more, crate::proofs::Builders::extends_same, crate::proofs::Builders::inside_extended))]
     pub fn is_first_fragment_of(&mut self, number: u32) -> Result<u32, Stop>
         requires { number < 2 ^ 8 }
-        ensures means { IfOk result (Means self.new (is_first_fragment_of number)) }
-        ensures extends { Extends self.old self.new }
+        ensures means { IfOk result (SaysOf self.new.symbols (is_first_fragment_of number)) }
+        ensures extends { Extends self.old.symbols self.new.symbols }
     {
         let protocol = self.is_protocol(number)?;
         let offset = Bytes {
@@ -82,8 +83,8 @@ impl Builder {
 
     /// A protocol word.
     fn is_plain(&mut self, word: Plain) -> Result<u32, Stop>
-        ensures means { IfOk result (Means self.new (plain_test word)) }
-        ensures extends { Extends self.old self.new }
+        ensures means { IfOk result (SaysOf self.new.symbols (plain_test word)) }
+        ensures extends { Extends self.old.symbols self.new.symbols }
     {
         match word {
             Plain::Ip => self.is_type(ETHERTYPE_IP),
@@ -102,8 +103,8 @@ impl Builder {
         requires number { number < 2 ^ 16 }
         requires source { offsets.0 < 2 ^ 16 }
         requires destination { offsets.1 < 2 ^ 16 }
-        ensures means { IfOk result (Means self.new (and_test (is_type number) (by_direction net.direction (has_address net.address net.mask offsets.0) (has_address net.address net.mask offsets.1)))) }
-        ensures extends { Extends self.old self.new }
+        ensures means { IfOk result (SaysOf self.new.symbols (and_test (is_type number) (by_direction net.direction (has_address net.address net.mask offsets.0) (has_address net.address net.mask offsets.1)))) }
+        ensures extends { Extends self.old.symbols self.new.symbols }
     {
         let address = u64::from(net.address);
         let mask = u64::from(net.mask);
@@ -127,8 +128,8 @@ impl Builder {
 
     /// A host or net of a protocol.
     fn is_in_net(&mut self, network: Network, net: Net) -> Result<u32, Stop>
-        ensures means { IfOk result (Means self.new (in_net network net.direction net.address net.mask)) }
-        ensures extends { Extends self.old self.new }
+        ensures means { IfOk result (SaysOf self.new.symbols (in_net network net.direction net.address net.mask)) }
+        ensures extends { Extends self.old.symbols self.new.symbols }
     {
         match network {
             Network::Ip => self.in_net_at(ETHERTYPE_IP, (IP_SRC as u32, IP_DST as u32), net),
@@ -144,8 +145,8 @@ impl Builder {
     /// A host or net of any protocol.
     #[tactic(auto, using(crate::proofs::Builders::extends_more, crate::proofs::Builders::extends_same, crate::proofs::Builders::inside_extended))]
     fn is_in_some_net(&mut self, net: Net) -> Result<u32, Stop>
-        ensures means { IfOk result (Means self.new (in_any_net None net.direction net.address net.mask)) }
-        ensures extends { Extends self.old self.new }
+        ensures means { IfOk result (SaysOf self.new.symbols (in_any_net None net.direction net.address net.mask)) }
+        ensures extends { Extends self.old.symbols self.new.symbols }
     {
         let ip = self.is_in_net(Network::Ip, net)?;
         let arp = self.is_in_net(Network::Arp, net)?;
@@ -157,11 +158,11 @@ impl Builder {
     /// A port, `offset` bytes after the IPv4 header, which has `header` words.
     #[tactic(auto, using(crate::proofs::Builders::extends_more, crate::proofs::Builders::extends_same, crate::proofs::Builders::inside_extended))]
     fn has_port(&mut self, header: u32, offset: u32, ports: Ports) -> Result<u32, Stop>
-        requires known { self.old.header ≡ Some header }
+        requires known { self.old.symbols.header ≡ Some header }
         requires header { header < 16 }
         requires offset { offset ≤ 2 }
-        ensures means { IfOk result (Means self.new (has_port ports.low ports.high offset)) }
-        ensures extends { Extends self.old self.new }
+        ensures means { IfOk result (SaysOf self.new.symbols (has_port ports.low ports.high offset)) }
+        ensures extends { Extends self.old.symbols self.new.symbols }
     {
         let bytes = Bytes {
             offset: 14 + 4 * header + offset,
@@ -176,11 +177,11 @@ impl Builder {
     /// The ports of a protocol number.
     #[tactic(auto, using(crate::proofs::Builders::extends_more, crate::proofs::Builders::extends_same, crate::proofs::Builders::inside_extended))]
     fn has_ports(&mut self, header: u32, number: u32, ports: Ports) -> Result<u32, Stop>
-        requires known { self.old.header ≡ Some header }
+        requires known { self.old.symbols.header ≡ Some header }
         requires header { header < 16 }
         requires number { number < 2 ^ 8 }
-        ensures means { IfOk result (Means self.new (has_ports number ports.direction ports.low ports.high)) }
-        ensures extends { Extends self.old self.new }
+        ensures means { IfOk result (SaysOf self.new.symbols (has_ports number ports.direction ports.low ports.high)) }
+        ensures extends { Extends self.old.symbols self.new.symbols }
     {
         let first = self.is_first_fragment_of(number)?;
         let source = self.has_port(header, 0, ports)?;
@@ -192,10 +193,10 @@ impl Builder {
     /// The ports of any protocol.
     #[tactic(auto, using(crate::proofs::Builders::extends_more, crate::proofs::Builders::extends_same, crate::proofs::Builders::inside_extended))]
     fn has_some_ports(&mut self, header: u32, ports: Ports) -> Result<u32, Stop>
-        requires known { self.old.header ≡ Some header }
+        requires known { self.old.symbols.header ≡ Some header }
         requires header { header < 16 }
-        ensures means { IfOk result (Means self.new (has_any_ports None ports.direction ports.low ports.high)) }
-        ensures extends { Extends self.old self.new }
+        ensures means { IfOk result (SaysOf self.new.symbols (has_any_ports None ports.direction ports.low ports.high)) }
+        ensures extends { Extends self.old.symbols self.new.symbols }
     {
         let tcp = self.has_ports(header, IPPROTO_TCP, ports)?;
         let udp = self.has_ports(header, IPPROTO_UDP, ports)?;
@@ -206,11 +207,11 @@ impl Builder {
 
     /// A port or a range of ports. It needs the header length.
     fn has_any_ports(&mut self, transport: Option<Transport>, ports: Ports) -> Result<u32, Refusal>
-        requires { IfSome self.old.header (λ n. n < 16) }
-        ensures means { IfOk result (Means self.new (has_any_ports transport ports.direction ports.low ports.high)) }
-        ensures extends { Extends self.old self.new }
+        requires { IfSome self.old.symbols.header (λ n. n < 16) }
+        ensures means { IfOk result (SaysOf self.new.symbols (has_any_ports transport ports.direction ports.low ports.high)) }
+        ensures extends { Extends self.old.symbols self.new.symbols }
     {
-        let Some(header) = self.header else {
+        let Some(header) = self.symbols.header else {
             return Err(Refusal::Header);
         };
         match transport {
@@ -222,8 +223,8 @@ impl Builder {
     /// An Ethernet host.
     #[tactic(auto, using(crate::proofs::Builders::extends_more, crate::proofs::Builders::extends_same, crate::proofs::Builders::inside_extended))]
     fn is_ether_host(&mut self, direction: Direction, address: EthernetAddress) -> Result<u32, Stop>
-        ensures means { IfOk result (Means self.new (primitive_test (EtherHost direction address))) }
-        ensures extends { Extends self.old self.new }
+        ensures means { IfOk result (SaysOf self.new.symbols (primitive_test (EtherHost direction address))) }
+        ensures extends { Extends self.old.symbols self.new.symbols }
     {
         let number = number_of_address(address);
         let source = self.equals(ETHER_SRC as u32, 6, number)?;
@@ -234,8 +235,8 @@ impl Builder {
     /// An IPv4 packet to a multicast address.
     #[tactic(auto, using(crate::proofs::Builders::extends_more, crate::proofs::Builders::extends_same, crate::proofs::Builders::inside_extended))]
     fn is_ip_multicast(&mut self) -> Result<u32, Stop>
-        ensures means { IfOk result (Means self.new (primitive_test IpMulticast)) }
-        ensures extends { Extends self.old self.new }
+        ensures means { IfOk result (SaysOf self.new.symbols (primitive_test IpMulticast)) }
+        ensures extends { Extends self.old.symbols self.new.symbols }
     {
         let ip = self.is_type(ETHERTYPE_IP)?;
         let bytes = Bytes {
@@ -249,8 +250,8 @@ impl Builder {
 
     /// A frame to an Ethernet multicast address.
     fn is_ether_multicast(&mut self) -> Result<u32, Stop>
-        ensures means { IfOk result (Means self.new (primitive_test EtherMulticast)) }
-        ensures extends { Extends self.old self.new }
+        ensures means { IfOk result (SaysOf self.new.symbols (primitive_test EtherMulticast)) }
+        ensures extends { Extends self.old.symbols self.new.symbols }
     {
         let bytes = Bytes {
             offset: 0,
@@ -262,25 +263,25 @@ impl Builder {
 
     /// A wire length of at most `number` bytes.
     fn is_at_most(&mut self, number: u32) -> Result<u32, Stop>
-        ensures means { IfOk result (Means self.new (primitive_test (Less number))) }
-        ensures extends { Extends self.old self.new }
+        ensures means { IfOk result (SaysOf self.new.symbols (primitive_test (Less number))) }
+        ensures extends { Extends self.old.symbols self.new.symbols }
     {
         self.wire_test(number, AT_MOST)
     }
 
     /// A wire length of at least `number` bytes.
     fn is_at_least(&mut self, number: u32) -> Result<u32, Stop>
-        ensures means { IfOk result (Means self.new (primitive_test (Greater number))) }
-        ensures extends { Extends self.old self.new }
+        ensures means { IfOk result (SaysOf self.new.symbols (primitive_test (Greater number))) }
+        ensures extends { Extends self.old.symbols self.new.symbols }
     {
         self.wire_test(number, AT_LEAST)
     }
 
     /// A primitive.
     pub fn primitive(&mut self, asked: Primitive) -> Result<u32, Refusal>
-        requires { IfSome self.old.header (λ n. n < 16) }
-        ensures means { IfOk result (Means self.new (primitive_test asked)) }
-        ensures extends { Extends self.old self.new }
+        requires { IfSome self.old.symbols.header (λ n. n < 16) }
+        ensures means { IfOk result (SaysOf self.new.symbols (primitive_test asked)) }
+        ensures extends { Extends self.old.symbols self.new.symbols }
     {
         match asked {
             Primitive::Protocol(word) => Ok(self.is_plain(word)?),

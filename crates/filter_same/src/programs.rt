@@ -1,25 +1,20 @@
 //! Programs as nodes of decision diagrams.
 
-ghost use Rattle.std.specs.Prelude.{◌≡◌, ◌*◌, ◌^◌, ◌<◌, ◌≤◌, ℕ, length, nat_le, IfOk, IfSome, IsTrue, if◌then◌else◌};
-ghost use Rattle.filter_meaning.specs.declared.verdict.Verdict.TheVariants.{Abort};
-ghost use Rattle.filter_meaning.specs.Meaning.{Packet, decided};
-ghost use Rattle.filter_same.specs.Packets.{IsPacket, HasHeader, Means, Extends, verdict_at};
+ghost use Rattle.std.specs.Prelude.{◌≡◌, ◌<◌, length, IfOk, IfSome};
+ghost use Rattle.filter_symbols.specs.Symbols.{SaysOf, Extends};
 ghost use Rattle.filter_same.specs.Programs.{program_test};
-ghost use Rattle.filter_same.specs.Walks.{IsKnown, compares, AreNodes, IsVisited};
+ghost use Rattle.filter_same.specs.States.{AreWords, IsInitial};
+ghost use Rattle.filter_same.specs.Walks.{AreNodes, AreSpots, IsVisited};
 
-use crate::builder::{Builder, Refusal};
-use crate::known::{Known, KnownRegisters};
+use crate::actions::action_of;
+use crate::builder::Builder;
 use crate::spots::{Spot, Spots};
-use crate::steps::{Condition, OFFSETS, Step, step_of};
+use crate::state::State;
+use crate::steps::Step;
 use bpfvm::{Insn, Program};
-use filter_bdd::{Answer, Stop};
+use filter_bdd::Stop;
+use filter_symbols::Refusal;
 use std::alloc::Global;
-
-/// Where a run begins.
-const START: Spot = Spot {
-    place: 0,
-    known: KnownRegisters::INITIAL,
-};
 
 /// What became of a spot.
 #[derive(Clone, Copy)]
@@ -30,160 +25,144 @@ enum Visited {
     First(Spot),
 }
 
-/// Whether a number has no more bytes than so many.
-fn fits(size: u32, number: u32) -> bool
-    requires { size ≤ 4 }
-    ensures { IsTrue result → number < 2 ^ (8 * size) }
-{
-    u64::from(number) < 1u64 << (8 * size)
-}
-
 impl Builder {
-    /// Whether a number of which something is known compares as a condition asks.
-    fn comparison(&mut self, condition: Condition) -> Result<u32, Refusal>
-        ensures says { IfOk result (λ i. (p : Packet) → IsPacket p → HasHeader self.old.header p → (x : ℕ) → IsKnown condition.known p x
-            → verdict_at self.new.diagrams i p ≡ decided (compares condition x)) }
-        ensures inside { IfOk result (λ i. i < length self.new.diagrams) }
-        ensures extends { Extends self.old self.new }
+    /// The state as a run begins.
+    fn initial(&mut self) -> Result<State, Stop>
+        ensures initial { IfOk result (IsInitial self.new.symbols.words.diagrams) }
+        ensures extends { Extends self.old.symbols self.new.symbols }
     {
-        let number = condition.number;
-        match condition.known {
-            Known::Bytes(bytes) => {
-                if bytes.offset >= OFFSETS || bytes.size > 4 || !fits(bytes.size, number) {
-                    return Err(Refusal::Relation);
-                }
-                Ok(self.bytes_test(bytes, u64::from(number), condition.holds)?)
-            }
-            Known::Length => Ok(self.wire_test(number, condition.holds)?),
-            Known::Number(_) | Known::Nothing => Err(Refusal::Relation),
-        }
+        Ok(State::of(self.symbols.words.constant(0)?))
     }
 
-    /// A node that goes on at `yes` where a condition holds, and at `no` where it does not.
-    #[tactic(auto, using(crate::proofs::Builders::extends_more, crate::proofs::Builders::inside_extended))]
-    fn jump(&mut self, condition: Condition, yes: u32, no: u32) -> Result<u32, Refusal>
-        requires yes { yes < length self.old.diagrams }
-        requires no { no < length self.old.diagrams }
-        ensures says { IfOk result (λ i. (p : Packet) → IsPacket p → HasHeader self.old.header p → (x : ℕ) → IsKnown condition.known p x
-            → verdict_at self.new.diagrams i p ≡ (if compares condition x then verdict_at self.old.diagrams yes p else verdict_at self.old.diagrams no p)) }
-        ensures inside { IfOk result (λ i. i < length self.new.diagrams) }
-        ensures extends { Extends self.old self.new }
-    {
-        let holds = self.comparison(condition)?;
-        Ok(self.choice(holds, yes, no)?)
-    }
-
-    /// A node that aborts where fewer bytes were captured, and else goes on at another one.
-    #[tactic(auto, using(crate::proofs::Builders::extends_more, crate::proofs::Builders::inside_extended))]
-    fn captured(&mut self, need: u32, rest: u32) -> Result<u32, Stop>
-        requires { rest < length self.old.diagrams }
-        ensures says { IfOk result (λ i. (p : Packet) → IsPacket p → HasHeader self.old.header p
-            → verdict_at self.new.diagrams i p ≡ (if nat_le need (length p.captured) then verdict_at self.old.diagrams rest p else Abort)) }
-        ensures inside { IfOk result (λ i. i < length self.new.diagrams) }
-        ensures extends { Extends self.old self.new }
-    {
-        let enough = self.leaf(Answer::Final(need, true))?;
-        self.both(enough, rest)
-    }
-
-    /// The node of a spot, or else a spot after it whose node is not known.
+    /// The node of a spot, by those of the spots after it; or else a spot after it whose node is not known.
     #[tactic(auto, using(crate::proofs::Builders::extends_more, crate::proofs::Builders::extends_same, crate::proofs::Builders::inside_extended))]
-    fn visit(&mut self, spots: &mut Spots, insns: &[Insn], spot: Spot) -> Result<Visited, Refusal>
-        requires header { IfSome self.old.header (λ n. n < 16) }
-        requires spots { AreNodes self.old insns.now spots.old }
-        ensures node { IfOk result (IsVisited self.new insns.now spot) }
-        ensures spots { IfOk result (λ v. AreNodes self.new insns.now spots.new) }
-        ensures extends { Extends self.old self.new }
+    fn node_of(&mut self, spots: &Spots, insns: &[Insn], spot: &Spot) -> Result<Visited, Refusal>
+        requires header { IfSome self.old.symbols.header (λ n. n < 16) }
+        requires words { AreWords self.old.symbols.words.diagrams spot.now.state }
+        requires spots { AreNodes self.old.symbols insns.now spots.now }
+        ensures node { IfOk result (IsVisited self.new.symbols insns.now spot.now) }
+        ensures extends { Extends self.old.symbols self.new.symbols }
     {
-        if let Some(node) = spots.known(insns, spot) {
-            return Ok(Visited::Node(node));
-        }
         if spot.place >= insns.len() {
-            return Err(Refusal::Relation);
+            return Err(Refusal::Budget);
         }
         let insn = &insns[spot.place];
-        let here = spot.read_by(insn);
+        let Some(action) = action_of(insn.code) else {
+            return Err(Refusal::Budget);
+        };
         let next = spot.place + 1;
-        let step = step_of(self.header, here.known, insn)?;
+        let step = self.step(&spot.state, insn, action)?;
         match step {
-            Step::On(passed, known) => {
-                let place = next + passed as usize;
-                let after = Spot { place, known };
-                let Some(rest) = spots.known(insns, after) else {
+            Step::On {
+                guard,
+                passed,
+                state,
+            } => {
+                let after = Spot {
+                    place: next + passed as usize,
+                    state,
+                };
+                let Some(rest) = spots.known(&after) else {
                     return Ok(Visited::First(after));
                 };
-                Ok(Visited::Node(spots.keep(here, rest)?))
+                Ok(Visited::Node(self.both(guard, rest)?))
             }
-            Step::Load(need, known) => {
-                let after = Spot { place: next, known };
-                let Some(rest) = spots.known(insns, after) else {
-                    return Ok(Visited::First(after));
-                };
-                let whole = self.captured(need, rest)?;
-                Ok(Visited::Node(spots.keep(here, whole)?))
-            }
-            Step::Branch(condition) => {
-                let holds = here.after(next + usize::from(insn.jt));
-                let fails = here.after(next + usize::from(insn.jf));
-                let Some(yes) = spots.known(insns, holds) else {
+            Step::Branch(test) => {
+                let holds = spot.at(next + usize::from(insn.jt));
+                let fails = spot.at(next + usize::from(insn.jf));
+                let Some(yes) = spots.known(&holds) else {
                     return Ok(Visited::First(holds));
                 };
-                let Some(no) = spots.known(insns, fails) else {
+                let Some(no) = spots.known(&fails) else {
                     return Ok(Visited::First(fails));
                 };
-                let whole = self.jump(condition, yes, no)?;
-                Ok(Visited::Node(spots.keep(here, whole)?))
+                Ok(Visited::Node(self.choice(test, yes, no)?))
             }
-            Step::End(says) => {
-                let end = self.leaf(Answer::Final(0, says))?;
-                Ok(Visited::Node(spots.keep(here, end)?))
-            }
+            Step::End(node) => Ok(Visited::Node(node)),
+        }
+    }
+
+    /// The node of a spot, which is kept, or else a spot after it whose node is not known.
+    #[tactic(auto, using(crate::proofs::Builders::extends_more, crate::proofs::Builders::extends_same, crate::proofs::Builders::inside_extended))]
+    fn visit(&mut self, spots: &mut Spots, insns: &[Insn], spot: &Spot) -> Result<Visited, Refusal>
+        requires header { IfSome self.old.symbols.header (λ n. n < 16) }
+        requires words { AreWords self.old.symbols.words.diagrams spot.now.state }
+        requires spots { AreNodes self.old.symbols insns.now spots.old }
+        ensures node { IfOk result (IsVisited self.new.symbols insns.now spot.now) }
+        ensures spots { IfOk result (λ v. AreNodes self.new.symbols insns.now spots.new) }
+        ensures extends { Extends self.old.symbols self.new.symbols }
+    {
+        if let Some(node) = spots.known(spot) {
+            return Ok(Visited::Node(node));
+        }
+        let here = spots.live(spot);
+        match self.node_of(spots, insns, &here)? {
+            Visited::Node(node) => Ok(Visited::Node(spots.keep(here, node)?)),
+            Visited::First(after) => Ok(Visited::First(after)),
         }
     }
 
     /// The node of the first spot.
-    fn whole(&self, spots: &Spots, insns: &[Insn]) -> Result<u32, Refusal>
-        requires { AreNodes self.now insns.now spots.now }
-        ensures { IfOk result (Means self.now (program_test insns.now)) }
+    fn whole(&self, spots: &Spots, insns: &[Insn], start: &Spot) -> Result<u32, Refusal>
+        requires spots { AreNodes self.now.symbols insns.now spots.now }
+        requires place { start.now.place ≡ 0 }
+        requires initial { IsInitial self.now.symbols.words.diagrams start.now.state }
+        ensures { IfOk result (SaysOf self.now.symbols (program_test insns.now)) }
     {
-        match spots.known(insns, START) {
+        match spots.known(start) {
             Some(node) => Ok(node),
             None => Err(Refusal::Budget),
         }
     }
 
-    /// A node that says what a program says. At most `budget` spots are walked: from the first instruction on, each after those that its run
-    /// goes on at.
+    /// Visits a spot, and returns the one that is to be visited next, if one is. A spot waits while those after it are visited.
     #[tactic(auto, using(crate::proofs::Builders::extends_more, crate::proofs::Builders::extends_same, crate::proofs::Builders::inside_extended))]
-    pub fn program(
+    fn next_spot(
         &mut self,
-        alloc: Global,
-        program: &Program,
-        budget: usize,
-    ) -> Result<u32, Refusal>
-        requires { IfSome self.old.header (λ n. n < 16) }
-        ensures means { IfOk result (Means self.new (program_test program.now)) }
-        ensures extends { Extends self.old self.new }
+        spots: &mut Spots,
+        waiting: &mut Vec<Spot>,
+        insns: &[Insn],
+        spot: Spot,
+    ) -> Result<Option<Spot>, Refusal>
+        requires header { IfSome self.old.symbols.header (λ n. n < 16) }
+        requires words { AreWords self.old.symbols.words.diagrams spot.state }
+        requires spots { AreNodes self.old.symbols insns.now spots.old }
+        requires waiting { AreSpots self.old.symbols.words.diagrams waiting.old.items }
+        ensures next { IfOk result (λ n. IfSome n (λ s. AreWords self.new.symbols.words.diagrams s.state)) }
+        ensures spots { IfOk result (λ n. AreNodes self.new.symbols insns.now spots.new) }
+        ensures waiting { IfOk result (λ n. AreSpots self.new.symbols.words.diagrams waiting.new.items) }
+        ensures extends { Extends self.old.symbols self.new.symbols }
+    {
+        match self.visit(spots, insns, &spot)? {
+            Visited::First(first) => {
+                let Ok(()) = waiting.push(spot) else {
+                    return Err(Refusal::Memory);
+                };
+                Ok(Some(first))
+            }
+            Visited::Node(_) => Ok(waiting.pop()),
+        }
+    }
+
+    /// A node that says what a program says. It is walked from the first instruction on, each place after those that its run goes on at.
+    #[tactic(auto, using(crate::proofs::Builders::extends_more, crate::proofs::Builders::extends_same, crate::proofs::Builders::inside_extended))]
+    pub fn program(&mut self, alloc: Global, program: &Program) -> Result<u32, Refusal>
+        requires { IfSome self.old.symbols.header (λ n. n < 16) }
+        ensures means { IfOk result (SaysOf self.new.symbols (program_test program.now)) }
+        ensures extends { Extends self.old.symbols self.new.symbols }
     {
         let insns = program.insns();
-        let mut spots = Spots::new(alloc, budget);
+        let mut spots = Spots::new(alloc, insns)?;
         let mut waiting = Vec::new(alloc);
-        let mut spot = START;
+        let state = self.initial()?;
+        let start = Spot { place: 0, state };
+        let mut spot = start;
         for _ in 0..u64::MAX {
-            match self.visit(&mut spots, insns, spot)? {
-                Visited::First(first) => {
-                    if waiting.push(spot).is_err() {
-                        return Err(Refusal::Memory);
-                    }
-                    spot = first;
-                }
-                Visited::Node(_) => {
-                    let Some(last) = waiting.pop() else {
-                        return self.whole(&spots, insns);
-                    };
-                    spot = last;
-                }
-            }
+            let next = self.next_spot(&mut spots, &mut waiting, insns, spot)?;
+            let Some(after) = next else {
+                return self.whole(&spots, insns, &start);
+            };
+            spot = after;
         }
         Err(Refusal::Budget)
     }

@@ -7,13 +7,14 @@ ghost use Rattle.filter_same.specs.Same.{AreNeverApart, Holds, HoldsOf, packet};
 ghost use Rattle.filter_same.specs.Filters.{HoldsOfFilters, filter_test};
 ghost use Rattle.filter_same.specs.Findings.{Claims};
 
-use crate::builder::Refusal;
+use crate::depth::{LEVELS, VALUE_LEVELS};
 use crate::filters::Filter;
 use crate::find::{Claim, Finding, find_all};
 use crate::witness::Witness;
 use bpfvm::NoMemory;
 use filter_bdd::Budget;
 use filter_meaning::Verdict;
+use filter_symbols::Refusal;
 use filter_tree::Expr;
 use std::alloc::Global;
 
@@ -24,8 +25,8 @@ pub enum Cause {
     Graphs,
     /// The budget is spent.
     Budget,
-    /// An expression has a relation of another kind, or a program calculates, or reads, what no diagram is made of.
-    Relation,
+    /// An expression has more levels than are compared.
+    Levels,
 }
 
 /// What is known of two filters.
@@ -93,8 +94,9 @@ pub fn decide(
 /// any bytes of it, and aborts if it reads past the captured bytes or divides by 0. Filters with the same tree, or the same instructions, are
 /// the same, whatever they calculate.
 ///
-/// `budget` is how many nodes the diagrams of one header length may have, at how many places of a program it may look, and a sixth of the
-/// steps that are taken in all. An expression of more than 1,000 levels is over it. `NoMemory` if memory is refused.
+/// `budget` is how many nodes the diagrams of one header length may have, and a sixth of the steps that are taken in all. It is spent too if a
+/// byte is wanted that is 2^17 bytes or more from the first one, or if 32,768 places of a program are walked. Expressions have at most 1,000
+/// levels, and those of their values that are calculated at most 64. `NoMemory` if memory is refused.
 pub fn decide_filters(
     alloc: Global,
     first: Filter<'_>,
@@ -103,11 +105,14 @@ pub fn decide_filters(
 ) -> Result<Sameness, NoMemory>
     ensures { IfOk result (HoldsOfFilters first.entry second.entry) }
 {
-    if !first.is_shallow() || !second.is_shallow() {
-        return Ok(Sameness::NotDecided(Cause::Budget));
+    if !first.is_shallow(LEVELS) || !second.is_shallow(LEVELS) {
+        return Ok(Sameness::NotDecided(Cause::Levels));
     }
     if first.is_same(second) {
         return Ok(Sameness::Same);
+    }
+    if !first.is_shallow(VALUE_LEVELS) || !second.is_shallow(VALUE_LEVELS) {
+        return Ok(Sameness::NotDecided(Cause::Levels));
     }
     let whole = Budget {
         nodes: budget,
@@ -116,7 +121,6 @@ pub fn decide_filters(
     match find_all(alloc, first, second, whole) {
         Ok(found) => Ok(sameness_of(first, second, found)),
         Err(Refusal::Memory) => Err(NoMemory),
-        Err(Refusal::Relation) => Ok(Sameness::NotDecided(Cause::Relation)),
         Err(_) => Ok(Sameness::NotDecided(Cause::Budget)),
     }
 }

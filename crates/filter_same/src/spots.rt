@@ -2,53 +2,45 @@
 
 ghost use Rattle.std.specs.Prelude.{◌≡◌, List, IfOk, IfSome, IsTrue, []};
 ghost use Rattle.bpfvm.specs.declared.insn.Insn.{Insn};
-ghost use Rattle.filter_same.specs.declared.builder.Builder.{Builder};
-ghost use Rattle.bpfvm.specs.Machine.{Registers};
-ghost use Rattle.filter_meaning.specs.Meaning.{Packet};
-ghost use Rattle.filter_same.specs.Walks.{AreKnown, IsNodeOf, AreNodes};
+ghost use Rattle.filter_symbols.specs.declared.symbol.Symbols.{Symbols};
+ghost use Rattle.filter_same.specs.States.{AreWords, IsPart};
+ghost use Rattle.filter_same.specs.Walks.{IsNodeOf, AreNodes};
 
-use crate::known::KnownRegisters;
+use crate::live::{Live, live_of};
+use crate::state::State;
 use bpfvm::Insn;
 use filter_bdd::Stop;
 use indexmap::IndexMap;
 use std::alloc::Global;
 use std::marker::Model;
 
-/// A place of a program, and what is known of the registers there.
-#[derive(Clone, Copy, Debug, PartialEq, Eq, Hash)]
+/// The most places that are kept, each with a state. A state has 2,376 bytes.
+const MOST_SPOTS: usize = 1 << 15;
+
+/// A place of a program, and a state there.
+#[derive(Clone, Copy, Debug, PartialEq, Eq)]
 pub(crate) struct Spot {
     pub place: usize,
-    pub known: KnownRegisters,
+    pub state: State,
 }
 
 impl Spot {
-    /// Whether it is the same place, and the same is known there.
+    /// Whether it is the same place, with the same words.
     #[tactic(auto, using(crate::proofs::States::spots_same))]
-    fn is(self, other: Spot) -> bool
-        ensures { IsTrue result → self ≡ other }
+    fn is(&self, other: &Spot) -> bool
+        ensures { IsTrue result → self.now ≡ other.now }
     {
-        self.place == other.place && self.known.is(other.known)
+        self.place == other.place && self.state == other.state
     }
 
-    /// The same place, where nothing is known but what its instruction reads. So places where runs meet are walked once.
-    pub fn read_by(self, insn: &Insn) -> Spot
-        ensures place { result.place ≡ self.place }
-        ensures known { (p : Packet) → (r : Registers) → AreKnown self.known p r → AreKnown result.known p r }
-    {
-        Spot {
-            place: self.place,
-            known: self.known.read_by(insn),
-        }
-    }
-
-    /// Another place, where the same is known.
-    pub fn after(self, place: usize) -> Spot
+    /// Another place, with the same state.
+    pub fn at(&self, place: usize) -> Spot
         ensures place { result.place ≡ place }
-        ensures known { result.known ≡ self.known }
+        ensures state { result.state ≡ self.now.state }
     {
         Spot {
             place,
-            known: self.known,
+            state: self.state,
         }
     }
 }
@@ -57,9 +49,10 @@ impl Spot {
 #[derive(Drop)]
 pub(crate) struct Spots {
     nodes: Vec<(Spot, u32)>,
-    /// Where in `nodes` a spot is.
-    places: IndexMap<Spot, usize>,
-    budget: usize,
+    /// Where in `nodes` a spot is, by its digest.
+    places: IndexMap<u64, usize>,
+    /// What the program reads again, by its places.
+    live: Vec<Live>,
 }
 
 impl Model for Spots {
@@ -72,23 +65,36 @@ impl Model for Spots {
 }
 
 impl Spots {
-    /// No spot was walked. At most `budget` are kept.
-    pub fn new(alloc: Global, budget: usize) -> Spots
-        ensures { result ≡ [] }
+    /// No spot of a program was walked.
+    pub fn new(alloc: Global, insns: &[Insn]) -> Result<Spots, Stop>
+        ensures { IfOk result (λ s. s ≡ []) }
     {
-        Spots {
+        Ok(Spots {
             nodes: Vec::new(alloc),
             places: IndexMap::new(alloc),
-            budget,
+            live: live_of(alloc, insns)?,
+        })
+    }
+
+    /// The same spot without what is not read again. So places where runs meet are walked once.
+    pub fn live(&self, spot: &Spot) -> Spot
+        ensures place { result.place ≡ spot.now.place }
+        ensures state { IsPart spot.now.state result.state }
+    {
+        let live = self.live.get(spot.place).copied().unwrap_or(Live::NOTHING);
+        Spot {
+            place: spot.place,
+            state: spot.state.live(live),
         }
     }
 
-    /// The node of a spot that has nothing but what its instruction reads, if it was walked.
-    fn node(&self, spot: Spot) -> Option<u32>
-        ensures { IfSome result (λ i. (b : Builder) → (insns : List Insn) → AreNodes b insns self.now
-            → IsNodeOf b insns spot i) }
+    /// The node of a spot that has nothing but what is read again, if it was walked.
+    fn node(&self, spot: &Spot) -> Option<u32>
+        ensures { IfSome result (λ i. (b : Symbols) → (insns : List Insn) → AreNodes b insns self.now
+            → IsNodeOf b insns spot.now i) }
     {
-        let place = self.places.get(&spot).copied()?;
+        let digest = spot.state.digest(spot.place);
+        let place = self.places.get(&digest).copied()?;
         if place >= self.nodes.len() {
             return None;
         }
@@ -97,27 +103,28 @@ impl Spots {
     }
 
     /// The node of a spot, if it was walked.
-    pub fn known(&self, insns: &[Insn], spot: Spot) -> Option<u32>
-        ensures { IfSome result (λ i. (b : Builder) → AreNodes b insns.now self.now → IsNodeOf b insns.now spot i) }
+    pub fn known(&self, spot: &Spot) -> Option<u32>
+        ensures { IfSome result (λ i. (b : Symbols) → (insns : List Insn) → AreNodes b insns self.now
+            → AreWords b.words.diagrams spot.now.state → IsNodeOf b insns spot.now i) }
     {
-        let insn = insns.get(spot.place)?;
-        self.node(spot.read_by(insn))
+        self.node(&self.live(spot))
     }
 
     /// Keeps the node of a spot, and returns it.
     pub fn keep(&mut self, spot: Spot, node: u32) -> Result<u32, Stop>
         ensures node { IfOk result (λ i. i ≡ node) }
-        ensures kept { IfOk result (λ i. (b : Builder) → (insns : List Insn) → AreNodes b insns self.old
+        ensures kept { IfOk result (λ i. (b : Symbols) → (insns : List Insn) → AreNodes b insns self.old
             → IsNodeOf b insns spot node → AreNodes b insns self.new) }
     {
         let place = self.nodes.len();
-        if place >= self.budget {
+        if place >= MOST_SPOTS {
             return Err(Stop::Budget);
         }
+        let digest = spot.state.digest(spot.place);
         let Ok(()) = self.nodes.push((spot, node)) else {
             return Err(Stop::Memory);
         };
-        let Ok(_) = self.places.insert(spot, place) else {
+        let Ok(_) = self.places.insert(digest, place) else {
             return Err(Stop::Memory);
         };
         Ok(node)

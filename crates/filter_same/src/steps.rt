@@ -1,178 +1,236 @@
-//! What single instructions do, by what is known of the registers.
+//! What single instructions do, by the words in the registers and in the scratch memory.
 
-ghost use Rattle.std.specs.Prelude.{◌≡◌, ◌+◌, ◌*◌, ◌<◌, ◌≤◌, ℕ, Bool, IfOk, IfSome, Option, Some, option_map, bit_and, false, if◌then◌else◌};
-ghost use Rattle.bpfvm.specs.Codes.{Accumulator, Index, AnyBit, operation_of};
-ghost use Rattle.bpfvm.specs.Machine.{Registers, Goes, loaded, number_at, holds};
-ghost use Rattle.filter_meaning.specs.Meaning.{Packet};
-ghost use Rattle.filter_bdd.specs.Fields.{by_order};
-ghost use Rattle.filter_same.specs.Packets.{IsPacket, HasHeader};
-ghost use Rattle.filter_same.specs.Walks.{IsKnown, AreKnown, IsEffect, IsStepOf};
+ghost use Rattle.std.specs.Prelude.{◌≡◌, ℕ, ◌<◌, ◌+◌, ◌*◌, length, Some, option_map, bit_and, nat_lt, IfOk};
+ghost use Rattle.bpfvm.specs.Machine.{calculated, holds, number_at, operand};
+ghost use Rattle.filter_meaning.specs.Meaning.{arithmetic_of, bytes_of};
+ghost use Rattle.filter_words.specs.Words.{Says, IsWord, value};
+ghost use Rattle.filter_symbols.specs.Packets.{bit_of};
+ghost use Rattle.filter_symbols.specs.Symbols.{StandsFor, Extends};
+ghost use Rattle.filter_same.specs.Actions.{comparison_of, operand_of, number_from};
+ghost use Rattle.filter_same.specs.States.{AreWords};
+ghost use Rattle.filter_same.specs.Walks.{IsOperand, IsLoad, IsOn, IsJump, IsStepOf};
 
-use crate::builder::Refusal;
-use crate::fields::{AT_LEAST, Bytes, EQUAL, GREATER};
-use crate::known::{Known, KnownRegisters};
-use bpfvm::{Insn, code};
-use filter_bdd::ByOrder;
-
-/// The offsets that are tested are below this one, as those of expressions are.
-pub(crate) const OFFSETS: u32 = 0x1_0000;
+use crate::actions::{Action, Operand, Source, Test};
+use crate::builder::Builder;
+use crate::state::{State, kept};
+use bpfvm::Insn;
+use filter_bdd::{Answer, Stop};
+use filter_symbols::{Refusal, Symbol};
+use filter_tree::headers::ETHER_HDR_LEN;
+use filter_tree::{Operator, Size};
+use filter_words::Word;
 
 /// Where the IPv4 header begins in the frame.
-const HEADER: u32 = 14;
-
-/// A number of which this is known, and how it has to compare with another one.
-#[derive(Clone, Copy, Debug)]
-pub(crate) struct Condition {
-    pub known: Known,
-    pub number: u32,
-    pub holds: ByOrder<bool>,
-}
+const HEADER: u32 = ETHER_HDR_LEN as u32;
 
 /// What an instruction does.
 #[derive(Clone, Copy, Debug)]
 pub(crate) enum Step {
-    /// The run goes on past N of the instructions that follow, with this known of the registers.
-    On(u32, KnownRegisters),
-    /// The run goes on at the next instruction if N bytes were captured; else it ends.
-    Load(u32, KnownRegisters),
-    /// A conditional jump.
-    Branch(Condition),
-    /// The run ends: whether the program keeps bytes.
-    End(bool),
+    /// Where the node `guard` says Yes, the run goes on past `passed` of the instructions that follow, with a state. Elsewhere it aborts.
+    On {
+        guard: u32,
+        passed: u32,
+        state: State,
+    },
+    /// A conditional jump, by what a node says.
+    Branch(u32),
+    /// The run ends, with what a node says.
+    End(u32),
 }
 
-/// Bytes of the frame at an offset go into the accumulator.
-fn load(known: KnownRegisters, offset: u32, size: u32) -> Result<Step, Refusal>
-    requires { size ≤ 4 }
-    ensures { IfOk result (λ s. (i : Insn) → (p : Packet) → IsPacket p → (r : Registers) → AreKnown known p r
-        → IsEffect i false r p (loaded Accumulator r (number_at p.captured offset size)) s) }
-{
-    if offset >= OFFSETS {
-        return Err(Refusal::Relation);
+impl Builder {
+    /// A symbol of a number that every packet has.
+    fn symbol_of(&mut self, word: Word) -> Result<Symbol, Stop>
+        requires { IsWord self.old.symbols.words.diagrams word }
+        ensures stands { IfOk result (StandsFor self.new.symbols (λ p. Some (value self.old.symbols.words.diagrams (bit_of p) word))) }
+        ensures extends { Extends self.old.symbols self.new.symbols }
+    {
+        let guard = self.symbols.words.fixed(true)?;
+        Ok(Symbol { guard, word })
     }
-    let bytes = Bytes {
-        offset,
-        size,
-        mask: u64::MAX,
-    };
-    Ok(Step::Load(offset + size, known.with_accumulator(Known::Bytes(bytes))))
-}
 
-/// The same, at an offset that the index register adds to.
-fn load_indirect(known: KnownRegisters, offset: u32, size: u32) -> Result<Step, Refusal>
-    requires { size ≤ 4 }
-    ensures { IfOk result (λ s. (i : Insn) → (p : Packet) → IsPacket p → (r : Registers) → AreKnown known p r
-        → IsEffect i false r p (loaded Accumulator r (number_at p.captured (r.index + offset) size)) s) }
-{
-    match known.index {
-        Known::Number(index) if index < OFFSETS && offset < OFFSETS => load(
-            known,
-            index + offset,
-            size,
-        ),
-        _ => Err(Refusal::Relation),
+    /// The operand of an instruction.
+    fn operand(&mut self, state: &State, insn: &Insn, operand: Operand) -> Result<Word, Refusal>
+        requires { AreWords self.old.symbols.words.diagrams state.now }
+        ensures operand { IfOk result (IsOperand self.old.symbols.words.diagrams self.new.symbols.words.diagrams state.now (operand_of operand) insn.now) }
+        ensures extends { Extends self.old.symbols self.new.symbols }
+    {
+        match operand {
+            Operand::Constant => Ok(self.symbols.words.constant(insn.k)?),
+            Operand::InIndex => kept(state.index),
+        }
     }
-}
 
-/// The length of the IPv4 header goes into the index register, if it is known.
-fn load_header_length(
-    header: Option<u32>,
-    known: KnownRegisters,
-    offset: u32,
-) -> Result<Step, Refusal>
-    requires { IfSome header (λ n. n < 16) }
-    ensures { IfOk result (λ s. (i : Insn) → (p : Packet) → IsPacket p → HasHeader header p → (r : Registers) → AreKnown known p r
-        → IsEffect i false r p (loaded Index r (option_map (λ byte. 4 * bit_and byte 15) (number_at p.captured offset 1))) s) }
-{
-    if offset != HEADER {
-        return Err(Refusal::Relation);
+    /// What an operator makes of two numbers that every packet has.
+    #[tactic(auto, using(crate::proofs::Builders::extends_more, crate::proofs::Builders::extends_same, crate::proofs::Builders::inside_extended, crate::proofs::Instructions::word_extended))]
+    fn calculated(&mut self, operator: Operator, first: Word, second: Word) -> Result<Symbol, Stop>
+        requires first { IsWord self.old.symbols.words.diagrams first }
+        requires second { IsWord self.old.symbols.words.diagrams second }
+        ensures stands { IfOk result (StandsFor self.new.symbols (λ p. calculated (arithmetic_of operator)
+            (value self.old.symbols.words.diagrams (bit_of p) first) (value self.old.symbols.words.diagrams (bit_of p) second))) }
+        ensures extends { Extends self.old.symbols self.new.symbols }
+    {
+        let left = self.symbol_of(first)?;
+        let right = self.symbol_of(second)?;
+        self.symbols.calculate(operator, left, right)
     }
-    match header {
-        Some(words) => Ok(Step::Load(HEADER + 1, known.with_index(Known::Number(4 * words)))),
-        None => Err(Refusal::Header),
+
+    /// The length in bytes of an IPv4 header that begins at an offset. `Header` if it is that of the packet, and not given.
+    fn header_length(&mut self, offset: u32) -> Result<Symbol, Refusal>
+        ensures stands { IfOk result (StandsFor self.new.symbols (λ p. option_map (λ b. 4 * bit_and b 15) (number_at p.captured offset 1))) }
+        ensures extends { Extends self.old.symbols self.new.symbols }
+    {
+        if offset == HEADER && self.symbols.header.is_none() {
+            return Err(Refusal::Header);
+        }
+        let first = self.symbols.load_at(offset, Size::One)?;
+        let mask = self.symbols.number(15)?;
+        let words = self.symbols.calculate(Operator::BitAnd, first, mask)?;
+        let four = self.symbols.number(4)?;
+        let length = self.symbols.calculate(Operator::Times, words, four)?;
+        Ok(length)
     }
-}
 
-/// What is known of a number under a mask.
-fn masked(known: Known, mask: u32) -> Result<Known, Refusal>
-    ensures { IfOk result (λ k. (p : Packet) → (n : ℕ) → IsKnown known p n → IsKnown k p (bit_and n mask)) }
-{
-    match known {
-        Known::Number(number) => Ok(Known::Number(number & mask)),
-        Known::Bytes(bytes) => Ok(Known::Bytes(Bytes {
-            offset: bytes.offset,
-            size: bytes.size,
-            mask: bytes.mask & u64::from(mask),
-        })),
-        Known::Length | Known::Nothing => Err(Refusal::Relation),
+    /// Bytes at an offset that the index register adds to. `Header` if the register is no constant, and the header's length is not given:
+    /// with it most offsets are.
+    #[tactic(auto, using(crate::proofs::Builders::extends_more, crate::proofs::Builders::extends_same, crate::proofs::Instructions::word_extended))]
+    fn load_after(&mut self, index: Word, offset: u32, size: Size) -> Result<Symbol, Refusal>
+        requires { IsWord self.old.symbols.words.diagrams index }
+        ensures stands { IfOk result (StandsFor self.new.symbols (λ p. number_at p.captured (offset + value self.old.symbols.words.diagrams (bit_of p) index) (bytes_of size))) }
+        ensures extends { Extends self.old.symbols self.new.symbols }
+    {
+        if self.symbols.header.is_none() && self.symbols.words.known(index).is_none() {
+            return Err(Refusal::Header);
+        }
+        let place = self.symbol_of(index)?;
+        let bytes = self.symbols.load(place, offset, size)?;
+        Ok(bytes)
     }
-}
 
-/// A conditional jump, by the order of the accumulator and the operand.
-fn jump_by_order(known: KnownRegisters, insn: &Insn, holds: ByOrder<bool>) -> Step
-    ensures { (f : ℕ → Bool) → ((x : ℕ) → by_order x insn.now.k holds.less holds.equal holds.greater ≡ f x)
-        → (p : Packet) → (r : Registers) → AreKnown known p r
-        → IsEffect insn.now false r p (Goes (if f r.accumulator then insn.now.jt else insn.now.jf) r) result }
-{
-    Step::Branch(Condition {
-        known: known.accumulator,
-        number: insn.k,
-        holds,
-    })
-}
-
-/// A conditional jump, by whether the accumulator has a bit of the operand.
-fn jump_by_bits(known: KnownRegisters, insn: &Insn) -> Result<Step, Refusal>
-    ensures { IfOk result (λ s. (p : Packet) → (r : Registers) → AreKnown known p r
-        → IsEffect insn.now false r p (Goes (if holds AnyBit r.accumulator insn.now.k then insn.now.jt else insn.now.jf) r) s) }
-{
-    Ok(Step::Branch(Condition {
-        known: masked(known.accumulator, insn.k)?,
-        number: 0,
-        holds: GREATER,
-    }))
-}
-
-/// What an instruction that compares the accumulator with its operand does.
-fn jump(known: KnownRegisters, insn: &Insn) -> Result<Step, Refusal>
-    ensures { (header : Option ℕ) → IfOk result (IsStepOf header known insn.now (operation_of insn.now.code)) }
-{
-    match insn.code {
-        code::JEQ_K => Ok(jump_by_order(known, insn, EQUAL)),
-        code::JGT_K => Ok(jump_by_order(known, insn, GREATER)),
-        code::JGE_K => Ok(jump_by_order(known, insn, AT_LEAST)),
-        code::JSET_K => jump_by_bits(known, insn),
-        _ => Err(Refusal::Relation),
+    /// The number that an instruction loads.
+    #[tactic(auto, using(crate::proofs::Builders::extends_more, crate::proofs::Builders::extends_same, crate::proofs::Builders::inside_extended, crate::proofs::Instructions::word_extended))]
+    fn load_of(&mut self, state: &State, insn: &Insn, source: Source) -> Result<Symbol, Refusal>
+        requires { AreWords self.old.symbols.words.diagrams state.now }
+        ensures load { IfOk result (IsLoad self.old.symbols self.new.symbols state.now (number_from source) insn.now) }
+        ensures extends { Extends self.old.symbols self.new.symbols }
+    {
+        match source {
+            Source::Absolute(size) => Ok(self.symbols.load_at(insn.k, size)?),
+            Source::Indirect(size) => self.load_after(kept(state.index)?, insn.k, size),
+            Source::Immediate => Ok(self.symbols.number(insn.k)?),
+            Source::Memory => Ok(self.symbol_of(kept(state.cell(insn.k))?)?),
+            Source::Length => Ok(self.symbols.wire_length()?),
+            Source::HeaderLength => self.header_length(insn.k),
+            Source::Calculated(operator, operand) => {
+                let first = kept(state.accumulator)?;
+                let second = self.operand(state, insn, operand)?;
+                Ok(self.calculated(operator, first, second)?)
+            }
+            Source::Negated => {
+                let number = kept(state.accumulator)?;
+                let zero = self.symbols.words.constant(0)?;
+                Ok(self.calculated(Operator::Minus, zero, number)?)
+            }
+            Source::Register(from) => Ok(self.symbol_of(kept(state.register(from))?)?),
+        }
     }
-}
 
-/// What an instruction does to each packet of a header length. `Relation` if that can't be said by what is known.
-pub(crate) fn step_of(
-    header: Option<u32>,
-    known: KnownRegisters,
-    insn: &Insn,
-) -> Result<Step, Refusal>
-    requires { IfSome header (λ n. n < 16) }
-    ensures { IfOk result (IsStepOf header known insn.now (operation_of insn.now.code)) }
-{
-    let k = insn.k;
-    match insn.code {
-        code::LD_W_ABS => load(known, k, 4),
-        code::LD_H_ABS => load(known, k, 2),
-        code::LD_B_ABS => load(known, k, 1),
-        code::LD_W_IND => load_indirect(known, k, 4),
-        code::LD_H_IND => load_indirect(known, k, 2),
-        code::LD_B_IND => load_indirect(known, k, 1),
-        code::LDX_MSH => load_header_length(header, known, k),
-        code::LD_IMM => Ok(Step::On(0, known.with_accumulator(Known::Number(k)))),
-        code::LDX_IMM => Ok(Step::On(0, known.with_index(Known::Number(k)))),
-        code::LD_LEN => Ok(Step::On(0, known.with_accumulator(Known::Length))),
-        code::LDX_LEN => Ok(Step::On(0, known.with_index(Known::Length))),
-        code::TAX => Ok(Step::On(0, known.with_index(known.accumulator))),
-        code::TXA => Ok(Step::On(0, known.with_accumulator(known.index))),
-        code::AND_K => Ok(Step::On(0, known.with_accumulator(masked(known.accumulator, k)?))),
-        code::JA => Ok(Step::On(k, known)),
-        code::RET_K => Ok(Step::End(k > 0)),
-        _ => jump(known, insn),
+    /// A node that says whether two words pass a test.
+    fn test(&mut self, test: Test, first: Word, second: Word) -> Result<u32, Stop>
+        requires first { IsWord self.old.symbols.words.diagrams first }
+        requires second { IsWord self.old.symbols.words.diagrams second }
+        ensures says { IfOk result (Says self.new.symbols.words.diagrams (λ v. holds (comparison_of test)
+            (value self.old.symbols.words.diagrams v first) (value self.old.symbols.words.diagrams v second))) }
+        ensures extends { Extends self.old.symbols self.new.symbols }
+    {
+        match test {
+            Test::Equal => self.symbols.words.is_equal(first, second),
+            Test::Greater => self.symbols.words.is_greater(first, second),
+            Test::GreaterOrEqual => self.symbols.words.is_at_least(first, second),
+            Test::AnyBit => self.symbols.words.has_common_bit(first, second),
+        }
+    }
+
+    /// A node that says whether a word is no 0.
+    fn is_some(&mut self, word: Word) -> Result<u32, Stop>
+        requires { IsWord self.old.symbols.words.diagrams word }
+        ensures says { IfOk result (Says self.new.symbols.words.diagrams (λ v. nat_lt 0 (value self.old.symbols.words.diagrams v word))) }
+        ensures extends { Extends self.old.symbols self.new.symbols }
+    {
+        let zero = self.symbols.words.constant(0)?;
+        self.symbols.words.is_greater(word, zero)
+    }
+
+    /// The run goes on, past so many instructions, with a state.
+    fn go_on(&mut self, passed: u32, state: State) -> Result<Step, Stop>
+        requires { AreWords self.old.symbols.words.diagrams state }
+        ensures on { IfOk result (IsOn self.new.symbols.words.diagrams passed state) }
+        ensures extends { Extends self.old.symbols self.new.symbols }
+    {
+        let guard = self.symbols.words.fixed(true)?;
+        Ok(Step::On {
+            guard,
+            passed,
+            state,
+        })
+    }
+
+    /// A conditional jump. Where the test is the same for every packet, the run goes on on one way alone.
+    fn branch(&mut self, state: &State, insn: &Insn, test: u32) -> Result<Step, Stop>
+        requires state { AreWords self.old.symbols.words.diagrams state.now }
+        requires test { test < length self.old.symbols.words.diagrams }
+        ensures jump { IfOk result (IsJump self.old.symbols.words.diagrams self.new.symbols.words.diagrams state.now insn.now test) }
+        ensures extends { Extends self.old.symbols self.new.symbols }
+    {
+        if self.symbols.words.diagrams.is(test, Answer::Final(0, true)) {
+            return self.go_on(u32::from(insn.jt), *state);
+        }
+        if self
+            .symbols
+            .words
+            .diagrams
+            .is(test, Answer::Final(0, false))
+        {
+            return self.go_on(u32::from(insn.jf), *state);
+        }
+        Ok(Step::Branch(test))
+    }
+
+    /// What an instruction does.
+    #[tactic(auto, using(crate::proofs::Builders::extends_more, crate::proofs::Builders::extends_same, crate::proofs::Builders::inside_extended, crate::proofs::Instructions::word_extended, crate::proofs::Instructions::words_extended))]
+    pub fn step(&mut self, state: &State, insn: &Insn, action: Action) -> Result<Step, Refusal>
+        requires { AreWords self.old.symbols.words.diagrams state.now }
+        ensures step { IfOk result (IsStepOf self.old.symbols self.new.symbols state.now insn.now action) }
+        ensures extends { Extends self.old.symbols self.new.symbols }
+    {
+        match action {
+            Action::Load(to, source) => {
+                let number = self.load_of(state, insn, source)?;
+                Ok(Step::On {
+                    guard: number.guard,
+                    passed: 0,
+                    state: state.with_register(to, number.word),
+                })
+            }
+            Action::Store(from) => {
+                let stored = state.with_cell(insn.k, kept(state.register(from))?)?;
+                Ok(self.go_on(0, stored)?)
+            }
+            Action::Jump => Ok(self.go_on(insn.k, *state)?),
+            Action::Branch(test, operand) => {
+                let first = kept(state.accumulator)?;
+                let second = self.operand(state, insn, operand)?;
+                let holds = self.test(test, first, second)?;
+                Ok(self.branch(state, insn, holds)?)
+            }
+            Action::ReturnConstant => {
+                let end = self.leaf(Answer::Final(0, insn.k > 0))?;
+                Ok(Step::End(end))
+            }
+            Action::ReturnAccumulator => {
+                let end = self.is_some(kept(state.accumulator)?)?;
+                Ok(Step::End(end))
+            }
+        }
     }
 }

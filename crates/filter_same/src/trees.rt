@@ -3,19 +3,20 @@
 ghost use Rattle.std.specs.Prelude.{◌≡◌, ◌<◌, IfOk, IfSome};
 ghost use Rattle.filter_tree.specs.Trees.{tree_of};
 ghost use Rattle.filter_meaning.specs.Meaning.{meaning, primitive_test};
-ghost use Rattle.filter_same.specs.Packets.{Means, Extends};
+ghost use Rattle.filter_symbols.specs.Symbols.{SaysOf, Extends};
 
-use crate::builder::{Builder, Refusal};
+use crate::builder::Builder;
 use filter_bdd::Answer;
+use filter_symbols::Refusal;
 use filter_tree::Expr;
 
 impl Builder {
     /// A node that says what an expression answers.
     #[tactic(auto, using(crate::proofs::Builders::extends_more, crate::proofs::Builders::extends_same, crate::proofs::Builders::inside_extended))]
     pub fn tree(&mut self, expr: &Expr) -> Result<u32, Refusal>
-        requires { IfSome self.old.header (λ n. n < 16) }
-        ensures means { IfOk result (Means self.new (meaning (tree_of expr.now))) }
-        ensures extends { Extends self.old self.new }
+        requires { IfSome self.old.symbols.header (λ n. n < 16) }
+        ensures means { IfOk result (SaysOf self.new.symbols (meaning (tree_of expr.now))) }
+        ensures extends { Extends self.old.symbols self.new.symbols }
     {
         match expr {
             Expr::Everything => Ok(self.leaf(Answer::Final(0, true))?),

@@ -79,16 +79,21 @@ impl Builder {
     /// One step down to an answer other than Yes, if there is one to take: the bit that a node asks for, and the node after it. Where both
     /// ways lead to such an answer, it takes that of the plain frame.
     fn step_down(&self, place: u32, plain: Plain) -> Option<(Bit, u32)>
-        requires place { place < length self.now.diagrams }
+        requires place { place < length self.now.symbols.words.diagrams }
         requires header { plain.header < 16 }
         ensures less { IfSome result (λ step. step.1 < place) }
     {
-        let Node::Branch(name, zero, one) = self.diagrams.node(place) else {
+        let Node::Branch(name, zero, one) = self.symbols.words.diagrams.node(place) else {
             return None;
         };
         let usual = plain.is_set(name);
         let (there, other) = if usual { (one, zero) } else { (zero, one) };
-        if self.diagrams.is(there, Answer::Final(0, true)) {
+        if self
+            .symbols
+            .words
+            .diagrams
+            .is(there, Answer::Final(0, true))
+        {
             Some((Bit { name, one: !usual }, other))
         } else {
             Some((Bit { name, one: usual }, there))
@@ -97,7 +102,7 @@ impl Builder {
 
     /// The bits on the way down, and the answer there.
     fn way_down(&self, alloc: Global, from: u32, plain: Plain) -> Result<(Vec<Bit>, Answer), Stop>
-        requires from { from < length self.now.diagrams }
+        requires from { from < length self.now.symbols.words.diagrams }
         requires header { plain.header < 16 }
     {
         let mut bits = Vec::new(alloc);
@@ -108,7 +113,7 @@ impl Builder {
             }
             place = next;
         }
-        match self.diagrams.node(place) {
+        match self.symbols.words.diagrams.node(place) {
             Node::Leaf(says) => Ok((bits, says)),
             Node::Branch(_, _, _) => Ok((bits, Answer::Never)),
         }
@@ -116,11 +121,11 @@ impl Builder {
 
     /// A packet whose bits lead from a node to a No, with as many captured bytes as that needs or more, if there is one.
     pub fn witness(&self, alloc: Global, from: u32, extent: Extent) -> Result<Option<Witness>, Stop>
-        requires from { from < length self.now.diagrams }
-        requires header { IfSome self.now.header (λ n. n < 16) }
+        requires from { from < length self.now.symbols.words.diagrams }
+        requires header { IfSome self.now.symbols.header (λ n. n < 16) }
     {
         let plain = Plain {
-            header: self.header.unwrap_or(5),
+            header: self.symbols.header.unwrap_or(5),
         };
         let (bits, says) = self.way_down(alloc, from, plain)?;
         let Answer::Final(need, false) = says else {

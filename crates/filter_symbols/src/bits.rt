@@ -10,12 +10,13 @@ ghost use Rattle.filter_symbols.specs.Steps.{IsBitOf, IsField};
 
 use crate::symbol::Symbols;
 use filter_bdd::Stop;
+use filter_tree::headers::ETHER_HDR_LEN;
 use filter_words::Word;
 
 /// The names of the low four bits of the first byte of the IPv4 header.
-const HEADER_FIRST: u32 = 148;
+const HEADER_FIRST: u32 = 32 + 8 * ETHER_HDR_LEN as u32 + 4;
 
-const HEADER_LAST: u32 = 151;
+const HEADER_LAST: u32 = HEADER_FIRST + 3;
 
 /// A bit of a number, the lowest being bit 0.
 fn is_set(number: u32, bit: u32) -> bool

@@ -72,7 +72,7 @@ impl Symbols {
     }
 
     /// What an operator makes of two symbols. It is nothing where one of them has no number, or a divisor is 0.
-    pub(crate) fn calculate(
+    pub fn calculate(
         &mut self,
         operator: Operator,
         first: Symbol,

@@ -57,7 +57,7 @@ fn with_bit(number: u32, bit: u32) -> Result<u32, Stop>
 
 impl Symbols {
     /// Bytes of a packet at an offset of the frame.
-    fn load_at(&mut self, offset: u32, size: Size) -> Result<Symbol, Stop>
+    pub fn load_at(&mut self, offset: u32, size: Size) -> Result<Symbol, Stop>
         ensures stands { IfOk result (StandsFor self.new (λ p. number_at p.captured offset (bytes_of size))) }
         ensures extends { Extends self.old self.new }
     {
@@ -143,7 +143,7 @@ impl Symbols {
     }
 
     /// Bytes of a packet at `base` and an index. There are none where the index has no number.
-    pub(crate) fn load(&mut self, index: Symbol, base: u32, size: Size) -> Result<Symbol, Stop>
+    pub fn load(&mut self, index: Symbol, base: u32, size: Size) -> Result<Symbol, Stop>
         requires { IsSymbol self.old.words.diagrams index }
         ensures inside { IfOk result (IsSymbol self.new.words.diagrams) }
         ensures stands { IfOk result (λ s. (f : Packet → Option ℕ) → StandsFor self.old f index

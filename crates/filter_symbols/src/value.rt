@@ -8,14 +8,15 @@ ghost use Rattle.filter_symbols.specs.Steps.{index_behind};
 
 use crate::symbol::{Refusal, Symbol, Symbols};
 use filter_bdd::{Answer, Operation, Stop};
+use filter_tree::headers::ETHER_HDR_LEN;
 use filter_tree::{Comparison, Layer, Operator, Size, Value};
 
 /// Where what comes after the Ethernet header begins.
-const NETWORK: u32 = 14;
+const NETWORK: u32 = ETHER_HDR_LEN as u32;
 
 impl Symbols {
     /// A number.
-    fn number(&mut self, number: u32) -> Result<Symbol, Stop>
+    pub fn number(&mut self, number: u32) -> Result<Symbol, Stop>
         ensures stands { IfOk result (StandsFor self.new (λ p. Some number)) }
         ensures extends { Extends self.old self.new }
     {
@@ -25,7 +26,7 @@ impl Symbols {
     }
 
     /// The length on the wire.
-    fn wire_length(&mut self) -> Result<Symbol, Stop>
+    pub fn wire_length(&mut self) -> Result<Symbol, Stop>
         ensures stands { IfOk result (StandsFor self.new (λ p. Some p.wire)) }
         ensures extends { Extends self.old self.new }
     {

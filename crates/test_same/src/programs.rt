@@ -95,12 +95,47 @@ fn other_programs_differ(rt: HostRuntime) {
     }
 }
 
+/// Listings that accept what an expression does. They calculate, use scratch memory and X, and return the accumulator.
+static CALCULATING: [(&str, &str); 6] = [
+    // len + 1 = 101
+    (
+        "len = 100",
+        "5\n128 0 0 0\n4 0 0 1\n21 0 1 101\n6 0 0 1\n6 0 0 0\n",
+    ),
+    // M[3] = len; X = M[3]; A = 100; A = X
+    (
+        "len = 100",
+        "7\n128 0 0 0\n2 0 0 3\n97 0 0 3\n0 0 0 100\n29 0 1 0\n6 0 0 1\n6 0 0 0\n",
+    ),
+    // ret a, of len - 100
+    ("len != 100", "3\n128 0 0 0\n20 0 0 100\n22 0 0 0\n"),
+    // A = 1000 / len = 10
+    (
+        "len >= 91 and len <= 100",
+        "6\n129 0 0 0\n0 0 0 1000\n60 0 0 0\n21 0 1 10\n6 0 0 1\n6 0 0 0\n",
+    ),
+    // X = 4 * (P[14] & 15); A = P[X + 14]
+    (
+        "ether[(ether[14] & 15) * 4 + 14] = 7",
+        "5\n177 0 0 14\n80 0 0 14\n21 0 1 7\n6 0 0 1\n6 0 0 0\n",
+    ),
+    // -len = -100
+    (
+        "len = 100",
+        "5\n128 0 0 0\n132 0 0 0\n21 0 1 4294967196\n6 0 0 1\n6 0 0 0\n",
+    ),
+];
+
 #[test]
-fn arithmetic_of_a_program_is_not_decided(rt: HostRuntime) {
-    let listing = "4\n128 0 0 0\n4 0 0 1\n21 0 0 5\n6 0 0 1\n";
-    same(
-        &rt,
-        matches!(found(&rt, "ip", listing), Sameness::NotDecided(_)),
-        true,
-    );
+fn what_a_program_calculates_is_decided(rt: HostRuntime) {
+    for (expr, listing) in CALCULATING.iter() {
+        same(&rt, found(&rt, expr, listing) == Sameness::Same, true);
+    }
+}
+
+#[test]
+fn a_program_that_calculates_another_number_differs(rt: HostRuntime) {
+    let listing = "5\n128 0 0 0\n4 0 0 1\n21 0 1 100\n6 0 0 1\n6 0 0 0\n";
+    let differs = matches!(found(&rt, "len = 100", listing), Sameness::Differ(_));
+    same(&rt, differs, true);
 }

@@ -2,7 +2,7 @@
 
 use crate::kinds::found;
 use crate::same::same;
-use filter_same::{Cause, Sameness};
+use filter_same::Sameness;
 
 /// Pairs that accept the same packets, of every captured length.
 static SAME: [(&str, &str); 20] = [
@@ -64,20 +64,4 @@ fn relations_are_cut_short(rt: HostRuntime) {
     same(&rt, captured == Sameness::SameAsCaptured, true);
     let short = found(&rt, "ip[0] = 69 or ip[40] = 2", "ip[40] = 2 or ip[0] = 69");
     same(&rt, matches!(short, Sameness::Short(_)), true);
-}
-
-#[test]
-fn other_arithmetic_is_not_decided(rt: HostRuntime) {
-    for text in [
-        "ip[0] + 1 = 70",
-        "ip[ip[0]] = 1",
-        "len - 14 = 100",
-        "ip[32768] = 1",
-        "ip[0] = ip[1]",
-    ]
-    .iter()
-    {
-        let wanted = Sameness::NotDecided(Cause::Relation);
-        same(&rt, found(&rt, text, "ip") == wanted, true);
-    }
 }

@@ -6,16 +6,16 @@ use Rattle.filter_same.proofs.builder.Builder.cut.Goals as goal
 
 pub loop-leaf-init : goal.loop-leaf-init
 loop-leaf-init c =
-    let s = c.args.self.now in
-    record { extends = extends_same s s refl; keeps = keeps_same IsCaptured s.diagrams c.args.place c.requires }
+    let s = c.args.self.now.symbols in
+    record { extends = extends_same s s refl; keeps = keeps_same IsCaptured s.words.diagrams c.args.place c.requires }
 
 pub loop-leaf-preserved : goal.loop-leaf-preserved
 loop-leaf-preserved c =
-    let s = c.args.self.now in
-    let l = c.loop-leaf.self in
-    let n = c.cut_as.new.self in
+    let s = c.args.self.now.symbols in
+    let l = c.loop-leaf.self.symbols in
+    let n = c.cut_as.new.self.symbols in
     let holds = c.loop-leaf.invariant in
     record {
       extends = extends_more s l n holds.extends c.cut_as.ensures.extends;
-      keeps = keeps-more IsCaptured s.diagrams l.diagrams n.diagrams c.args.place c.loop-leaf.cut c.in_ok-cut.cut holds.keeps c.in_ok-cut.ensures.keeps;
+      keeps = keeps-more IsCaptured s.words.diagrams l.words.diagrams n.words.diagrams c.args.place c.loop-leaf.cut c.in_ok-cut.cut holds.keeps c.in_ok-cut.ensures.keeps;
     }

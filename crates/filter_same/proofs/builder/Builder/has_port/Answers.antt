@@ -8,10 +8,10 @@ use Rattle.filter_same.proofs.builder.Builder.has_port.Goals as goal
 
 pub returns-clause-means : goal.returns-clause-means
 returns-clause-means c =
-    let s = c.args.self.now in
-    let g1 = c.bytes_test.new.self in
-    let g2 = c.bytes_test-2.new.self in
-    let g3 = c.both.new.self in
+    let s = c.args.self.now.symbols in
+    let g1 = c.bytes_test.new.self.symbols in
+    let g2 = c.bytes_test-2.new.self.symbols in
+    let g3 = c.both.new.self.symbols in
     let low = c.args.ports.low in
     let high = c.args.ports.high in
     let place = 14 + 4 * c.args.header + c.args.offset in

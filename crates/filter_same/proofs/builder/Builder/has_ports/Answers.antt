@@ -5,10 +5,10 @@ use Rattle.filter_same.proofs.builder.Builder.has_ports.Goals as goal
 pub returns-clause-means : goal.returns-clause-means
 returns-clause-means c =
     let ports = c.args.ports in
-    let g1 = c.is_first_fragment_of.new.self in
-    let g2 = c.has_port.new.self in
-    let g3 = c.has_port-2.new.self in
-    let g4 = c.directed.new.self in
+    let g1 = c.is_first_fragment_of.new.self.symbols in
+    let g2 = c.has_port.new.self.symbols in
+    let g3 = c.has_port-2.new.self.symbols in
+    let g4 = c.directed.new.self.symbols in
     let s = has_port ports.low ports.high 0 in
     let d = has_port ports.low ports.high 2 in
     let grew = extends_more g1 g3 g4 (extends_more g1 g2 g3 c.has_port.ensures.extends c.has_port-2.ensures.extends) c.directed.ensures.extends in

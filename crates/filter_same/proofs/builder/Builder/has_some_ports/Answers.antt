@@ -5,10 +5,10 @@ use Rattle.filter_same.proofs.builder.Builder.has_some_ports.Goals as goal
 pub returns-clause-means : goal.returns-clause-means
 returns-clause-means c =
     let ports = c.args.ports in
-    let g1 = c.has_ports.new.self in
-    let g2 = c.has_ports-2.new.self in
-    let g3 = c.has_ports-3.new.self in
-    let g4 = c.either.new.self in
+    let g1 = c.has_ports.new.self.symbols in
+    let g2 = c.has_ports-2.new.self.symbols in
+    let g3 = c.has_ports-3.new.self.symbols in
+    let g4 = c.either.new.self.symbols in
     let t = has_ports 6 ports.direction ports.low ports.high in
     let u = has_ports 17 ports.direction ports.low ports.high in
     let w = has_ports 132 ports.direction ports.low ports.high in

@@ -6,10 +6,10 @@ use Rattle.filter_same.proofs.builder.Builder.in_net_at.Goals as goal
 pub returns-clause-means : goal.returns-clause-means
 returns-clause-means c =
     let net = c.args.net in
-    let g1 = c.is_type.new.self in
-    let g2 = c.masked.new.self in
-    let g3 = c.masked-2.new.self in
-    let g4 = c.directed.new.self in
+    let g1 = c.is_type.new.self.symbols in
+    let g2 = c.masked.new.self.symbols in
+    let g3 = c.masked-2.new.self.symbols in
+    let g4 = c.directed.new.self.symbols in
     let s = has_address net.address net.mask c.args.offsets.0 in
     let d = has_address net.address net.mask c.args.offsets.1 in
     let grew = extends_more g1 g3 g4 (extends_more g1 g2 g3 c.masked.ensures.extends c.masked-2.ensures.extends) c.directed.ensures.extends in

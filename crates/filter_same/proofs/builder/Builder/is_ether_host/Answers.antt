@@ -6,8 +6,8 @@ use Rattle.filter_same.proofs.builder.Builder.is_ether_host.Goals as goal
 pub returns-clause-means : goal.returns-clause-means
 returns-clause-means c =
     let octets = c.args.address.octets in
-    let g1 = c.equals.new.self in
-    let g2 = c.equals-2.new.self in
+    let g1 = c.equals.new.self.symbols in
+    let g2 = c.equals-2.new.self.symbols in
     let is = c.number_of_address-number.ensures.number in
     map-ok c.directed.result
     (λ i h. h (is_address octets 6) (is_address octets 0)

@@ -6,10 +6,10 @@ use Rattle.filter_same.proofs.builder.Builder.is_in_some_net.Goals as goal
 pub returns-clause-means : goal.returns-clause-means
 returns-clause-means c =
     let net = c.args.net in
-    let g1 = c.is_in_net.new.self in
-    let g2 = c.is_in_net-2.new.self in
-    let g3 = c.is_in_net-3.new.self in
-    let g4 = c.either.new.self in
+    let g1 = c.is_in_net.new.self.symbols in
+    let g2 = c.is_in_net-2.new.self.symbols in
+    let g3 = c.is_in_net-3.new.self.symbols in
+    let g4 = c.either.new.self.symbols in
     let t = in_net networks.Ip net.direction net.address net.mask in
     let u = in_net networks.Arp net.direction net.address net.mask in
     let w = in_net networks.Rarp net.direction net.address net.mask in

@@ -1,6 +1,8 @@
-use Rattle.std.proofs.Common.{refl}
 use Rattle.filter_same.proofs.Walks.{program-means}
 use Rattle.filter_same.proofs.builder.Builder.whole.Goals as goal
 
 pub returns-in-Some : goal.returns-in-Some
-returns-in-Some c = program-means c.args.self.now c.args.insns.now _ c.in-Some.node refl refl refl (c.in-Some.ensures c.args.self.now c.requires)
+returns-in-Some c =
+    let b = c.args.self.now.symbols in
+    program-means b c.args.insns.now c.args.start.now c.in-Some.node c.requires.place c.requires.initial
+    (c.in-Some.ensures b c.args.insns.now c.requires.spots c.requires.initial.words)

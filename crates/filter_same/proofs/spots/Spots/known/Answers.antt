@@ -5,5 +5,5 @@ use Rattle.filter_same.proofs.spots.Spots.known.Goals as goal
 pub returns : goal.returns
 returns c =
     map-some c.node.result
-    (λ i h b nodes. node-read b c.args.insns.now c.args.spot c.read_by.result i c.read_by.ensures.place c.read_by.ensures.known (h b c.args.insns.now nodes))
+    (λ i h b insns nodes words. node-read b insns c.args.spot.now c.live.result i c.live.ensures.place c.live.ensures.state words (h b insns nodes))
     c.node.ensures
