@@ -11,9 +11,12 @@ import tarfile
 import zipfile
 
 from .bindings import PYTHON, bare
-from .common import LIMIT, ROOT, case
+from .common import KIND, LIMIT, PROGRAM, ROOT, case
+from .debian import NAMES
+from .install import install, source_in
 from .library import LIBRARY, SOURCES, STRICT, done, expression, frames, passes
 from .linking import INCLUDE, TOOL, version
+from .release import also_released
 
 sys.path.insert(0, str(ROOT / "release"))
 import targets
@@ -173,3 +176,36 @@ def its_wheel_is_for_its_machine(scene):
         words = [*python, "-B", "-m", "unittest", "discover", "-s", PYTHON / "tests"]
         said, status = done(scene, words, limit=LONG, env={**bare(), "PYTHONPATH": str(scene.folder / "site")})
         scene.check("unittest", (said.splitlines()[-1:], status), (["OK"], 0))
+
+
+@case
+def its_packages_are_made_on_another_machine(scene):
+    """`./package --machine` makes the packages of what is released for aarch64, in which lintian finds no error and no warning. What is not released of these
+    sources is refused."""
+    tools = [f"aarch64-linux-gnu-{name}" for name in ("strip", "readelf")]
+    archive = ROOT / "release" / f"bpftap-{TARGET.name}.tar.xz"
+    if KIND != "dynamic" or not archive.is_file():
+        return scene.leave(f"no {archive.name} is released" if KIND == "dynamic" else "the program that is tested is not the one that is packaged")
+    if not scene.has("dpkg-deb", *tools):
+        return
+    scene.start({})
+    source = source_in(scene, program=pathlib.Path(PROGRAM).read_bytes())
+    shutil.copytree(PYTHON, source.folder / "bindings" / "python", ignore=shutil.ignore_patterns("__pycache__"))
+    line = b"package: nothing is released of these sources for aarch64-linux\n"
+    seen = install(scene, source, "--machine", TARGET.name, "packages", program="package")
+    scene.check("not released", (seen.out, seen.err, seen.status), (b"", line, 1))
+    also_released(source, {TARGET.name: archive})
+    seen = install(scene, source, "--machine", TARGET.name, "packages", program="package")
+    made = [pathlib.Path(path) for path in seen.out.decode().splitlines()]
+    number = version()
+    wanted = [f"bpftap-{number}-{TARGET.name}.tar.gz", f"bpftap-{number}.spdx.json", f"bpftap_{number}_arm64.deb"]
+    if released(scene, TARGET.name):
+        wheel = f"bpftap-{number}-py3-none-manylinux_2_17_aarch64.manylinux2014_aarch64.musllinux_1_1_aarch64.whl"
+        wanted += [wheel, *(f"{name}_{number}_{'all' if name.startswith('python3') else 'arm64'}.deb" for name in NAMES[1:])]
+    scene.check("made", (sorted(path.name for path in made), seen.err, seen.status), (sorted(wanted), b"", 0))
+    with tarfile.open(made[0]) as packed:
+        links = {member.name.rpartition("/")[2]: member.linkname for member in packed if member.issym()}
+    scene.check("the link for compilers", links, {"libbpftap.so": LIBRARY.name} if released(scene, TARGET.name) else {})
+    if scene.has("lintian"):
+        words = ["lintian", "--allow-root", "--fail-on", "error,warning", *(path for path in made if path.suffix == ".deb")]
+        scene.check("lintian", done(scene, words, limit=LONG), ("", 0))
