@@ -14,7 +14,7 @@ from .bindings import PYTHON, bare
 from .common import KIND, LIMIT, PROGRAM, ROOT, case
 from .debian import NAMES
 from .install import install, source_in
-from .library import LIBRARY, SOURCES, STRICT, done, expression, frames, passes
+from .library import LIBRARY, SOURCES, STRICT, check_stacks, done, expression, frames, passes
 from .linking import INCLUDE, TOOL, version
 from .release import also_released
 
@@ -112,6 +112,17 @@ def its_calls_do_what_the_header_says(scene):
             called = compiled(scene, its, name, *flags)
             if called:
                 passes(scene, called, limit=LONG)
+
+
+@case
+def its_stacks_suffice(scene):
+    """No call runs out of the stack that the header states, as on x86-64."""
+    scene.start({})
+    its, _ = libraries(scene)
+    if its and scene.has(COMPILER, EMULATOR):
+        called = compiled(scene, its, "stacks", "-pthread")
+        if called:
+            check_stacks(scene, called, LONG)
 
 
 @case
