@@ -12,7 +12,7 @@ import zipfile
 
 from .bindings import PYTHON, bare
 from .common import KIND, LIMIT, PROGRAM, ROOT, case
-from .debian import NAMES
+from .debian import NAMES, dpkg
 from .install import install, source_in
 from .library import LIBRARY, SOURCES, STRICT, check_stacks, done, expression, frames, passes
 from .linking import INCLUDE, TOOL, version
@@ -189,10 +189,30 @@ def its_wheel_is_for_its_machine(scene):
         scene.check("unittest", (said.splitlines()[-1:], status), (["OK"], 0))
 
 
+def installs(scene, found):
+    """dpkg puts packages for arm64 below a folder, where the program and the library run, and takes them away again."""
+    root = scene.folder / "root"
+    for name in ("updates", "info", "triggers"):
+        (root / "var" / "lib" / "dpkg" / name).mkdir(parents=True)
+    for name, text in (("arch", "arm64\n"), ("status", ""), ("available", "")):
+        (root / "var" / "lib" / "dpkg" / name).write_text(text)
+    (root / "usr").mkdir()
+    dpkg(scene, root, "-i", *found.values())
+    own = done(scene, [PROGRAM, "check", "ip"])
+    scene.check("the program", done(scene, [EMULATOR, root / "usr" / "bin" / "bpftap", "check", "ip"]), own)
+    if "libbpftap-dev" in found and scene.has(COMPILER):
+        scene.put({"tool.c": TOOL})
+        folder = root / "usr" / "lib" / "aarch64-linux-gnu"
+        passes(scene, [COMPILER, "tool.c", f"-I{root / 'usr' / 'include'}", f"-L{folder}", "-lbpftap", f"-Wl,-rpath,{folder}", "-o", "tool"])
+        scene.check("the library", done(scene, [EMULATOR, "-L", SYSTEM, "./tool"]), (f"{version()} {TARGET.processor}\n", 0))
+    dpkg(scene, root, "-r", *reversed(found))
+    scene.check("left", [str(path) for path in root.rglob("*") if "var" not in path.parts], [])
+
+
 @case
 def its_packages_are_made_on_another_machine(scene):
-    """`./package --machine` makes the packages of what is released for aarch64, in which lintian finds no error and no warning. What is not released of these
-    sources is refused."""
+    """`./package --machine` makes the packages of what is released for aarch64. lintian finds no error and no warning; dpkg installs them, and removes them. What is
+    not released of these sources is refused."""
     tools = [f"aarch64-linux-gnu-{name}" for name in ("strip", "readelf")]
     archive = ROOT / "release" / f"bpftap-{TARGET.name}.tar.xz"
     if KIND != "dynamic" or not archive.is_file():
@@ -217,6 +237,9 @@ def its_packages_are_made_on_another_machine(scene):
     with tarfile.open(made[0]) as packed:
         links = {member.name.rpartition("/")[2]: member.linkname for member in packed if member.issym()}
     scene.check("the link for compilers", links, {"libbpftap.so": LIBRARY.name} if released(scene, TARGET.name) else {})
+    found = {path.name.partition("_")[0]: path for path in made if path.suffix == ".deb"}
     if scene.has("lintian"):
-        words = ["lintian", "--allow-root", "--fail-on", "error,warning", *(path for path in made if path.suffix == ".deb")]
-        scene.check("lintian", done(scene, words, limit=LONG), ("", 0))
+        scene.check("lintian", done(scene, ["lintian", "--allow-root", "--fail-on", "error,warning", *found.values()], limit=LONG), ("", 0))
+    # Python for arm64 is not there, nor any other package.
+    if os.geteuid() == 0 and scene.has("dpkg", EMULATOR):
+        installs(scene, {name: found[name] for name in NAMES[:3] if name in found})
