@@ -78,16 +78,24 @@ def it_takes_and_gives_what_the_other_does(scene):
 
 
 def links_by(scene, its):
-    """How a program takes each form of the library: glibc and the shared one, glibc and the archive, and musl and the archive, if musl is there."""
-    yield "shared", [COMPILER, its / LIBRARY.name, f"-Wl,-rpath,{its}"], [EMULATOR, "-L", SYSTEM]
-    yield "archive", [COMPILER, its / "libbpftap.a"], [EMULATOR, "-L", SYSTEM]
-    yield "static", [COMPILER, "-static", its / "libbpftap.a"], [EMULATOR]
+    """How a program takes each form of the library: its name, the words of the compiler before the source and after it, and how it is called. By musl if that is there:
+    the archive by its package for developers, the shared library by the one with its loader too."""
+    shared, archive = its / LIBRARY.name, its / "libbpftap.a"
+    yield "shared", [], [shared, f"-Wl,-rpath,{its}"], [EMULATOR, "-L", SYSTEM]
+    yield "archive", [], [archive], [EMULATOR, "-L", SYSTEM]
+    yield "static", ["-static"], [archive], [EMULATOR]
     try:
         musl = targets.Musl(TARGET)
     except targets.Refused as why:
         return scene.leave(str(why))
-    ends = [musl.folder / name for name in ("crt1.o", "crti.o")], [musl.archive, "-lgcc", musl.folder / "crtn.o"]
-    yield "musl", [COMPILER, "-nostdinc", "-isystem", musl.headers, "-nostdlib", "-static", *ends[0], its / "libbpftap.a", *ends[1]], [EMULATOR]
+    begin = lambda name: ["-nostdinc", "-isystem", musl.headers, "-nostdlib", musl.folder / name, musl.folder / "crti.o"]
+    end, loader = ["-lgcc", musl.folder / "crtn.o"], musl.top / "lib" / "ld-musl-aarch64.so.1"
+    yield "static by musl", ["-static", *begin("crt1.o")], [archive, musl.archive, *end], [EMULATOR]
+    if loader.exists():
+        rest = [shared, loader.resolve(), *end, f"-Wl,-rpath,{its}", f"-Wl,-dynamic-linker,/lib/{loader.name}"]
+        yield "shared by musl", ["-pie", "-fPIE", *begin("Scrt1.o")], rest, [EMULATOR, "-L", musl.top]
+    else:
+        scene.leave(f"{loader} is not there")
 
 
 @case
@@ -96,10 +104,9 @@ def it_names_its_processor(scene):
     scene.start({"tool.c": TOOL})
     its, _ = libraries(scene)
     if its and scene.has(COMPILER, EMULATOR):
-        for name, (compiler, *rest), call in links_by(scene, its):
-            at = rest.index(its / "libbpftap.a") if its / "libbpftap.a" in rest else 0
-            passes(scene, [compiler, *rest[:at], f"-I{INCLUDE}", "tool.c", *rest[at:], "-o", name])
-            scene.check(name, done(scene, [*call, f"./{name}"]), (f"{version()} {TARGET.processor}\n", 0))
+        for name, before, after, call in links_by(scene, its):
+            passes(scene, [COMPILER, *before, f"-I{INCLUDE}", "tool.c", *after, "-o", "tool"])
+            scene.check(name, done(scene, [*call, "./tool"]), (f"{version()} {TARGET.processor}\n", 0))
 
 
 @case
