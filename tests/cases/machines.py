@@ -152,12 +152,17 @@ def it_answers_as_the_other_does(scene):
 
 
 def emulated_python(scene):
-    """How Python of aarch64 is called: that of the folder which BPFTAP_ARM64 names, where packages of Debian for arm64 are unpacked."""
+    """Python of aarch64 and its environment: that of the folder which BPFTAP_ARM64 names, where packages of Debian for arm64 are unpacked. It knows itself by the name of
+    a script, which calls it by the emulator."""
+    if platform.machine() == "aarch64":
+        return sys.executable, bare()
     folder = os.environ.get("BPFTAP_ARM64")
     found = sorted((pathlib.Path(folder) / "usr" / "bin").glob("python3.*")) if folder else []
-    if platform.machine() == "aarch64":
-        return [sys.executable]
-    return [EMULATOR, "-L", folder, found[0]] if found else scene.leave("BPFTAP_ARM64 names no folder with Python for arm64")
+    if not found or not scene.has(EMULATOR):
+        return scene.leave("BPFTAP_ARM64 names no folder with Python for arm64"), None
+    scene.put({"python": f'#!/bin/sh\nexec {EMULATOR} -L {folder} -0 "$0" {found[0]} "$@"\n'})
+    (scene.folder / "python").chmod(0o755)
+    return scene.folder / "python", {**bare(), "PYTHONHOME": f"{folder}/usr"}
 
 
 @case
@@ -187,12 +192,12 @@ def its_wheel_is_for_its_machine(scene):
     shutil.copy((its if foreign == "aarch64" else other) / LIBRARY.name, scene.folder / "package" / "bpftap")
     said, status = done(scene, [sys.executable, "-Bc", script, scene.folder], at=scene.folder / "package", env=bare())
     scene.check("of another machine", (f"is for {foreign}, and this is {platform.machine()}: let BPFTAP_LIBRARY name another one" in said, status), (True, 1))
-    python = emulated_python(scene)
-    if python and scene.has(*python[:1]):
-        words = [*python, "-m", "pip", "install", "--quiet", "--no-index", "--no-deps", "--no-compile", "--target", "site", wheels["aarch64"]]
-        scene.check("pip install", done(scene, words, limit=LONG, env={**bare(), "PIP_ROOT_USER_ACTION": "ignore"})[1], 0)
-        words = [*python, "-B", "-m", "unittest", "discover", "-s", PYTHON / "tests"]
-        said, status = done(scene, words, limit=LONG, env={**bare(), "PYTHONPATH": str(scene.folder / "site")})
+    python, environment = emulated_python(scene)
+    if python:
+        words = [python, "-m", "pip", "install", "--quiet", "--no-index", "--no-deps", "--no-compile", "--target", "site", wheels["aarch64"]]
+        scene.check("pip install", done(scene, words, limit=LONG, env={**environment, "PIP_ROOT_USER_ACTION": "ignore"})[1], 0)
+        words = [python, "-B", "-m", "unittest", "discover", "-s", PYTHON / "tests"]
+        said, status = done(scene, words, limit=LONG, env={**environment, "PYTHONPATH": str(scene.folder / "site")})
         scene.check("unittest", (said.splitlines()[-1:], status), (["OK"], 0))
 
 
