@@ -3,8 +3,9 @@
  *
  *     cc tool.c $(pkg-config --cflags --libs bpftap)
  *
- * The library is for 64-bit Linux on x86-64-v2 (any processor since about 2009: SSE4.2, POPCNT). On an older one the loader refuses the
- * shared library: *CPU ISA level is lower than required*; a program with the archive ends by SIGILL. bpftap_version names the processor.
+ * The library is for 64-bit Linux on x86-64-v2 (any such processor since about 2009: SSE4.2, POPCNT) and on aarch64; bpftap_version names
+ * the one that it is made for. On an older x86-64 the loader refuses the shared library: *CPU ISA level is lower than required*; a program
+ * with the archive ends by SIGILL.
  * The archive takes malloc, realloc, free, memcpy, memmove and memset from the program's C library, and the shared library needs no library
  * by name, so that one file serves glibc and musl.
  *
@@ -542,7 +543,8 @@ struct bpftap_result bpftap_fault_text(uint32_t fault, size_t place, char *to, s
  * Faults: NOT_TEXT, NO_ROOM, NO_MEMORY. */
 struct bpftap_result bpftap_hint(const char *text, size_t text_size, uint32_t fault, size_t place, char *to, size_t room);
 
-/* Writes the version of the library, as `2.2.0 x86-64-v2`: after a blank the processor that it is made for. 64 bytes are always room enough.
+/* Writes the version of the library, as `2.2.0 x86-64-v2`: after a blank the processor that it is made for, `x86-64-v2` or `aarch64`. 64 bytes
+ * are always room enough.
  * Faults: NO_ROOM. */
 struct bpftap_result bpftap_version(char *to, size_t room);
 

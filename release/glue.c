@@ -3,7 +3,6 @@
  * these names are in its archives libos_c.a and liblibc_c.a, which are for x86-64 alone, and take the C library to be glibc. */
 #include <errno.h>
 #include <stdint.h>
-#include <stdlib.h>
 #include <sys/syscall.h>
 #include <unistd.h>
 
@@ -59,28 +58,11 @@ const struct leaf *__x86_get_cpuid_feature_leaf(unsigned leaf) {
     return to;
 }
 #else
-/* What follows is in the toolchain's archives for x86-64. First the error of the last call. */
+/* The error of the last call: for x86-64 it is in the toolchain's archives. Memory is in heap.c. */
 int rattle_errno(void) {
     return errno;
 }
 void rattle_set_errno(int error) {
     errno = error;
-}
-
-/* Memory, if there is some. A block of no bytes has as many as its alignment, which is never more than what malloc keeps: 16. */
-struct found { uint64_t some; void *at; };
-static char nothing;
-static struct found found(void *at) {
-    return (struct found){at != NULL, at ? at : &nothing};
-}
-struct found rattle_alloc(size_t size, size_t align) {
-    return found(malloc(size ? size : align));
-}
-struct found rattle_realloc(void *at, size_t old, size_t size, size_t align) {
-    (void)old;
-    return found(realloc(at, size ? size : align));
-}
-void rattle_dealloc(void *at) {
-    free(at);
 }
 #endif

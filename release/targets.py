@@ -1,8 +1,8 @@
 """Makes the programs for other machines, of the object files that rattle makes of the proved program: each is linked with musl and release/glue.c by the
-toolchain's own linker into a static program that may be loaded anywhere in memory. The same object, glue and musl give the same program, byte for byte.
+toolchain's own linker into a static program that may be loaded anywhere in memory. The same object, C and musl give the same program, byte for byte.
 
-`./build --targets` calls this. musl is Debian's package musl-dev, that of the target's architecture; BPFTAP_MUSL names the folder where it is unpacked, `/` if it
-is not set. No proof covers what is done here.
+`./build --targets` calls this, and makes the library for C of the machines that have one of their own. musl is Debian's package musl-dev, that of the target's
+architecture; BPFTAP_MUSL names the folder where it is unpacked, `/` if it is not set. No proof covers what is done here.
 """
 import dataclasses
 import hashlib
@@ -12,7 +12,7 @@ import re
 import subprocess
 
 HERE = pathlib.Path(__file__).resolve().parent
-GLUE = HERE / "glue.c"
+GLUE, HEAP = HERE / "glue.c", HERE / "heap.c"
 # A thread's stack, in bytes: as many as under glibc. musl's own default is 128 KiB.
 STACK = 8 << 20
 
@@ -23,16 +23,19 @@ class Refused(Exception):
 
 @dataclasses.dataclass(frozen=True)
 class Target:
-    """A machine: the name of its archive, the target of rattle, its folder of musl, and the toolchain's archives for it."""
+    """A machine: the name of its archive, the target of rattle, its folder of musl, and what stands below its proofs beside musl: C, and archives of the
+    toolchain. The library for C of `processor` names that in its version; without one, the library for x86-64 serves the machine."""
     name: str
     triple: str
     musl: str
+    sources: tuple
     archives: tuple = ()
+    processor: str = ""
 
 
 TARGETS = [
-    Target("x86_64-linux-static", "x86_64-unknown-linux-gnu", "x86_64-linux-musl", ("libos_c.a", "liblibc_c.a")),
-    Target("aarch64-linux", "aarch64-unknown-linux-gnu", "aarch64-linux-musl"),
+    Target("x86_64-linux-static", "x86_64-unknown-linux-gnu", "x86_64-linux-musl", (GLUE,), ("libos_c.a", "liblibc_c.a")),
+    Target("aarch64-linux", "aarch64-unknown-linux-gnu", "aarch64-linux-musl", (GLUE, HEAP), processor="aarch64"),
 ]
 
 
@@ -53,9 +56,15 @@ class Musl:
         return f"musl {version[1].decode() if version else 'of an unknown version'}, libc.a {hashlib.sha256(text).hexdigest()}"
 
 
-def compile_glue(clang, target, musl, made):
-    words = ["-std=gnu17", "-O2", "-fPIE", "-Wall", "-Wextra", "-Werror", "-nostdinc", "-isystem", musl.headers, "-c", GLUE, "-o", made]
-    subprocess.run([clang, "--no-default-config", f"--target={target.musl}", *words], check=True)
+def compile_c(kit, target, source, work):
+    """Compiles C of release/ for a target, by the headers of its musl; returns the object file. A shared library may have what is in heap.c."""
+    made = work / f"{source.stem}-{target.name}.o"
+    words = ["-std=gnu17", "-O2", "-fPIC" if source == HEAP else "-fPIE", "-Wall", "-Wextra", "-Werror", "-nostdinc", "-isystem", Musl(target).headers]
+    try:
+        subprocess.run([kit.toolchain / "bin" / "clang", "--no-default-config", f"--target={target.musl}", *words, "-c", source, "-o", made], check=True)
+    except subprocess.CalledProcessError as why:
+        raise Refused(f"{source} was not compiled") from why
+    return made
 
 
 def link(kit, target, musl, objects, made):
@@ -64,17 +73,16 @@ def link(kit, target, musl, objects, made):
     form = ["-static", "-pie", "--no-dynamic-linker", "-z", "text", "-z", "relro", "-z", "now", "-z", f"stack-size={STACK}"]
     form += ["--gc-sections", "--strip-all", "--build-id=sha1", "--wrap=main"]
     archives = [*(kit.folder / "c" / name for name in target.archives), musl.archive]
-    subprocess.run([kit.toolchain / "bin" / "ld.lld", *form, "-o", made, *begin, *objects, *archives, *end], check=True)
+    try:
+        subprocess.run([kit.toolchain / "bin" / "ld.lld", *form, "-o", made, *begin, *objects, *archives, *end], check=True)
+    except subprocess.CalledProcessError as why:
+        raise Refused(f"{made} was not linked") from why
 
 
 def make(kit, target, program, work, folder):
     """Makes the program of an object file in `folder`, as NAME/bin/bpftap, and notes beside it, in NAME.by, what it was linked with."""
-    musl, glue, made = Musl(target), work / f"glue-{target.name}.o", folder / target.name / "bin" / "bpftap"
+    musl, made = Musl(target), folder / target.name / "bin" / "bpftap"
     made.parent.mkdir(parents=True, exist_ok=True)
-    try:
-        compile_glue(kit.toolchain / "bin" / "clang", target, musl, glue)
-        link(kit, target, musl, [program, glue], made)
-    except subprocess.CalledProcessError as why:
-        raise Refused(f"{made} was not linked") from why
+    link(kit, target, musl, [program, *(compile_c(kit, target, source, work) for source in target.sources)], made)
     (folder / f"{target.name}.by").write_text(f"is linked with {musl.said()}\n")
     return made

@@ -7,7 +7,7 @@
 //
 // What goes wrong is an *Error: errors.Is(err, bpftap.BadWord) asks which Fault it is.
 //
-// The library needs an x86-64-v2 processor and Linux.
+// The library needs Linux and an x86-64-v2 or aarch64 processor.
 package bpftap
 
 // #cgo CFLAGS: -I${SRCDIR}/native -I${SRCDIR}/../../include

@@ -11,14 +11,17 @@ import hashlib
 import io
 import os
 import pathlib
+import platform
 import re
 import tarfile
 import zipfile
 
 HERE = pathlib.Path(__file__).resolve().parent
-# The library names no C library, so that one wheel serves glibc and musl.
-NAME, TAG = "bpftap", "py3-none-manylinux2014_x86_64.musllinux_1_1_x86_64"
-LIBRARY = "libbpftap.so.1"
+NAME, LIBRARY = "bpftap", "libbpftap.so.1"
+# The library names no C library, so that one wheel serves glibc and musl: of each, the platforms. Old versions of pip know one name of the first.
+SYSTEMS = ["manylinux_2_17", "manylinux2014", "musllinux_1_1"]
+# The machine that a library is for, as its file has it at this byte.
+MACHINES, MACHINE_AT = {62: "x86_64", 183: "aarch64"}, 18
 # The same sources make the same files, byte for byte: all are dated to 2020.
 DATE = (2020, 1, 1, 0, 0, 0)
 SECONDS = 1577836800
@@ -30,13 +33,25 @@ def _field(name):
     return ast.literal_eval(re.search(rf'^{name} = ("[^"]*"|\[[^\]]*\])$', text, re.M)[1])
 
 
+def _machine(library):
+    """The machine that a library is for."""
+    machine = MACHINES.get(int.from_bytes(library[MACHINE_AT:][:2], "little"))
+    if library[:4] != b"\x7fELF" or not machine:
+        raise SystemExit("the library is for no machine that is known here")
+    return machine
+
+
 def _library():
+    """The library that BPFTAP_LIBRARY names, else one for this machine."""
     named = os.environ.get("BPFTAP_LIBRARY")
     paths = [pathlib.Path(named)] if named else [HERE / NAME / LIBRARY, HERE.parents[1] / "out" / "lib" / LIBRARY]
-    for path in paths:
-        if path.is_file():
-            return path.read_bytes()
-    raise SystemExit(f"{paths[-1]} is not there: run ./build bpftap_c, or let BPFTAP_LIBRARY name the file")
+    path = next((path for path in paths if path.is_file()), None)
+    if not path:
+        raise SystemExit(f"{paths[-1]} is not there: run ./build bpftap_c, or let BPFTAP_LIBRARY name the file")
+    library = path.read_bytes()
+    if not named and _machine(library) != platform.machine():
+        raise SystemExit(f"{path} is for {_machine(library)}, and this is {platform.machine()}: let BPFTAP_LIBRARY name another one")
+    return library
 
 
 def _licences():
@@ -57,15 +72,15 @@ def _metadata():
     return ("".join(f"{name}: {value}\n" for name, value in rows) + f"\n{page}").encode()
 
 
-def _wheel(folder, files):
-    """Writes a wheel of these files, by their paths there; returns its name."""
+def _wheel(folder, files, platforms):
+    """Writes a wheel of these files, by their paths there, for platforms; returns its name."""
     about = f"{NAME}-{_field('version')}.dist-info"
-    tags = "".join(f"Tag: py3-none-{platform}\n" for platform in TAG.rpartition("-")[2].split("."))
+    tags = "".join(f"Tag: py3-none-{each}\n" for each in platforms)
     files = {**files, f"{about}/METADATA": _metadata(), f"{about}/WHEEL": f"Wheel-Version: 1.0\nGenerator: bpftap\nRoot-Is-Purelib: false\n{tags}".encode()}
     files.update({f"{about}/licenses/{name}": text for name, text in _licences().items()})
     rows = [f"{path},sha256={base64.urlsafe_b64encode(hashlib.sha256(data).digest()).rstrip(b'=').decode()},{len(data)}" for path, data in files.items()]
     files[f"{about}/RECORD"] = "\n".join([*rows, f"{about}/RECORD,,", ""]).encode()
-    name = f"{NAME}-{_field('version')}-{TAG}.whl"
+    name = f"{NAME}-{_field('version')}-py3-none-{'.'.join(platforms)}.whl"
     with zipfile.ZipFile(pathlib.Path(folder) / name, "w", zipfile.ZIP_DEFLATED) as wheel:
         for path, data in files.items():
             wheel.writestr(zipfile.ZipInfo(path, DATE), data, zipfile.ZIP_DEFLATED)
@@ -85,11 +100,12 @@ def get_requires_for_build_sdist(config_settings=None):
 
 
 def build_wheel(wheel_directory, config_settings=None, metadata_directory=None):
-    return _wheel(wheel_directory, {**_package(), f"{NAME}/{LIBRARY}": _library()})
+    library = _library()
+    return _wheel(wheel_directory, {**_package(), f"{NAME}/{LIBRARY}": library}, [f"{system}_{_machine(library)}" for system in SYSTEMS])
 
 
 def build_editable(wheel_directory, config_settings=None, metadata_directory=None):
-    return _wheel(wheel_directory, {f"{NAME}.pth": f"{HERE}\n".encode()})
+    return _wheel(wheel_directory, {f"{NAME}.pth": f"{HERE}\n".encode()}, ["any"])
 
 
 def build_sdist(sdist_directory, config_settings=None):

@@ -307,7 +307,7 @@ def bad_usage_has_the_usage(scene):
         scene.check(f"printed of {words}, and the status", (seen.out, seen.status), (b"", 2))
     seen = install(scene, source, "--help")
     scene.check("help", (b"./install PREFIX " in seen.out, seen.err, seen.status), (True, b"", 0))
-    for words in [["-x"], [""], ["a", "b"]]:
+    for words in [["-x"], [""], ["a", "b"], ["--machine"], ["--machine", "-x"], ["--machine", "a", "b", "c"]]:
         scene.check(f"package {words}", install(scene, source, *words, program="package").status, 2)
 
 

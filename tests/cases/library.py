@@ -113,13 +113,8 @@ def stated_stacks():
     return int(found[1]), int(found[2]), *(1024 * int(found[n]) for n in (3, 4, 5))
 
 
-@case
-def stacks_suffice(scene):
-    """No call runs out of the stack that the header states: deep expressions of 1,000 and of 8,192 bytes, and random ones of bench/meaning.py."""
-    if not is_there(scene) or not scene.has("gcc"):
-        return
-    scene.start({})
-    program = compiled(scene, ["gcc", "-std=c11", "-O2"], "stacks", "-pthread")
+def check_stacks(scene, called, limit=LIMIT):
+    """A program of tests/library/stacks.c, and how it is called: no call runs out of the stack that the header states."""
     others, short, most, wide, widest = stated_stacks()
     chance = random.Random(17)
     texts = [text for text in (meaning.text_of(meaning.expression(chance, 2)) for _ in range(100)) if len(text) <= 1000]
@@ -128,12 +123,22 @@ def stacks_suffice(scene):
         "deep, 1,000 bytes": (short, python(scene, "deep.py", ["1000"])), "deep, 8,192 bytes": (most, python(scene, "deep.py", ["8192"])),
         "wide, 1,000 bytes": (wide, python(scene, "deep.py", ["--wide", "1000"])), "wide, 8,192 bytes": (widest, python(scene, "deep.py", ["--wide", "8192"])),
     }
-    for name, (stack, lines) in given.items() if program else []:
+    for name, (stack, lines) in given.items():
         budget = ["2000000"] if name.startswith("wide") else []
-        ended = subprocess.run([program, str(stack), *budget], input=lines.encode(), stdout=subprocess.PIPE, timeout=LIMIT)
+        ended = subprocess.run([*called, str(stack), *budget], input=lines.encode(), stdout=subprocess.PIPE, timeout=limit)
         touched = [[*map(int, line.split())] for line in ended.stdout.decode().splitlines()]
         scene.check(f"{name}: status and lines", (ended.returncode, len(touched)), (0, lines.count("\n")))
         scene.check(f"{name}: a call that reads no expression", max(row[-1] for row in touched) <= others << 10, True)
+
+
+@case
+def stacks_suffice(scene):
+    """No call runs out of the stack that the header states: deep expressions of 1,000 and of 8,192 bytes, and random ones of bench/meaning.py."""
+    if is_there(scene) and scene.has("gcc"):
+        scene.start({})
+        program = compiled(scene, ["gcc", "-std=c11", "-O2"], "stacks", "-pthread")
+        if program:
+            check_stacks(scene, [program])
 
 
 def frames():

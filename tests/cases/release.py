@@ -252,12 +252,15 @@ def a_machine_that_cannot_run_it_is_reported(scene):
 
 
 def also_released(clone, programs):
-    """Makes a release of the same sources with a program for each of these targets too."""
+    """Makes a release of the same sources with a program for each of these targets too, or with what an archive has."""
     key = clone.lib("sources_key").out.decode().strip()
     for target, program in programs.items():
         made = clone.folder / "out" / "targets" / key / target / "bin" / "bpftap"
         made.parent.mkdir(parents=True)
-        made.write_text(program)
+        if isinstance(program, pathlib.Path):
+            subprocess.run(["tar", "-xJf", program, "-C", made.parent.parent], check=True, timeout=LIMIT)
+        else:
+            made.write_text(program)
         made.chmod(0o755)
         made.parent.parent.with_name(f"{target}.by").write_text("made by hand\n")
     shutil.copytree(clone.unpacked(), clone.folder / "out" / "built" / key)

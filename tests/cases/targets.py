@@ -23,8 +23,16 @@ echo "${0##*/} $*" >>"$KIT/words"
 while [ "$1" != -o ]; do shift; done
 %s
 """
-LINK = 'name=${2%/bin/*} && sed "s/a stand-in/of ${name##*/}/" "$KIT/program" >"$2" && chmod +x "$2"'
+LINK = 'name=${2%/[bl]i*/*} && sed "s/a stand-in/of ${name##*/}/" "$KIT/program" >"$2" && chmod +x "$2"'
+# What makes an archive, by the lines that it is given.
+PACK = """#!/bin/sh
+while read -r word path; do
+  case $word in create) made=$path && : >"$path" ;; add*) cat "$path" >>"$made" ;; esac
+done
+"""
 NAMES = ["x86_64-linux-static", "aarch64-linux"]
+# What a library for C has beside it.
+FILES = ["include/low.h", "lib/libbpftap.a", "lib/libbpftap.so.1"]
 
 
 class Targets(Source):
@@ -32,17 +40,33 @@ class Targets(Source):
 
     def __init__(self, scene):
         super().__init__(scene)
-        for name in ["glue.c", "targets.py"]:
+        for name in ["glue.c", "heap.c", "targets.py"]:
             shutil.copy(ROOT / "release" / name, self.folder / "release" / name)
+        self.add_library()
         tools, self.musl = self.kit / "toolchain" / "bin", scene.folder / "musl"
         tools.mkdir(parents=True)
-        for name, does in [("clang", 'echo glue >"$2"'), ("ld.lld", LINK)]:
-            (tools / name).write_text(TOOL % does)
+        for name, text in [("clang", TOOL % 'echo C >"$2"'), ("ld.lld", TOOL % LINK), ("llvm-ar", PACK)]:
+            (tools / name).write_text(text)
             (tools / name).chmod(0o755)
         for target in targets.TARGETS:
             folder = self.musl / "usr" / "lib" / target.musl
             folder.mkdir(parents=True)
             (folder / "libc.a").write_bytes(b"!<arch>\n\0" b"1.2.3\0")
+
+    def add_library(self):
+        """The library for C, which names a processor, a header that is released with it, and a toolchain that says what it has proved."""
+        with open(self.folder / "crates.txt", "a") as crates:
+            crates.write("bpftap_c staticlib: middle\n")
+        for name in ["src/lib.rt", "specs/Lib.antt", "proofs/Lib.antt"]:
+            path = self.folder / "crates" / "bpftap_c" / name
+            path.parent.mkdir(parents=True)
+            path.write_text("-- nothing\n" if name.startswith("proofs") else '// "1.2.3 x86-64-v2"\n')
+        (self.folder / "include").mkdir()
+        (self.folder / "include" / "low.h").write_text("/* low */\n")
+        with open(self.folder / "release" / "files", "a") as files:
+            files.write("644 include/low.h include/low.h\n")
+        with open(self.kit / "bin" / "rattle", "a") as rattle:
+            rattle.write('echo "logic=proved functions=1 of $3"\n')
 
     def environment(self):
         return {**super().environment(), "BPFTAP_MUSL": str(self.musl)}
@@ -56,15 +80,16 @@ class Targets(Source):
 
 @case
 def each_target_is_made_of_what_was_proved(scene):
-    """The program is compiled once more for another processor, over the same libraries, and linked for each; a second call proves nothing."""
+    """The program and the library for C are compiled once more for another processor, over the same libraries, and the program is linked for each; a second
+    call proves nothing."""
     source = Targets(scene)
     seen = source.run("--targets")
     scene.check("printed, and the status", (seen.out.decode().split(), seen.status), (source.paths(NAMES), 0))
-    scene.check("built", sorted(source.calls()), ["bpftap", "bpftap", "low", "middle", "other"])
+    scene.check("built", sorted(source.calls()), ["bpftap", "bpftap", "bpftap_c", "low", "middle", "other"])
     said = source.noted("words")
     for target in targets.TARGETS:
-        built = [words for words in said if words.startswith("build") and f"--target {target.triple} " in words]
-        scene.check(f"rattle for {target.name}", len(built), 0 if target.triple.startswith("x86_64") else 1)
+        built = sorted(words.split()[2] for words in said if words.startswith("build") and f"--target {target.triple} " in words)
+        scene.check(f"rattle for {target.name}", built, ["bpftap", "bpftap_c"] if target.processor else [])
         linked = [words for words in said if words.startswith("ld.lld") and f"{target.name}/bin/bpftap" in words]
         scene.check(f"linked for {target.name}", (len(linked), f"{target.musl}/libc.a" in linked[0], "--wrap=main" in linked[0]), (1, True, True))
     scene.check("again", (source.run("--targets").status, source.calls()), (0, []))
@@ -74,22 +99,44 @@ def each_target_is_made_of_what_was_proved(scene):
 
 
 @case
+def a_library_is_made_for_its_processor(scene):
+    """The sources of the library for aarch64 name it where the repository's name x86-64-v2, and are the same otherwise. It has the heap of release/, both
+    forms and the header are beside the program, and nothing of it is beside a program that the library for x86-64 serves."""
+    source = Targets(scene)
+    scene.check("the status", source.run("--targets").status, 0)
+    folder = source.folder / "out" / "targets" / source.key()
+    own = {name: sorted(str(path.relative_to(folder / name)) for path in (folder / name).rglob("*") if path.is_file()) for name in NAMES}
+    scene.check("files", own, {NAMES[0]: ["bin/bpftap"], NAMES[1]: sorted(["bin/bpftap", *FILES])})
+    scene.check("the archive", (folder / NAMES[1] / "lib" / "libbpftap.a").read_text(), "made\nC\n")
+    was, made = source.folder / "crates" / "bpftap_c", source.folder / "out" / "build" / "bpftap_c-aarch64-linux.sources"
+    for name, text in [("src/lib.rt", '// "1.2.3 aarch64"\n'), ("specs/Lib.antt", '// "1.2.3 aarch64"\n'), ("proofs/Lib.antt", "-- nothing\n")]:
+        scene.check(name, ((made / name).read_text(), "x86-64-v2" in (was / name).read_text()), (text, "aarch64" in text))
+    linked = [words for words in source.noted("words") if words.startswith("ld.lld") and "libbpftap.so.1 " in words]
+    scene.check("linked", (len(linked), "heap-aarch64-linux.o" in linked[0], "musl" in linked[0]), (1, True, False))
+    (was / "specs" / "Lib.antt").write_text("-- the version\n")
+    seen = source.run("--targets")
+    line = b"bpftap: the sources of bpftap_c name x86-64-v2 in 1 files: wanted are one of its texts and one of its definitions\n"
+    scene.check("a processor that is named in one of them", (seen.err.endswith(line), seen.status), (True, 1))
+
+
+@case
 def a_target_that_cannot_be_made_is_refused(scene):
     """A name that is none, a musl that is not there, and a program that is not proved for it or not linked: one line, and status 1."""
     source = Targets(scene)
     line = b"bpftap: no target riscv64-linux: there are x86_64-linux-static aarch64-linux\n"
     scene.check("no such target", source.run("--targets", "riscv64-linux"), Seen(b"", line, 1))
     archive = source.musl / "usr" / "lib" / "aarch64-linux-musl" / "libc.a"
+    musl = archive.read_bytes()
     archive.unlink()
-    line = (f"bpftap: no program is made for aarch64-linux: {archive} is not there: install musl-dev for aarch64, or unpack it below a folder that "
+    line = (f"bpftap: nothing is made for aarch64-linux: {archive} is not there: install musl-dev for aarch64, or unpack it below a folder that "
             "BPFTAP_MUSL names\n")
     seen = source.run("--targets")
-    scene.check("no musl", (seen.out.decode().split(), seen.err.endswith(line.encode()), seen.status), (source.paths(NAMES[:1]), True, 1))
+    scene.check("no musl", (seen.out, seen.err, seen.status, source.calls()), (b"", line.encode(), 1, []))
+    archive.write_bytes(musl)
     (source.kit / "toolchain" / "bin" / "ld.lld").write_text("#!/bin/sh\nexit 1\n")
     seen = source.run("--targets", "x86_64-linux-static")
-    scene.check("not linked", (b"no program is made for x86_64-linux-static: " in seen.err, seen.status), (True, 1))
+    scene.check("not linked", (b"nothing is made for x86_64-linux-static: " in seen.err, seen.status), (True, 1))
     (source.kit / "fails").write_text("bpftap")
-    (source.folder / "out" / "build" / "bpftap-aarch64-unknown-linux-gnu.key").unlink()
     seen = source.run("--targets", "aarch64-linux")
     line = b"bpftap: bpftap is not built for aarch64-unknown-linux-gnu; out/build/bpftap-aarch64-unknown-linux-gnu.log has all that was said\n"
     scene.check("not proved", (seen.err.endswith(line), seen.status), (True, 1))
@@ -117,7 +164,10 @@ def targets_are_released_and_compared(scene):
     scene.check("archives", sorted(path.name for path in release.glob("*.xz")), sorted(archives))
     digest = hashlib.sha256((source.musl / "usr" / "lib" / "aarch64-linux-musl" / "libc.a").read_bytes()).hexdigest()
     sums = (release / "SHA256SUMS").read_text().splitlines()
-    scene.check("what it was linked with", f"# aarch64-linux is linked with musl 1.2.3, libc.a {digest}" in sums, True)
+    wanted = ["is linked with musl 1.2.3, libc.a " + digest, "has bpftap: logic=proved functions=1 of bpftap", "has bpftap_c: logic=proved functions=1 of bpftap_c"]
+    scene.check("what it was made by", [line for line in sums if line.startswith("# aarch64-linux ")], [f"# aarch64-linux {line}" for line in wanted])
+    in_archive = [line.split()[-1] for line in sums if line.startswith("# in bpftap-aarch64-linux.tar.xz: ")]
+    scene.check("what it has", in_archive, sorted(["bin/bpftap", *FILES]))
     scene.check("what it is made of", made_of(source), [(f"bpftap-{name}.tar.xz", f"musl-{name}", digest) for name in sorted(NAMES)])
     same = b"the released program is what these sources give\n"
     scene.check("compared", source.run().err, same)

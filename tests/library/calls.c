@@ -4,6 +4,13 @@
 
 enum { SNAP = 262144 };
 
+/* What the version has after its blank. */
+#ifdef __aarch64__
+#define PROCESSOR "aarch64"
+#else
+#define PROCESSOR "x86-64-v2"
+#endif
+
 /* 38 bytes from 10.0.0.1 to 10.0.0.2, from port 53 to port 53: TCP, and UDP. */
 static const uint8_t TCP[38] = {
     0xff, 0xff, 0xff, 0xff, 0xff, 0xff, 0, 1, 2, 3, 4, 5, 8, 0, 0x45, 0, 0, 0x18, 0, 0, 0, 0, 0x40, 6, 0, 0,
@@ -311,7 +318,7 @@ static void prints(void) {
     CHECK(bpftap_fault_text(BPFTAP_LINK_TYPE, 4, line, sizeof line).size == 8 && !strcmp(line, "LinkType"));
     CHECK(bpftap_fault_text(BPFTAP_BAD_WORD, 4, line, 9).fault == BPFTAP_NO_ROOM);
     CHECK(bpftap_fault_text(12345, 4, line, sizeof line).fault == BPFTAP_OK && !strcmp(line, "Unknown"));
-    CHECK(bpftap_version(line, sizeof line).fault == BPFTAP_OK && strlen(line) >= 5 && !strcmp(strchr(line, ' '), " x86-64-v2"));
+    CHECK(bpftap_version(line, sizeof line).fault == BPFTAP_OK && strlen(line) >= 5 && !strcmp(strchr(line, ' '), " " PROCESSOR));
     CHECK(bpftap_version(line, 0).fault == BPFTAP_NO_ROOM);
 }
 

@@ -172,7 +172,7 @@ class Filters(unittest.TestCase):
 
     def test_long_expressions_take_any_thread(self):
         text = "(" * 60 + "ip" + ")" * 60 + " or ip" * 90 + " " * 4000
-        before, ended = threading.stack_size(64 << 10), []
+        before, ended = threading.stack_size(max(64 << 10, os.sysconf("SC_THREAD_STACK_MIN"))), []
         try:
             thread = threading.Thread(target=lambda: ended.append((Filter(text).canonical[:8], Filter(text).why(UDP)[:3], bpftap.compare("tcp", "udp").answer)))
             thread.start()

@@ -51,6 +51,8 @@ const EXAMPLES: &str = "Examples:
   bpftap run examples/run/listeners.txt examples/veth.pcap
   bpftap help expressions     # the filter language on one page
 
+The folder examples is that of a clone; an installation has it in share/doc/bpftap of its prefix.
+
 Exit status: 0 clean; 1 bad usage, invalid input, or out of memory; 2 a torn or bad record, after
 the packets before it; 3 a file or device failed; 4 an answer, no fault: explain -q accepts no
 packet, compare -q or without IN finds one that is treated differently; 5 compare without IN has
