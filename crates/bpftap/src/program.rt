@@ -12,7 +12,6 @@ use cli_explain::command::explain_command;
 use cli_files::late::reserve_std_fd;
 use cli_filter_hints::quotes::{hint_listing_word, hint_unquoted};
 use cli_info::command::info_command;
-use line_text::LineForm;
 use cli_report::commands::{
     hint_command, hint_dash_output, hint_failed_words, hint_missing, hint_option,
 };
@@ -24,6 +23,7 @@ use cli_steps::command::steps_command;
 use cli_text::Status;
 use cli_watch::Screen;
 use filter_hints::is_word;
+use line_text::LineForm;
 use std::alloc::Global;
 use std::convert::AsStr;
 use std::fs::Files;

@@ -8,10 +8,10 @@ ghost use Rattle.cli_answers.specs.Printed.{packet_text, time_text, lengths_text
 use crate::filter::AskedFilter;
 use crate::run_end::{end_of_run, ended_as};
 use bpfvm::{Brief, Insn, NoMemory, Program};
-use line_text::time::NineDigits;
 use filter_explain::{put_decision, put_verdict};
 use filter_meaning::Verdict;
 use filterlang::Expr;
+use line_text::time::NineDigits;
 use savefile::PacketRef;
 use std::fmt;
 use std::fmt::{Display, Formatter};

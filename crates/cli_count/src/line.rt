@@ -6,8 +6,8 @@ ghost use Rattle.cli_count.specs.Lines.{count_json, count_line, count_text, coun
 
 use cli_answers::counts::VerdictCounts;
 use cli_answers::printing::Unprinted;
-use line_text::{LineForm, put_string};
 use line_text::sending::send;
+use line_text::{LineForm, put_string};
 use std::alloc::{AllocError, Global};
 use std::io::Write;
 

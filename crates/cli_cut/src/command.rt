@@ -10,14 +10,13 @@ use crate::report::{report_count, report_cut, report_print};
 use bpfvm::Program;
 use cli_args::check::CheckWords;
 use cli_args::cut::CutWords;
-use line_text::LineForm;
 use cli_report::HintSink;
 use cli_report::probe::{ProbedInput, ProbedOutput};
 use cli_text::Status;
-use savefile::MAX_SNAP;
 use cli_watch::{Screen, Watch};
+use line_text::LineForm;
 use pcap_cut::cut::{CutEnd, End, cut};
-use savefile::{Counted, Fault};
+use savefile::{Counted, Fault, MAX_SNAP};
 use std::fs::Files;
 use std::io::{ErrorKind, Read, Write};
 

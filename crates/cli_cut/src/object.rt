@@ -9,9 +9,9 @@ ghost use Rattle.cli_cut.specs.Objects.{PrintsObject, IsObjectUnprinted, element
 
 use crate::print::{PrintFault, print, read_text};
 use bpfvm::{Brief, Insn, NoMemory, Program, code};
-use line_text::put_string;
 use filtergen::{ExpressionFault, compile_text};
 use filterlang::{Expr, parse};
+use line_text::put_string;
 use std::alloc::{AllocError, Global};
 use std::io::Write;
 

@@ -9,11 +9,11 @@ ghost use Rattle.cli_cut.specs.Printing.{Prints, PrintsRead, IsPart, IsUnchecked
 
 use bpf_asm::write_array;
 use bpfvm::{NoMemory, Program, write_image, write_listing};
-use savefile::MAX_SNAP;
-use line_text::sending::send;
 use filter_print::Canonical;
 use filtergen::{ExpressionFault, compile_text};
 use filterlang::{Expr, parse};
+use line_text::sending::send;
+use savefile::MAX_SNAP;
 use std::alloc::Global;
 use std::io;
 use std::io::Write;

@@ -7,14 +7,13 @@ ghost use Rattle.cli_cut.specs.Telling.{count_told, is_counted, print_status, st
 
 use crate::print::PrintFault;
 use cli_filter::expression_report;
-use line_text::LineForm;
-use cli_text::report::fault_status;
-use line_text::sending::send;
 use cli_text::Status;
-use line_text::Line;
+use cli_text::report::fault_status;
 use fault_report::captures::output_fault;
 use fault_report::reporting::{report_capture, report_fault, report_memory, report_unwritten};
 use fault_report::{FaultSink, TextSink};
+use line_text::sending::send;
+use line_text::{Line, LineForm};
 use pcap_cut::cut::{CutEnd, End, Tally};
 use savefile::Fault;
 use std::io;

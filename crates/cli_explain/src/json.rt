@@ -11,10 +11,10 @@ use crate::form::LineBuffer;
 use bpfvm::{Brief, Insn, NoMemory, Program};
 use cli_answers::AskedFilter;
 use cli_answers::run_end::{end_of_run, ended_as};
-use line_text::put_string;
 use filter_explain::{AskedPart, decide, put_part};
 use filter_meaning::{AbortCause, Verdict};
 use filterlang::Expr;
+use line_text::put_string;
 use savefile::PacketRef;
 use std::alloc::AllocError;
 

@@ -8,10 +8,10 @@ ghost use Rattle.cli_filter.specs.declared.plan.PlanFault.TheVariants.{NoMemory}
 
 use crate::report::expression_report;
 use bpfvm::Program;
-use line_text::fields::{first_line, split_once};
 use fault_report::{Report, Word};
 use filtergen::{ExpressionFault, compile_text};
 use filtergen_facts::Refusal;
+use line_text::fields::{first_line, split_once};
 use std::alloc::{AllocError, AllocFailed, Global};
 use std::collections::BTreeSet;
 use std::fmt::{Display, Formatter};

@@ -7,12 +7,12 @@ ghost use Rattle.cli_info.specs.Reports.{line_in, survey_status};
 
 use crate::line::put_rest_of_line;
 use crate::object::put_object;
-use line_text::LineForm;
 use cli_text::Status;
 use cli_text::report::fault_status;
-use line_text::sending::send;
 use fault_report::FaultSink;
 use fault_report::reporting::report_device;
+use line_text::LineForm;
+use line_text::sending::send;
 use pcap_info::survey::CaptureSurvey;
 use savefile::Fault;
 use std::alloc::{AllocError, Global};

@@ -8,10 +8,9 @@ ghost use Rattle.std.specs.IoError.{error_kind};
 ghost use Rattle.line_text.specs.Sending.{Takes};
 ghost use Rattle.cli_report.specs.Hints.{hint_line, wants_hints};
 
-use line_text::LineForm;
-use line_text::Line;
-use line_text::sending::send;
 use fault_report::FaultSink;
+use line_text::sending::send;
+use line_text::{Line, LineForm};
 use std::fmt::Display;
 use std::io;
 use std::io::{ErrorKind, Write};

@@ -9,11 +9,10 @@ ghost use Rattle.cli_run.specs.Printed.{end_text, interface_told, listener_line,
 ghost use Rattle.cli_run.specs.Replaying.{ReportsRun, interface_status, listeners_status, report_status, run_status, task_status};
 
 use crate::object::put_listener_object;
-use line_text::LineForm;
+use cli_text::Status;
 use cli_text::report::{Outcome, fault_status, print_status, report_line, report_output};
 use line_text::sending::send;
-use cli_text::Status;
-use line_text::Line;
+use line_text::{Line, LineForm};
 use replay_types::{InterfaceEnd, InterfaceReport, ListenerReport, TaskEnd};
 use std::fmt::{Display, Formatter};
 use std::io::Write;

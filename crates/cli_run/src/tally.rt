@@ -9,8 +9,8 @@ ghost use Rattle.cli_run.specs.Flushing.{AreFlushed, IsFlushed, bytes_of, packet
 ghost use Rattle.cli_run.specs.Replaying.{ReportsRun};
 
 use crate::report::report_run_in;
-use line_text::LineForm;
 use cli_text::report::Outcome;
+use line_text::LineForm;
 use replay_types::{InterfaceReport, ListenerReport, TaskEnd};
 use savefile::Counted;
 use std::io;

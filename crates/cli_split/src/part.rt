@@ -11,10 +11,9 @@ ghost use Rattle.cli_split.specs.Writing.{IsLeft};
 ghost use Rattle.cli_split.specs.declared.part.Part.{Part};
 
 use bpfvm::Program;
-use savefile::effective_snaplen;
 use pcap_cut::cut::{Tally, put_accepted};
 use savefile::laws::growing_text;
-use savefile::{Fault, Order, PacketRef, Sink, Unit, Writer};
+use savefile::{Fault, Order, PacketRef, Sink, Unit, Writer, effective_snaplen};
 
 /// A capture that is to be written.
 #[derive(Drop)]

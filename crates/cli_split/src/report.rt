@@ -11,13 +11,13 @@ use crate::line::put_count;
 use crate::part::PartEnd;
 use crate::plan::SplitLine;
 use crate::split::{SplitEnd, Stop};
-use line_text::LineForm;
 use cli_text::Status;
 use cli_text::report::fault_status;
-use line_text::sending::send;
 use fault_report::FaultSink;
 use fault_report::captures::output_fault;
 use fault_report::reporting::{report_fault, report_nth_capture, report_output};
+use line_text::LineForm;
+use line_text::sending::send;
 use std::io;
 use std::io::Write;
 

@@ -5,8 +5,8 @@ ghost use Rattle.fault_report.specs.Reports.{names_member, numbers_member, repor
 
 use crate::report::{Report, Subject};
 use crate::word::{FurtherNames, Numbers, Words};
-use line_text::{JsonString, LineForm};
 use cli_text::report::EscapedPath;
+use line_text::{JsonString, LineForm};
 use std::fmt;
 use std::fmt::{Display, Formatter};
 

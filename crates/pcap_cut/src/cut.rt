@@ -14,9 +14,8 @@ ghost use Rattle.savefile.specs.Snapshot.{effective_snaplen};
 ghost use Rattle.pcap_cut.specs.Outcome.{tallied, Cuts};
 
 use bpfvm::Program;
-use savefile::effective_snaplen;
 use savefile::laws::{given_so_far, growing_text};
-use savefile::{Fault, Order, PacketRef, Reader, Sink, Source, Unit, Writer};
+use savefile::{Fault, Order, PacketRef, Reader, Sink, Source, Unit, Writer, effective_snaplen};
 use std::alloc::Global;
 
 /// How a cut ended.

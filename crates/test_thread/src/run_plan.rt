@@ -2,11 +2,11 @@
 
 use crate::same::same;
 use bpfvm::read_listing;
-use line_text::LineForm;
 use cli_run::report::{report_run, report_run_in};
 use cli_run::run::run;
 use cli_text::Status;
 use handover::{Past, pair, settle};
+use line_text::LineForm;
 use replay::{InterfaceEnd, InterfaceReport, ListenerReport, TaskEnd};
 use savefile::Counted;
 use std::io::{Read, Write};

@@ -1,13 +1,13 @@
 //! What is printed and reported of a split.
 
 use crate::same::same;
-use line_text::LineForm;
 use cli_split::line::line_for;
 use cli_split::part::PartEnd;
 use cli_split::plan::read_plan;
 use cli_split::report::{SplitFiles, report_split};
 use cli_split::split::{SplitEnd, Stop};
 use cli_text::Status;
+use line_text::LineForm;
 use pcap_cut::cut::Tally;
 use savefile::Fault;
 use std::alloc::Global;
