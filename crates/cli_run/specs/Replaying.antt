@@ -1,5 +1,5 @@
 -- What is reported of a replay, and its exit status.
-use Rattle.std.specs.Prelude.{◌≡◌, List, ◌++◌, fold, Result}
+use Rattle.std.specs.Prelude.{ℕ, ◌≡◌, Option, List, ◌++◌, fold, Result}
 use Rattle.std.specs.declared.io.Error.{Error}
 use Rattle.replay_types.specs.declared.report.InterfaceEnd.{InterfaceEnd}
 use Rattle.replay_types.specs.declared.report.InterfaceEnd.TheVariants as interface
@@ -47,3 +47,9 @@ pub record ReportsRun {R W : Type 0} (form : LineForm) (reports : List (Interfac
   pub prints : Takes old.out new.out printed (printed_replay form reports)
   pub tells : Takes old.err new.err outcome.told (output_line printed ++ told_replay reports)
   pub greatest : outcome.status ≡ greater (print_status_of printed) (run_status reports)
+
+-- A replay's reports were printed: all of them, or a prefix if standard output failed. The status is the greatest of all.
+pub record PrintsRun {R W : Type 0} (form : LineForm) (reports : List (InterfaceReport R W)) (old new : Option (List ℕ)) (status : Status) : Type 0 where
+  pub printed : Result (Unit {0}) Error
+  pub prints : Takes old new printed (printed_replay form reports)
+  pub greatest : status ≡ greater (print_status_of printed) (run_status reports)

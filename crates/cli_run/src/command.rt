@@ -5,10 +5,9 @@ ghost use Rattle.std.specs.Prelude.{◌≡◌, ◌<◌, All, IfOk, length};
 use crate::hints::{hint_refused, hint_run};
 use crate::paths::{LateFiles, capture_paths, check_paths, late_files};
 use crate::plan::{RunLine, fault_text, read_plan};
-use crate::report::{print_reports, run_status};
-use crate::reported::{replay_fault, report_ends};
+use crate::reported::replay_fault;
 use crate::run::replay_plan;
-use crate::tally::flush_all;
+use crate::tally::report_flushed;
 use cli_args::run::RunWords;
 use cli_files::captures::output_buffer;
 use cli_files::reading::read_text;
@@ -19,7 +18,7 @@ use cli_report::failures::hint_printed;
 use cli_report::files::{LISTENERS_OF_RUN, hint_returns};
 use cli_text::Status;
 use cli_watch::{Screen, Watch};
-use fault_report::reporting::{report_fault, report_memory, report_output};
+use fault_report::reporting::{report_fault, report_memory};
 use line_text::LineForm;
 use std::alloc::Global;
 use std::fs::Files;
@@ -99,13 +98,10 @@ fn replay_files<R: Threads + Wait + Sync + AllocGlobal, O: Write, E: HintSink>(
     watch.erase();
     match replayed {
         Ok(mut reports) => {
-            flush_all(reports.as_mut_slice());
             let (form, inputs) = (LineForm::asked(words.json), words.inputs.as_slice());
-            let printed = print_reports(form, reports.as_slice(), out);
-            let status = report_output(&printed, err);
-            let _ = report_ends(inputs, reports.as_slice(), err);
+            let status = report_flushed(form, inputs, reports.as_mut_slice(), out, err);
             hint_run(inputs, reports.as_slice(), err);
-            Ok(status.max(run_status(reports.as_slice())))
+            Ok(status)
         }
         Err(fault) => {
             let status = report_fault(&replay_fault(fault), Status::Refused, err);

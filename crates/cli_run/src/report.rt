@@ -9,8 +9,10 @@ ghost use Rattle.cli_run.specs.Printed.{end_text, interface_told, listener_line,
 ghost use Rattle.cli_run.specs.Replaying.{ReportsRun, interface_status, listeners_status, report_status, run_status, task_status};
 
 use crate::object::put_listener_object;
+use crate::reported::end_fault;
 use cli_text::Status;
-use cli_text::report::{Outcome, fault_status, print_status, report_line, report_output};
+use cli_text::report::{Outcome, fault_status, print_status, report_output};
+use fault_report::reporting::report_in;
 use line_text::sending::send;
 use line_text::{Line, LineForm};
 use replay_types::{InterfaceEnd, InterfaceReport, ListenerReport, TaskEnd};
@@ -166,25 +168,34 @@ pub fn run_status<R, W>(reports: &[InterfaceReport<R, W>]) -> Status
     status
 }
 
-/// Reports how the captures of the i-th interface ended, if that was not clean.
-fn report_end<E: Write>(i: usize, end: InterfaceEnd, err: &mut E) -> io::Result<()>
-    ensures { Takes (E.contents err.old) (E.contents err.new) result (interface_told i end) }
+/// Reports how the captures of the i-th interface ended, which are at these paths if they are known, if that was not clean.
+fn report_end<E: Write>(
+    form: LineForm,
+    i: usize,
+    end: InterfaceEnd,
+    paths: Option<&Vec<&str>>,
+    err: &mut E,
+) -> io::Result<()>
+    ensures { form ≡ Text → Takes (E.contents err.old) (E.contents err.new) result (interface_told i end) }
 {
-    match end {
-        InterfaceEnd::Clean => Ok(()),
-        InterfaceEnd::Capture(n, fault) => {
-            report_line(format_args!("Interface {i} Capture {n} {fault}"), err)
-        }
-        InterfaceEnd::CountFull => report_line(format_args!("Interface {i} CountFull"), err),
+    match end_fault(i, end, paths) {
+        Some(fault) => report_in(form, &fault, err),
+        None => Ok(()),
     }
 }
 
-/// Reports each interface that did not end clean.
-fn report_ends<R, W, E: Write>(reports: &[InterfaceReport<R, W>], err: &mut E) -> io::Result<()>
-    ensures { Takes (E.contents err.old) (E.contents err.new) result (told_replay reports.now) }
+/// Reports each interface that did not end clean, as a line or as an object of JSON; its captures are at the paths of the same place. If
+/// `err` does not take one, no further one is reported.
+pub(crate) fn report_ends<R, W, E: Write>(
+    form: LineForm,
+    inputs: &[Vec<&str>],
+    reports: &[InterfaceReport<R, W>],
+    err: &mut E,
+) -> io::Result<()>
+    ensures { form ≡ Text → Takes (E.contents err.old) (E.contents err.new) result (told_replay reports.now) }
 {
     for (i, report) in reports.iter().enumerate() {
-        report_end(i, report.end, err)?;
+        report_end(form, i, report.end, inputs.get(i), err)?;
     }
     Ok(())
 }
@@ -199,7 +210,7 @@ fn report_all<R, W, E: Write>(
     ensures { Takes (E.contents err.old) (E.contents err.new) result (output_line printed.now ++ told_replay reports.now) }
 {
     report_output(printed, err)?;
-    report_ends(reports, err)
+    report_ends(LineForm::Text, &[], reports, err)
 }
 
 /// Prints a line for each listener, by interface, `interface I listener L received R matched M dropped D written N END`, reports each

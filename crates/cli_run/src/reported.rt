@@ -1,10 +1,18 @@
 //! The faults of a replay, as values that are reported.
 
-use fault_report::reporting::report;
-use fault_report::{FaultSink, Report, Subject, Word};
-use replay_types::{InterfaceEnd, InterfaceReport, RunFault};
+ghost use Rattle.std.specs.Prelude.{◌≡◌, false, [], Some, IfSome, MatchOption};
+ghost use Rattle.line_text.specs.declared.form.LineForm.TheVariants.{Text};
+ghost use Rattle.replay_types.specs.declared.report.InterfaceEnd.TheVariants.{Capture};
+ghost use Rattle.fault_report.specs.Reports.{has_path, reported};
+ghost use Rattle.cli_run.specs.Printed.{interface_told};
+
+use fault_report::captures::nth_capture_fault;
+use fault_report::{Report, Word};
+use replay_types::{InterfaceEnd, RunFault};
 use savefile::Fault;
-use std::io;
+
+/// What the fault of an interface begins with.
+const INTERFACE: &str = "Interface";
 
 /// Why there is no replay.
 pub(crate) fn replay_fault(fault: RunFault) -> Report<'static> {
@@ -25,55 +33,37 @@ pub(crate) fn replay_fault(fault: RunFault) -> Report<'static> {
     }
 }
 
-/// The fault of the n-th capture of the i-th interface, whose captures are at these paths.
-fn capture_fault<'a>(i: usize, n: usize, fault: Fault, paths: &[&'a str]) -> Report<'a> {
+/// The fault of the n-th capture of the i-th interface, whose captures are at these paths, if they are known.
+fn capture_fault<'a>(i: usize, n: usize, fault: Fault, paths: Option<&Vec<&'a str>>) -> Report<'a>
+    ensures text { reported Text result ≡ Some (interface_told i (Capture n fault)) }
+    ensures path { has_path Text result.subject ≡ false }
+{
+    let inner = match paths {
+        Some(paths) => nth_capture_fault(fault, n, paths.as_slice()),
+        None => nth_capture_fault(fault, n, &[]),
+    };
+    let [number, name, place, _, _] = inner.words;
     Report {
-        name: "Interface",
-        words: [
-            Word::count(i),
-            Word::Name("Capture"),
-            Word::count(n),
-            Word::Name(fault.name()),
-            Word::record(fault.place()),
-        ],
-        subject: match paths.get(n) {
-            Some(path) => Some(Subject::Capture(*path)),
-            None => None,
-        },
+        name: INTERFACE,
+        words: [Word::count(i), Word::Name(inner.name), number, name, place],
+        subject: inner.subject,
     }
 }
 
-/// Reports how the captures of the i-th interface, which are at these paths, ended, if that was not clean.
-fn report_end<E: FaultSink>(
+/// How the captures of the i-th interface, which are at these paths if they are known, ended, if that was not clean.
+pub(crate) fn end_fault<'a>(
     i: usize,
     end: InterfaceEnd,
-    paths: &[&str],
-    err: &mut E,
-) -> io::Result<()> {
+    paths: Option<&Vec<&'a str>>,
+) -> Option<Report<'a>>
+    ensures text { MatchOption result (interface_told i end ≡ []) (λ fault. reported Text fault ≡ Some (interface_told i end)) }
+    ensures path { IfSome result (λ fault. has_path Text fault.subject ≡ false) }
+{
     match end {
-        InterfaceEnd::Clean => Ok(()),
-        InterfaceEnd::Capture(n, fault) => report(&capture_fault(i, n as usize, fault, paths), err),
+        InterfaceEnd::Clean => None,
+        InterfaceEnd::Capture(n, fault) => Some(capture_fault(i, n as usize, fault, paths)),
         InterfaceEnd::CountFull => {
-            report(
-                &Report::of_part("Interface", i, "CountFull", Word::Nothing),
-                err,
-            )
+            Some(Report::of_part(INTERFACE, i, "CountFull", Word::Nothing))
         }
     }
-}
-
-/// Reports each interface that did not end clean; its captures are at the paths of the same place. If `err` does not take one, no
-/// further one is reported.
-pub(crate) fn report_ends<R, W, E: FaultSink>(
-    inputs: &[Vec<&str>],
-    reports: &[InterfaceReport<R, W>],
-    err: &mut E,
-) -> io::Result<()> {
-    for (i, report) in reports.iter().enumerate() {
-        match inputs.get(i) {
-            Some(paths) => report_end(i, report.end, paths.as_slice(), err)?,
-            None => report_end(i, report.end, &[], err)?,
-        }
-    }
-    Ok(())
 }

@@ -4,12 +4,13 @@ ghost use Rattle.std.specs.Prelude.{◌≡◌, ◌+◌, ◌%◌, ◌^◌, ◌≤
 ghost use Rattle.std.specs.Io.{WritesAtMost};
 ghost use Rattle.std.specs.Io.KnownBytes.{WriteAppends};
 ghost use Rattle.std.specs.List.{AllZip};
-ghost use Rattle.line_text.specs.Sending.{streams};
 ghost use Rattle.cli_run.specs.Flushing.{AreFlushed, IsFlushed, bytes_of, packets_of};
-ghost use Rattle.cli_run.specs.Replaying.{ReportsRun};
+ghost use Rattle.cli_run.specs.Replaying.{PrintsRun};
 
-use crate::report::report_run_in;
-use cli_text::report::Outcome;
+use crate::report::{print_reports, report_ends, run_status};
+use cli_text::Status;
+use fault_report::FaultSink;
+use fault_report::reporting::report_output;
 use line_text::LineForm;
 use replay_types::{InterfaceReport, ListenerReport, TaskEnd};
 use savefile::Counted;
@@ -210,16 +211,21 @@ pub fn flush_all<R, W: Write + Drop>(reports: &mut [InterfaceReport<R, Output<W>
     }
 }
 
-/// Empties the buffers in front of all captures that are written, and then prints and reports as [`report_run_in`] does.
-pub fn report_flushed<R, W: Write + Drop, O: Write, E: Write>(
+/// Empties the buffers in front of all captures that are written, prints the reports, and reports that standard output failed, and each
+/// interface that did not end clean; its captures are at the paths of the same place. Returns the greatest status of all.
+pub fn report_flushed<R, W: Write + Drop, O: Write, E: FaultSink>(
     form: LineForm,
+    inputs: &[Vec<&str>],
     reports: &mut [InterfaceReport<R, Output<W>>],
     out: &mut O,
     err: &mut E,
-) -> Outcome
+) -> Status
     ensures flushed { AllZip (AreFlushed W.contents) reports.old reports.new }
-    ensures reports { ReportsRun form reports.new (streams (O.contents out.old) (E.contents err.old)) (streams (O.contents out.new) (E.contents err.new)) result }
+    ensures prints { PrintsRun form reports.new (O.contents out.old) (O.contents out.new) result }
 {
     flush_all(reports);
-    report_run_in(form, reports, out, err)
+    let printed = print_reports(form, reports, out);
+    let status = report_output(&printed, err);
+    let _ = report_ends(err.fault_form(), inputs, reports, err);
+    status.max(run_status(reports))
 }
