@@ -24,4 +24,4 @@ end_text (Some fault) = codes " " ++ fault_text fault ++ codes " "
 -- `FIRST-END of SIZE packets R kept W bytes B Clean FILE`, or the fault in place of `Clean`
 unfoldable pub part_text : PartCut → List ℕ
 part_text p = range_text p.first p.end ++ (codes " of " ++ decimal p.size ++ codes " packets " ++ decimal p.tally.read)
-    ++ (codes " kept " ++ decimal p.tally.written ++ codes " bytes " ++ decimal p.sent) ++ end_text p.fault ++ (p.file.now ++ codes "\n")
+    ++ (codes " kept " ++ decimal p.tally.written ++ codes " bytes " ++ decimal p.sent) ++ end_text p.fault ++ p.file.now

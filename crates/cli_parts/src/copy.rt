@@ -1,6 +1,6 @@
 //! Bytes that are copied from a file to another.
 
-ghost use Rattle.std.specs.Prelude.{◌≡◌, ◌<◌, ℕ, List, OnOk, length};
+ghost use Rattle.std.specs.Prelude.{◌≡◌, ◌<◌, ◌≤◌, ℕ, List, IfOk, OnOk, length};
 ghost use Rattle.std.specs.Io.KnownBytes.{Appends, Consumes};
 
 use cli_text::sending::send;
@@ -18,6 +18,27 @@ pub enum CopyFault {
     Output(io::Error),
 }
 
+/// Copies the next bytes, at least one and at most as many as there is room for; returns how many.
+fn copy_piece<R: Read, W: Write>(
+    from: &mut R,
+    room: &mut [u8],
+    to: &mut W,
+) -> Result<usize, CopyFault>
+    ensures bound { IfOk result (λ n. (0 < n) × (n ≤ length room.old)) }
+    ensures copied { IfOk result (λ n. (bytes : List ℕ) × Consumes (R.remaining from.old) (R.remaining from.new) bytes
+        × Appends (W.contents to.old) (W.contents to.new) bytes × (length bytes ≡ n)) }
+{
+    let came = match from.read(room) {
+        Ok(0) => return Err(CopyFault::Ended),
+        Ok(came) => came,
+        Err(error) => return Err(CopyFault::Input(error)),
+    };
+    match send(&room[..came], to) {
+        Ok(()) => Ok(came),
+        Err(error) => Err(CopyFault::Output(error)),
+    }
+}
+
 /// Copies so many bytes by way of `room`.
 pub(crate) fn copy_bytes<R: Read, W: Write>(
     from: &mut R,
@@ -31,15 +52,7 @@ pub(crate) fn copy_bytes<R: Read, W: Write>(
     let mut left = count;
     while left > 0 {
         let most = left.min(room.len() as u64) as usize;
-        let came = match from.read(&mut room[..most]) {
-            Ok(0) => return Err(CopyFault::Ended),
-            Ok(came) => came,
-            Err(error) => return Err(CopyFault::Input(error)),
-        };
-        if let Err(error) = send(&room[..came], to) {
-            return Err(CopyFault::Output(error));
-        }
-        left -= came as u64;
+        left -= copy_piece(from, &mut room[..most], to)? as u64;
     }
     Ok(())
 }

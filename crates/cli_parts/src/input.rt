@@ -79,7 +79,7 @@ fn is_inside(bytes: ByteRange, size: u64) -> bool
 }
 
 /// Reads the header, and goes to the first byte of a range.
-fn header_and_range<F: Read + Seek>(
+fn header_and_range<F: Read + Seek + Drop>(
     alloc: Global,
     mut file: F,
     bytes: ByteRange,

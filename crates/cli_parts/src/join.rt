@@ -80,6 +80,7 @@ fn check_sizes<R: Files, E: HintSink>(
 }
 
 /// Where parts are copied to.
+#[derive(Drop)]
 struct Joiner<'r, 'p, R: Files> {
     rt: &'r R,
     path: &'p str,
@@ -148,7 +149,7 @@ fn header_in<R: AllocGlobal, F: Read, E: HintSink>(
 }
 
 /// What parts are copied by: OUT, which is made at its first write, and the header of the first part.
-fn joiner<'r, 'p, R: Files + AllocGlobal, E: HintSink>(
+fn open_joiner<'r, 'p, R: Files + AllocGlobal, E: HintSink>(
     rt: &'r R,
     words: &JoinWords<'p>,
     first: &PartCut<'_>,
@@ -177,7 +178,7 @@ fn write_parts<R: Files + AllocGlobal, E: HintSink>(
     let Some(first) = parts.first() else {
         return Ok(());
     };
-    let mut joiner = joiner(rt, words, first, err)?;
+    let mut joiner = open_joiner(rt, words, first, err)?;
     joiner.begin(err)?;
     for part in parts {
         joiner.append(part, err)?;

@@ -56,7 +56,7 @@ fn put_part(line: &mut String, part: &PartCut<'_>) -> Result<(), AllocError>
     write!(line, " of {} packets {read}", part.size)?;
     write!(line, " kept {written} bytes {}", part.sent)?;
     put_end(line, part.fault)?;
-    write!(line, "{}\n", part.file)
+    line.push_str(part.file)
 }
 
 /// Prints the line of a range: `FIRST-END`, or `{"first":FIRST,"end":END}`. If the writer fails it took a prefix of the line.
@@ -79,14 +79,16 @@ pub fn print_range<O: Write>(
 ///
 /// `24-58511 of 117023 packets 126 kept 60 bytes 5424 Clean out/1.pcap`, on one line; the fault's name and place in place of `Clean`. If the writer fails it took a prefix of the line.
 pub fn print_part<O: Write>(alloc: Global, part: &PartCut<'_>, out: &mut O) -> io::Result<()>
-    ensures { Takes (O.contents out.old) (O.contents out.new) result (part_text part.now) }
+    ensures { Takes (O.contents out.old) (O.contents out.new) result (part_text part.now ++ codes "\n") }
 {
     let mut line = String::new(alloc);
     put_part(&mut line, part)?;
+    line.push_str("\n")?;
     send(line.as_bytes(), out)
 }
 
 /// The fields of a line that are still to be read.
+#[derive(Drop)]
 struct Fields<'a> {
     rest: &'a [u8],
 }
@@ -114,7 +116,7 @@ impl<'a> Fields<'a> {
     /// How a part ends: inside `Some` the fault, if there is one.
     fn end(&mut self) -> Option<Option<Fault>> {
         let name = self.field()?;
-        if name == b"Clean" {
+        if name == b"Clean".as_slice() {
             return Some(None);
         }
         let place = number(self.field()?, u64::MAX)?;
@@ -150,15 +152,16 @@ fn part_in(line: &[u8]) -> Option<PartCut<'_>> {
 
 /// The part that a line, without its end, is printed of by [`print_part`]; `None` if there is none.
 pub fn read_part(alloc: Global, line: &[u8]) -> Result<Option<PartCut<'_>>, AllocError>
-    ensures { IfOk result (λ found. IfSome found (λ part. line.now ++ codes "\n" ≡ part_text part)) }
+    ensures { IfOk result (λ found. IfSome found (λ part. line.now ≡ part_text part)) }
 {
     let Some(part) = part_in(line) else {
         return Ok(None);
     };
     let mut printed = String::new(alloc);
     put_part(&mut printed, &part)?;
-    match printed.as_bytes().strip_suffix(b"\n") {
-        Some(text) if text == line => Ok(Some(part)),
-        _ => Ok(None),
+    if printed.as_bytes() == line {
+        Ok(Some(part))
+    } else {
+        Ok(None)
     }
 }

@@ -40,7 +40,7 @@ fn parts_of(alloc: Global, text: &[u8]) -> Result<Vec<PartCut<'_>>, LinesFault> 
     while !rest.is_empty() {
         let (line, after) = first_line(rest);
         let Some(part) = read_part(alloc, line)? else {
-            return Err(LinesFault::Line(parts.len() + 1));
+            return Err(LinesFault::Line(parts.len().saturating_add(1)));
         };
         parts.push(part)?;
         rest = after;

@@ -1,5 +1,5 @@
 -- Parts that follow, with one more.
-use Rattle.std.proofs.Common.{◌≡◌, List, [], ◌∷◌, ◌++◌, refl, subst, sym}
+use Rattle.std.proofs.Common.{◌≡◌, List, [], ◌∷◌, ◌++◌, refl, subst}
 use Rattle.pcap_parts.specs.declared.join.Joined.{Joined}
 use Rattle.pcap_parts.specs.declared.part.PartCut.{PartCut}
 use Rattle.pcap_parts.specs.Joining.{joined, Fits, Joins}

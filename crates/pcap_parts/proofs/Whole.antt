@@ -1,5 +1,5 @@
 -- Parts that make a whole capture, and what the capture holds.
-use Rattle.std.proofs.Common.{◌≡◌, ℕ, ◌+◌, ◌-◌, ◌<◌, ◌≤◌, List, [], ◌∷◌, ◌++◌, length, length-append, length-take, take, drop, Option, Some, None, refl, sym, ap, ◌∙◌, subst, inl, inr, ◌⊎◌, arith, option_map, ne_eqb, lt-ltb, le-ltb}
+use Rattle.std.proofs.Common.{◌≡◌, ℕ, ◌+◌, ◌-◌, ◌≤◌, List, [], ◌∷◌, ◌++◌, length, length-append, length-take, take, drop, Option, Some, None, refl, sym, ap, ◌∙◌, subst, inl, inr, ◌⊎◌, arith, option_map, ne_eqb, lt-ltb, le-ltb}
 use Rattle.std.specs.List.{AllZip}
 use Rattle.std.proofs.lemmas.Bool.{cases_eq, cases_lt, lt-leb, le-leb}
 use Rattle.std.proofs.lemmas.List.{append_assoc, append-nil, drop-drop, take-append-drop}
@@ -9,12 +9,12 @@ use Rattle.savefile.specs.declared.fault.Fault.TheVariants as faults
 use Rattle.savefile.specs.declared.header.Order.{Order}
 use Rattle.savefile.specs.declared.header.Unit.{Unit as TimeUnit}
 use Rattle.savefile.specs.declared.packet.Packet.{Packet}
-use Rattle.savefile.specs.Savefile.{captured, first_fault, fraction, per_second, Holds, IsHeader, IsSavefile, NoRecord}
+use Rattle.savefile.specs.Savefile.{captured, first_fault, fraction, per_second, Holds, IsHeader}
 use Rattle.savefile.proofs.Pieces.{field-front, IsSavefile-front, IsSavefile-header}
 use Rattle.savefile.proofs.Records.{longest_records, NoRecord-fault, NoRecord-nil}
 use Rattle.pcap_parts.specs.declared.join.Joined.{Joined}
 use Rattle.pcap_parts.specs.declared.part.PartCut.{PartCut}
-use Rattle.pcap_parts.specs.Joining.{at_record, begun, joined, Fits, IsBad, IsTorn, IsWhole, Joins}
+use Rattle.pcap_parts.specs.Joining.{at_record, begun, joined, IsBad, IsWhole, Joins}
 use Rattle.pcap_parts.specs.Parts.{after_records}
 use Rattle.pcap_parts.specs.Whole.{all_of, between, IsPartOf}
 use Rattle.pcap_parts.proofs.Joining.{fault_later, reads_by_parts}

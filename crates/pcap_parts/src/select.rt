@@ -1,6 +1,7 @@
 //! The parts that make a whole capture, of all that were cut.
 
-ghost use Rattle.std.specs.Prelude.{◌≡◌, ℕ, IfOk};
+ghost use Rattle.std.specs.Prelude.{◌≡◌, ℕ, All, IfOk};
+ghost use Rattle.std.specs.List.{Contains};
 ghost use Rattle.pcap_parts.specs.Joining.{begun, IsWhole, Joins};
 ghost use Rattle.pcap_parts.specs.declared.select.SelectionFault.TheVariants.{NoMemory};
 
@@ -47,8 +48,10 @@ pub fn select_parts<'a>(
     alloc: Global,
     parts: &[PartCut<'a>],
 ) -> Result<Selection<'a>, SelectionFault>
+    // They are among these parts.
+    ensures given { IfOk result (λ selection. All (Contains parts.now) selection.parts.items) }
     // From the header on each part begins where the one before ends, and each but the last is read clean.
-    ensures { IfOk result (λ selection. (size : ℕ) × Joins (begun size) selection.parts.items selection.whole × IsWhole selection.whole) }
+    ensures joins { IfOk result (λ selection. (size : ℕ) × Joins (begun size) selection.parts.items selection.whole × IsWhole selection.whole) }
 {
     let Some(first) = parts.first() else {
         return Err(SelectionFault::Misfit(Misfit::Missing(FIRST_RECORD)));
