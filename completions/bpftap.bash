@@ -1,7 +1,7 @@
 # Completions of bpftap for bash. Source this file, or let bash-completion find it under the name bpftap.
 
-_bpftap_commands='check explain compare info cut split steps run help'
-_bpftap_topics='check explain compare info cut split steps run expressions'
+_bpftap_commands='check explain compare info cut split parts join steps run help'
+_bpftap_topics='check explain compare info cut split parts join steps run expressions'
 
 # Whether a value has to follow an option, and what it may be then: words, the name of a file, or anything.
 _bpftap_value() {
@@ -9,7 +9,7 @@ _bpftap_value() {
     cut,-o | split,-o) mapfile -t COMPREPLY < <(compgen -W 'little big' -- "$3") ;;
     cut,-u | split,-u) mapfile -t COMPREPLY < <(compgen -W 'micro nano' -- "$3") ;;
     check,-f | explain,-f | compare,-f | compare,-w | cut,-f | cut,-w | steps,-p) compopt -o default ;;
-    check,-s | check,-e | explain,-s | explain,-e | explain,-p | explain,--exactly | explain,--at-* | compare,-s | cut,-s | cut,-e) ;;
+    check,-s | check,-e | explain,-s | explain,-e | explain,-p | explain,--exactly | explain,--at-* | compare,-s | cut,-s | cut,-e | cut,--bytes) ;;
     *) return 1 ;;
   esac
 }
@@ -21,9 +21,10 @@ _bpftap_options() {
     check) echo '-d -x --json -s -e -f -h --help' ;;
     explain) echo '-s -e -f -p -c -l -q --exactly --at-least --at-most --json -h --help' ;;
     compare) echo '-s -f -q -w -h --help' ;;
-    info | run) echo '--json -h --help' ;;
-    cut) echo '-s -e -f -o -u -c -w --json -h --help' ;;
+    info | run | parts) echo '--json -h --help' ;;
+    cut) echo '-s -e -f -o -u -c -w --bytes --json -h --help' ;;
     split) echo '-o -u --json -h --help' ;;
+    join) echo '-h --help' ;;
     steps) echo '-v -p --json -h --help' ;;
   esac
 }
@@ -49,7 +50,7 @@ _bpftap() {
     '') mapfile -t COMPREPLY < <(compgen -W "$_bpftap_commands" -- "$word") ;;
     help) mapfile -t COMPREPLY < <(compgen -W "$_bpftap_topics" -- "$word") ;;
     # The word of `check` is an expression.
-    explain | compare | info | cut | split | steps | run) compopt -o default ;;
+    explain | compare | info | cut | split | parts | join | steps | run) compopt -o default ;;
   esac
 }
 

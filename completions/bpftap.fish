@@ -10,11 +10,13 @@ complete -c bpftap -n __fish_use_subcommand -a compare -d 'Print the packets tha
 complete -c bpftap -n __fish_use_subcommand -a info -d 'Print what each capture has'
 complete -c bpftap -n __fish_use_subcommand -a cut -d 'Write what the filter accepts, cut'
 complete -c bpftap -n __fish_use_subcommand -a split -d 'Write several captures in one pass'
+complete -c bpftap -n __fish_use_subcommand -a parts -d 'Print ranges of a capture, to cut each apart'
+complete -c bpftap -n __fish_use_subcommand -a join -d 'Put together what was cut of parts'
 complete -c bpftap -n __fish_use_subcommand -a steps -d 'Play a script to listeners'
 complete -c bpftap -n __fish_use_subcommand -a run -d 'Replay captures in threads'
 complete -c bpftap -n __fish_use_subcommand -a help -d 'Print help of a command'
 
-complete -c bpftap -n '__fish_seen_subcommand_from help' -a 'check explain compare info cut split steps run expressions'
+complete -c bpftap -n '__fish_seen_subcommand_from help' -a 'check explain compare info cut split parts join steps run expressions'
 
 complete -c bpftap -n '__fish_seen_subcommand_from check; and not __fish_seen_subcommand_from help' -s d -d 'Print instructions by name'
 complete -c bpftap -n '__fish_seen_subcommand_from check; and not __fish_seen_subcommand_from help' -s x -d 'Print the expression as it was read'
@@ -57,6 +59,7 @@ complete -c bpftap -n '__fish_seen_subcommand_from cut; and not __fish_seen_subc
 complete -c bpftap -n '__fish_seen_subcommand_from cut; and not __fish_seen_subcommand_from help' -s u -x -a 'micro nano' -d 'Unit of the time stamps of OUT'
 complete -c bpftap -n '__fish_seen_subcommand_from cut; and not __fish_seen_subcommand_from help' -s c -d 'Print how many packets were written'
 complete -c bpftap -n '__fish_seen_subcommand_from cut; and not __fish_seen_subcommand_from help' -s w -r -F -d 'Capture to write; all other words are read'
+complete -c bpftap -n '__fish_seen_subcommand_from cut; and not __fish_seen_subcommand_from help' -l bytes -x -d 'Cut only the packets in these bytes'
 complete -c bpftap -n '__fish_seen_subcommand_from cut; and not __fish_seen_subcommand_from help' -l json -d 'Report counts and faults as JSON'
 complete -c bpftap -n '__fish_seen_subcommand_from cut; and not __fish_seen_subcommand_from help' -s h -l help -d 'Print help'
 
@@ -65,6 +68,13 @@ complete -c bpftap -n '__fish_seen_subcommand_from split; and not __fish_seen_su
 complete -c bpftap -n '__fish_seen_subcommand_from split; and not __fish_seen_subcommand_from help' -s u -x -a 'micro nano' -d 'Unit of the time stamps of each OUT'
 complete -c bpftap -n '__fish_seen_subcommand_from split; and not __fish_seen_subcommand_from help' -l json -d 'Print objects of JSON'
 complete -c bpftap -n '__fish_seen_subcommand_from split; and not __fish_seen_subcommand_from help' -s h -l help -d 'Print help'
+
+complete -c bpftap -n '__fish_seen_subcommand_from parts; and not __fish_seen_subcommand_from help' -F
+complete -c bpftap -n '__fish_seen_subcommand_from parts; and not __fish_seen_subcommand_from help' -l json -d 'Print objects of JSON'
+complete -c bpftap -n '__fish_seen_subcommand_from parts; and not __fish_seen_subcommand_from help' -s h -l help -d 'Print help'
+
+complete -c bpftap -n '__fish_seen_subcommand_from join; and not __fish_seen_subcommand_from help' -F
+complete -c bpftap -n '__fish_seen_subcommand_from join; and not __fish_seen_subcommand_from help' -s h -l help -d 'Print help'
 
 complete -c bpftap -n '__fish_seen_subcommand_from steps; and not __fish_seen_subcommand_from help' -F
 complete -c bpftap -n '__fish_seen_subcommand_from steps; and not __fish_seen_subcommand_from help' -s v -d 'Print the answers first, and why'

@@ -33,16 +33,19 @@ def offered(*words):
 
 # Words, the last one unfinished, and what is offered for it.
 OFFERED = [
-    ([""], ["check", "explain", "compare", "info", "cut", "split", "steps", "run", "help"]),
+    ([""], ["check", "explain", "compare", "info", "cut", "split", "parts", "join", "steps", "run", "help"]),
     (["c"], ["check", "compare", "cut"]),
     (["steps"], ["steps"]),
     (["x"], []),
     (["--v"], ["--version"]),
     (["--hi"], ["--hints"]),
     (["--hints", "c"], ["check", "compare", "cut"]),
-    (["help", ""], ["check", "explain", "compare", "info", "cut", "split", "steps", "run", "expressions"]),
+    (["help", ""], ["check", "explain", "compare", "info", "cut", "split", "parts", "join", "steps", "run", "expressions"]),
     (["--hints", "help", "e"], ["explain", "expressions"]),
-    (["cut", "--"], ["--json", "--help"]),
+    (["cut", "--"], ["--bytes", "--json", "--help"]),
+    (["cut", "--bytes", ""], []),
+    (["parts", "--"], ["--json", "--help"]),
+    (["join", ""], ["FILES"]),
     (["cut", "-o", ""], ["little", "big"]),
     (["cut", "-s", "0", "-o", "b"], ["big"]),
     (["cut", "-u", "n"], ["nano"]),

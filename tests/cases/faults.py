@@ -17,6 +17,9 @@ def listing(*lines):
     return "".join(f"{line}\n" for line in lines)
 
 
+# The line of a part of `in.pcap`.
+PART = "{} of {} packets 1 kept 1 bytes {} Clean in.pcap\n"
+
 # The largest snapshot length in a header, and link type 113, Linux cooked.
 COOKED = header()[:20] + (113).to_bytes(4, "little")
 
@@ -31,6 +34,8 @@ FILES = {
     "long.asm": ";" * 65537, "byte.asm": "ret #0 @\n", "number.asm": "ret #08\n", "label.asm": "l" * 33 + ": ret #0\n",
     "name.asm": "; nothing\nmove #1\n", "operand.asm": "ret x\n", "twice.asm": "on: ret #0\non: ret #0\n", "place.asm": "(001) ret #0\n",
     "no.asm": "ja on\nret #0\n", "back.asm": "on: ja on\nret #0\n", "far.asm": "jeq #1, on\n" + "neg\n" * 256 + "on: ret #0\n",
+    "gap.txt": PART.format("54-84", 84, 54), "size.txt": PART.format("24-84", 84, 55),
+    "other.txt": PART.format("24-54", 84, 54) + PART.format("54-84", 85, 54),
     "arrive.txt": "arrive\n", "wait.txt": "arrive\nwait\n", "read1.txt": "arrive\nread 1\n",
     "one.txt": "0 1048576\n", "comment.txt": "# SNAP CAPACITY EXPRESSION\n0 1048576\n", "crlf.txt": "0 1048576\r\n",
     "65.txt": "0 1048576\n" * 65, "small.txt": "0 1048576\n10 47\n",
@@ -71,6 +76,12 @@ REFUSED = [
     ("cut -s 0 none.pcap none.pcap", "Device none.pcap", 3),
     ("cut -s 0 none.pcap ./none.pcap", "Device none.pcap", 3),
     ("cut -s 0 none/in.pcap none/in.pcap", "Device none/in.pcap", 3),
+    ("parts 2 .", "NotRegular", 1),
+    ("cut --bytes 24-1000 -s 0 in.pcap out.pcap", "BadRange", 1),
+    ("join one.txt out.pcap", "Lines 1", 1),
+    ("join gap.txt out.pcap", "MissingPart 24", 1),
+    ("join other.txt out.pcap", "OtherCapture 54", 1),
+    ("join size.txt out.pcap", "OtherPart in.pcap", 1),
     ("steps -p none.pcap one.txt arrive.txt none.pcap", "Device none.pcap", 3),
     ("steps one.txt arrive.txt none.pcap", "Device none.pcap", 3),
     ("steps comment.txt arrive.txt in.pcap", "Listeners 1", 1),
@@ -156,8 +167,10 @@ SECTIONS = {
     "check": {SHARED, "Expressions", LISTINGS},
     "explain": {SHARED, "Expressions", "Captures", LISTINGS, "`explain`"},
     "compare": {SHARED, "Expressions", "Captures", LISTINGS, "`explain`"},
-    "cut": {SHARED, "Expressions", "Captures", LISTINGS},
+    "cut": {SHARED, "Expressions", "Captures", LISTINGS, "`parts`, `join` and `cut --bytes`"},
     "split": {SHARED, "`split`"},
+    "parts": {SHARED, "Captures", "`parts`, `join` and `cut --bytes`"},
+    "join": {SHARED, "Captures", "`parts`, `join` and `cut --bytes`"},
     "steps": {SHARED, "`steps`"},
     "run": {SHARED, "`run`"},
 }

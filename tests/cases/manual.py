@@ -24,7 +24,7 @@ def section(page, name):
 
 def options_named(lines):
     """The options of lines of mdoc, each with the name of its value, or nothing: `-s` is `Fl s`, `--help` is `Fl -help`."""
-    return {f"-{name}": value for line in lines for name, value in re.findall(r"\bFl (-?[\w-]+)(?: Ar (\w+))?", line)}
+    return {f"-{name}": value for line in lines for name, value in re.findall(r"\bFl (-?[\w-]+)(?: Ar ([\w-]+))?", line)}
 
 
 def manual_options(command):
@@ -65,7 +65,7 @@ def help_options(parts):
     """The options that `--help` lists, each with the name of its value, or nothing."""
     found = {}
     for line in parts["Options"]:
-        match = re.match(r" +(-\w)?(?:, )?(--[\w-]+)?(?:[ =]<(\w+)>|\.\.\.)?(?:  |$)", line)
+        match = re.match(r" +(-\w)?(?:, )?(--[\w-]+)?(?:[ =]<([\w-]+)>|\.\.\.)?(?:  |$)", line)
         if match and (match[1] or match[2]):
             found.update({name: match[3] or "" for name in (match[1], match[2]) if name})
     return found

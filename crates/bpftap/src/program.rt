@@ -8,10 +8,13 @@ use cli_args::report::{print_page, report_words_fault};
 use cli_compare::command::compare_command;
 use cli_count::command::count_command;
 use cli_cut::command::{check_command, cut_command};
+use cli_cut::part::cut_part_command;
 use cli_explain::command::explain_command;
 use cli_files::late::reserve_std_fd;
 use cli_filter_hints::quotes::{hint_listing_word, hint_unquoted};
 use cli_info::command::info_command;
+use cli_parts::join::join_command;
+use cli_parts::parts::parts_command;
 use cli_report::commands::{
     hint_command, hint_dash_output, hint_failed_words, hint_missing, hint_option,
 };
@@ -23,7 +26,7 @@ use cli_steps::command::steps_command;
 use cli_text::Status;
 use cli_watch::Screen;
 use filter_hints::is_word;
-use line_text::LineForm;
+use line_text::{LineForm, LineForm};
 use std::alloc::Global;
 use std::convert::AsStr;
 use std::fs::Files;
@@ -75,7 +78,10 @@ fn dispatch<
         Ok(Request::Compare(words)) => compare_command(rt, &words, out, err),
         Ok(Request::Cut(asked)) => {
             err.set_form(LineForm::asked(asked.json));
-            let status = cut_command(rt, &asked, err);
+            let status = match asked.bytes {
+                Some(bytes) => cut_part_command(rt, &asked, bytes, out, err),
+                None => cut_command(rt, &asked, err),
+            };
             if status == Status::Clean || status == Status::Damaged {
                 hint_dash_output(asked.output, err);
             }
@@ -97,6 +103,11 @@ fn dispatch<
             err.set_form(LineForm::asked(words.json));
             split_command(rt, &words, out, err)
         }
+        Ok(Request::Parts(words)) => {
+            err.set_form(LineForm::asked(words.json));
+            parts_command(rt, &words, out, err)
+        }
+        Ok(Request::Join(words)) => join_command(rt, &words, out, err),
         Ok(Request::Topic(page)) => print_page(page, out, err),
         Err(error) => report_usage(rt.alloc(), words, error, out, err),
     }

@@ -16,6 +16,8 @@ pub(crate) enum Argument {
     Number(&'static str, char, &'static str, &'static str),
     /// An option of a name without a letter, whose value is a number.
     LongNumber(&'static str, &'static str, &'static str),
+    /// An option of a name without a letter, with a value.
+    LongText(&'static str, &'static str, &'static str),
     /// The path of a file.
     Path(&'static str, &'static str),
     /// The paths of one file or more.
@@ -57,6 +59,7 @@ impl Argument {
                 alloc, name, short, value, help,
             )),
             Argument::LongNumber(name, value, help) => Ok(long_number(alloc, name, value, help)),
+            Argument::LongText(name, value, help) => Ok(long_option(alloc, name, value, help)),
             Argument::Path(name, help) => Ok(path(alloc, name, help)),
             Argument::Paths(name, help) => Ok(paths(alloc, name, help)),
             Argument::Optional(name, help) => Ok(Arg::new(alloc, name).help(help)),
@@ -88,13 +91,17 @@ fn number<'a>(alloc: Global, name: &'a str, short: char, value: &'a str, help: &
     option(alloc, name, short, value, help).allow_negative_numbers(true)
 }
 
-/// An option of a name without a letter, whose value is a number; one with a sign is a value too, and refused as one.
-fn long_number<'a>(alloc: Global, name: &'a str, value: &'a str, help: &'a str) -> Arg<'a> {
+/// An option of a name without a letter, with a value.
+fn long_option<'a>(alloc: Global, name: &'a str, value: &'a str, help: &'a str) -> Arg<'a> {
     Arg::new(alloc, name)
         .long(name)
         .value_name(value)
         .help(help)
-        .allow_negative_numbers(true)
+}
+
+/// An option of a name without a letter, whose value is a number; one with a sign is a value too, and refused as one.
+fn long_number<'a>(alloc: Global, name: &'a str, value: &'a str, help: &'a str) -> Arg<'a> {
+    long_option(alloc, name, value, help).allow_negative_numbers(true)
 }
 
 /// An option without a value.

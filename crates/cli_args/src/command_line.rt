@@ -5,6 +5,8 @@ use crate::counting::{CountWords, asks_counts, count_words};
 use crate::cut::{CutWords, bad_cut_words, cut_usage, cut_words};
 use crate::explain::{ExplainWords, bad_explain_words, explain_usage, explain_words};
 use crate::info::{InfoWords, info_usage, info_words};
+use crate::join::{JoinWords, join_usage, join_words};
+use crate::parts::{PartsWords, bad_parts_words, parts_usage, parts_words};
 use crate::refusal::refusal_of;
 use crate::run::{RunWords, run_usage, run_words};
 use crate::split::{SplitWords, split_usage, split_words};
@@ -29,6 +31,8 @@ pub enum Request<'a> {
     Steps(StepsWords<'a>),
     Run(RunWords<'a>),
     Split(SplitWords<'a>),
+    Parts(PartsWords<'a>),
+    Join(JoinWords<'a>),
     /// A page of help, as its text.
     Topic(&'static str),
 }
@@ -47,6 +51,7 @@ const EXAMPLES: &str = "Examples:
   bpftap cut -s 0 -f examples/ip.bpf examples/veth.pcap ip.pcap
   bpftap info examples/veth.pcap
   bpftap split examples/split/lines.txt examples/veth.pcap
+  bpftap parts 4 examples/veth.pcap
   bpftap steps -v examples/steps/listeners.txt examples/steps/script.txt examples/veth.pcap
   bpftap run examples/run/listeners.txt examples/veth.pcap
   bpftap help expressions     # the filter language on one page
@@ -55,12 +60,12 @@ The folder examples is that of a clone; an installation has it in share/doc/bpft
 
 Exit status: 0 clean; 1 bad usage, invalid input, or out of memory; 2 a torn or bad record, after
 the packets before it; 3 a file or device failed; 4 an answer, no fault: explain -q accepts no
-packet, compare -q or without IN finds one that is treated differently; 5 compare without IN has
-not decided it.";
+packet, compare -q or without IN finds one that is treated differently, join wants a range to be
+cut again; 5 compare without IN has not decided it.";
 
 /// The subcommands, in the order of the help.
-static SUBCOMMANDS: [&str; 8] = [
-    "check", "explain", "compare", "info", "cut", "split", "steps", "run",
+static SUBCOMMANDS: [&str; 10] = [
+    "check", "explain", "compare", "info", "cut", "split", "parts", "join", "steps", "run",
 ];
 
 /// The option that asks for hints, for the help: [`called_words`](crate::hints::called_words) takes it.
@@ -90,6 +95,8 @@ pub(crate) fn subcommand_of<'a>(alloc: Global, name: &str) -> Result<Command<'a>
         "cut" => cut_usage(alloc),
         "info" => info_usage(alloc),
         "split" => split_usage(alloc),
+        "parts" => parts_usage(alloc),
+        "join" => join_usage(alloc),
         "steps" => steps_usage(alloc),
         _ => run_usage(alloc),
     }
@@ -183,6 +190,16 @@ fn split_request_of<'a>(
     Ok(split_words(alloc, words)?.map(Request::Split))
 }
 
+/// What the words of `parts` ask for; nothing if one is missing or invalid.
+fn parts_request_of<'a>(words: &ArgMatches<'a>) -> Option<Request<'a>> {
+    Some(Request::Parts(parts_words(words)?))
+}
+
+/// What the words of `join` ask for; nothing if one is missing.
+fn join_request_of<'a>(words: &ArgMatches<'a>) -> Option<Request<'a>> {
+    Some(Request::Join(join_words(words)?))
+}
+
 /// What the words of a subcommand ask for; nothing where one is missing or wrong.
 fn request_of<'a>(
     alloc: Global,
@@ -198,12 +215,14 @@ fn request_of<'a>(
         "compare" => compare_request_of(alloc, words),
         "cut" => cut_request_of(alloc, words),
         "check" => Ok(check_request_of(words)),
+        "parts" => Ok(parts_request_of(words)),
+        "join" => Ok(join_request_of(words)),
         _ => Ok(None),
     }
 }
 
-/// The error of words that `clap` took and a subcommand refuses. For `check` it is the snapshot length, for `cut` that or OUT, for
-/// `explain` that, the place or a bound, for `compare` that or a missing IN. For the others a word is missing, which `clap` has reported.
+/// The error of words that `clap` took and a subcommand refuses. For `check` it is the snapshot length, for `cut` that, OUT or a
+/// range, for `parts` the number, for `explain` that, the place or a bound, for `compare` that or a missing IN. For the others a word is missing, which `clap` has reported.
 fn bad_words(
     alloc: Global,
     name: &str,
@@ -215,6 +234,7 @@ fn bad_words(
         "cut" => bad_cut_words(alloc, words),
         "explain" => bad_explain_words(alloc, words),
         "compare" => bad_compare_words(alloc, words),
+        "parts" => bad_parts_words(alloc),
         _ => program.error(ErrorKind::MissingRequiredArgument, "a word is wanted"),
     }
 }

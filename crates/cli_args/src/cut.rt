@@ -2,6 +2,7 @@
 
 use crate::arguments::Argument;
 use crate::command_line::{order_of, unit_of};
+use crate::places::{ByteRange, byte_range};
 use crate::snap::{SNAP_WANTED, snap_of};
 use crate::subcommand::{subcommand, usage_error};
 use clap::error::ErrorKind;
@@ -24,6 +25,8 @@ pub struct CutWords<'a> {
     pub counted: bool,
     /// Whether the counts and faults are printed as JSON.
     pub json: bool,
+    /// The range of bytes of the only IN, if `--bytes` is given.
+    pub bytes: Option<ByteRange>,
     /// The paths of the captures that are read, in order.
     pub inputs: Vec<&'a str>,
     /// The path of the capture that is written.
@@ -47,7 +50,7 @@ begins with - in parentheses, or after -e=, as in -e='-1 + len > 60'.
 Exit status: 0 clean; 1 bad usage, invalid input, or out of memory; 2 a torn or bad record, after
 the packets before it; 3 a file or device failed.";
 
-static ARGUMENTS: [Argument; 10] = [
+static ARGUMENTS: [Argument; 11] = [
     Argument::Snap,
     Argument::Listing,
     Argument::Text(
@@ -64,6 +67,11 @@ static ARGUMENTS: [Argument; 10] = [
         "Print on standard error how many of the packets were written",
     ),
     Argument::Json,
+    Argument::LongText(
+        "bytes",
+        "FIRST-END",
+        "Cut only the packets in these bytes of IN, as parts prints them, and print a line for join",
+    ),
     Argument::Text(
         "output",
         'w',
@@ -117,7 +125,16 @@ fn inputs_of<'a>(
     Ok(inputs)
 }
 
-/// The words that were found, `None` if one is missing, if the snapshot length is invalid, or if several words without `-w` follow IN.
+/// The range that `--bytes` gives, if it does; an error if it is none.
+fn bytes_of(matches: &ArgMatches<'_>) -> Result<Option<ByteRange>, ()> {
+    match matches.get_str("bytes") {
+        Some(text) => byte_range(text).map(Some).ok_or(()),
+        None => Ok(None),
+    }
+}
+
+/// The words that were found, `None` if one is missing, if the snapshot length or the range is invalid, if several words without `-w` follow
+/// IN, or several IN go with a range.
 pub fn cut_words<'a>(
     alloc: Global,
     matches: &ArgMatches<'a>,
@@ -129,6 +146,13 @@ pub fn cut_words<'a>(
     ) else {
         return Ok(None);
     };
+    let inputs = inputs_of(alloc, first, matches)?;
+    let Ok(bytes) = bytes_of(matches) else {
+        return Ok(None);
+    };
+    if bytes.is_some() && inputs.len() > 1 {
+        return Ok(None);
+    }
     Ok(Some(CutWords {
         snap,
         listing: matches.get_str("listing"),
@@ -137,7 +161,8 @@ pub fn cut_words<'a>(
         unit: unit_of(matches),
         counted: matches.get_flag("counted"),
         json: matches.get_flag("json"),
-        inputs: inputs_of(alloc, first, matches)?,
+        bytes,
+        inputs,
         output,
     }))
 }
@@ -149,13 +174,19 @@ const OUTPUT_WANTED: &str = "OUT is missing: name it after IN, or by -w OUT";
 const NAME_WANTED: &str =
     "several IN take -w, as in bpftap cut -s 0 -w OUT IN1 IN2: so none of them is overwritten";
 
-/// The error of words that `clap` took and `cut` refuses: of a snapshot length that has more than digits, of a missing OUT, or of several
-/// IN without `-w`.
+/// What a range is.
+const RANGE_WANTED: &str =
+    "--bytes takes FIRST-END, two numbers, the lesser first, and only one IN";
+
+/// The error of words that `clap` took and `cut` refuses: of a snapshot length that has more than digits, of a missing OUT, of a range that is
+/// none or has several IN, or of several IN without `-w`.
 pub fn bad_cut_words(alloc: Global, matches: &ArgMatches<'_>) -> Result<Error, AllocError> {
     let (kind, wanted) = if snap_of(matches).is_none() {
         (ErrorKind::ValueValidation, SNAP_WANTED)
     } else if matches.get_str("OUT").is_none() {
         (ErrorKind::MissingRequiredArgument, OUTPUT_WANTED)
+    } else if output_of(matches).is_some() {
+        (ErrorKind::ValueValidation, RANGE_WANTED)
     } else {
         (ErrorKind::TooManyValues, NAME_WANTED)
     };

@@ -10,6 +10,8 @@ pub mod cut;
 pub mod explain;
 pub mod hints;
 pub mod info;
+pub mod join;
+pub mod parts;
 pub mod places;
 pub mod refusal;
 pub mod report;

@@ -1,4 +1,4 @@
-//! The places of packets, as a word of the command line gives them.
+//! The places of packets, and ranges of bytes, as a word of the command line gives them.
 
 use line_text::fields::number;
 
@@ -8,6 +8,14 @@ pub struct PlaceRange {
     pub first: u64,
     /// At least `first`.
     pub last: u64,
+}
+
+/// A range of the bytes of a file: those from `first` on, up to the one before `end`.
+#[derive(Clone, Copy, Debug, PartialEq, Eq)]
+pub struct ByteRange {
+    pub first: u64,
+    /// At least `first`.
+    pub end: u64,
 }
 
 /// What a place or a range of them is.
@@ -28,7 +36,14 @@ pub fn place_range(text: &str) -> Option<PlaceRange> {
     }
 }
 
-/// A place: a number below 2^64.
+/// A place, or the number of a byte: below 2^64.
 fn place(text: &str) -> Option<u64> {
     number(text.as_bytes(), u64::MAX)
+}
+
+/// The bytes that `FIRST-END` names, from FIRST up to the one before END; `None` if it lacks that form, or if END is below FIRST.
+pub fn byte_range(text: &str) -> Option<ByteRange> {
+    let (first, end) = text.split_once('-')?;
+    let (first, end) = (place(first)?, place(end)?);
+    (first <= end).then_some(ByteRange { first, end })
 }

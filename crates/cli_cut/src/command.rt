@@ -17,14 +17,15 @@ use cli_watch::{Screen, Watch};
 use line_text::LineForm;
 use pcap_cut::cut::{CutEnd, End, cut};
 use savefile::{Counted, Fault, MAX_SNAP};
+use std::alloc::Global;
 use std::fs::Files;
 use std::io::{ErrorKind, Read, Write};
 
 /// What a cut needs: its filter, IN, and OUT.
-struct Job<I, O> {
-    program: Program,
-    input: I,
-    output: O,
+pub(crate) struct Job<I, O> {
+    pub(crate) program: Program,
+    pub(crate) input: I,
+    pub(crate) output: O,
 }
 
 /// Empties the buffer in front of OUT. What fails only now is a fault of OUT too, and goes before a torn record.
@@ -45,7 +46,7 @@ fn is_unread<R, W: Write + Drop>(end: &CutEnd<R, ProbedOutput<W>>) -> bool {
 
 /// Reports how a cut ended, with hints, and returns the exit status. That nobody reads standard output any more is not reported, as
 /// for `/dev/stdout` before `| head`.
-fn report_end<F: Files, R, W: Write + Drop, E: HintSink>(
+pub(crate) fn report_end<F: Files, R, W: Write + Drop, E: HintSink>(
     rt: &F,
     end: &CutEnd<ProbedInput<R>, ProbedOutput<W>>,
     words: &CutWords<'_>,
@@ -60,6 +61,29 @@ fn report_end<F: Files, R, W: Write + Drop, E: HintSink>(
     status
 }
 
+/// Cuts IN, and empties the buffer in front of OUT.
+pub(crate) fn cut_job<R: Read + Drop, W: Write + Drop>(
+    alloc: Global,
+    words: &CutWords<'_>,
+    job: Job<ProbedInput<R>, ProbedOutput<W>>,
+) -> CutEnd<ProbedInput<R>, ProbedOutput<W>> {
+    let Job {
+        program,
+        input,
+        output,
+    } = job;
+    let end = cut(
+        alloc,
+        input,
+        &program,
+        words.snap,
+        words.order,
+        words.unit,
+        output,
+    );
+    flush(end)
+}
+
 /// Cuts IN, and reports how that ended. The count comes after the fault and its hints.
 fn cut_and_report<F: Files + AllocGlobal + Screen, R: Read + Drop, W: Write + Drop, E: HintSink>(
     rt: &F,
@@ -69,21 +93,7 @@ fn cut_and_report<F: Files + AllocGlobal + Screen, R: Read + Drop, W: Write + Dr
     watch: &Watch<'_, F>,
     err: &mut E,
 ) -> Status {
-    let Job {
-        program,
-        input,
-        output,
-    } = job;
-    let end = cut(
-        rt.alloc(),
-        input,
-        &program,
-        words.snap,
-        words.order,
-        words.unit,
-        output,
-    );
-    let end = flush(end);
+    let end = cut_job(rt.alloc(), words, job);
     watch.erase();
     let status = report_end(rt, &end, words, from, err);
     if words.counted {

@@ -5,6 +5,7 @@ pub mod captures;
 pub mod command;
 mod hints;
 pub mod object;
+pub mod part;
 mod paths;
 mod plan;
 pub mod print;

@@ -1,5 +1,5 @@
 -- Captures in parts, joined.
-use Rattle.std.proofs.Common.{◌≡◌, ℕ, ◌+◌, List, [], ◌∷◌, ◌++◌, length, length-append, length-drop, drop, Option, None, refl, sym, ap, ◌∙◌, subst, inl, inr, arith, option_map, ne_eqb, lt-ltb, le-ltb}
+use Rattle.std.proofs.Common.{◌≡◌, ℕ, ◌+◌, ◌≤◌, List, [], ◌∷◌, ◌++◌, length, length-append, length-drop, drop, Option, None, refl, sym, ap, ◌∙◌, subst, inl, inr, arith, option_map, ne_eqb, lt-ltb, le-ltb}
 use Rattle.std.proofs.lemmas.Bool.{cases_eq, cases_lt, lt-leb, le-leb}
 use Rattle.std.proofs.lemmas.List.{append_assoc, drop-append-le, nil_from_length}
 use Rattle.std.proofs.lemmas.List.Concat.{flat_map-append}
@@ -16,16 +16,17 @@ use Rattle.savefile.proofs.Lengths.{length-bytes_in}
 use Rattle.savefile.proofs.Records.{longest_records, AreRecords-push}
 use Rattle.savefile.specs.Snapshot.{effective_snaplen}
 use Rattle.pcap_cut.specs.Cut.{accepted, cut_text}
-use Rattle.pcap_cut.proofs.Accepted.{accepted-append}
+use Rattle.pcap_cut.proofs.Accepted.{accepted-append, accepted-nil}
 use Rattle.pcap_parts.specs.Parts.{after_records}
+use Rattle.pcap_parts.specs.Whole.{all_of, without_headers}
 
 -- what follows the header of 24 bytes
-behind : (header rest : List ℕ) → length header ≡ 24 → drop 24 (header ++ rest) ≡ rest
+pub behind : (header rest : List ℕ) → length header ≡ 24 → drop 24 (header ++ rest) ≡ rest
 behind header rest long =
     drop-append-le 24 header rest (omega (arith, long)) ∙ ap (λ (t : List ℕ). t ++ rest) (nil_from_length (drop 24 header) (length-drop 24 header ∙ omega (arith, long)))
 
 -- the first fault of a rest, with its place counted from a later record on
-fault_later : (order : Order) (unit : TimeUnit) (n place : ℕ) (rest : List ℕ)
+pub fault_later : (order : Order) (unit : TimeUnit) (n place : ℕ) (rest : List ℕ)
     → first_fault order unit (n + place) rest ≡ option_map (after_records n) (first_fault order unit place rest)
 fault_later order unit n place rest =
     let cut = fraction order rest in
@@ -48,7 +49,7 @@ fault_later order unit n place rest =
     ]
 
 -- no record stands where the longest list of a savefile ends
-ends_records : (text : List ℕ) (order : Order) (unit : TimeUnit) (snap : ℕ) (ps : List Packet) (fault : Option Fault)
+pub ends_records : (text : List ℕ) (order : Order) (unit : TimeUnit) (snap : ℕ) (ps : List Packet) (fault : Option Fault)
     → (h : Holds text order unit snap ps fault) → NoRecord order unit h.rest
 ends_records text order unit snap ps fault h = λ p after r.
     let more : IsSavefile text order unit snap (ps ++ p ∷ []) after = record { header = h.reads.header; records = AreRecords-push order unit (drop 24 text) ps p h.rest after h.reads.records r } in
@@ -71,7 +72,7 @@ reads_by_parts header part rest order unit snap packets more fault long h k =
     }
 
 -- the header that is written has 24 bytes
-header_length : (order : Order) (unit : TimeUnit) (snap : ℕ) → length (header_text order unit snap) ≡ 24
+pub header_length : (order : Order) (unit : TimeUnit) (snap : ℕ) → length (header_text order unit snap) ≡ 24
 unfolding header_text
 header_length order unit snap =
     let n : ℕ → ℕ → List ℕ = bytes_in order in
@@ -110,3 +111,33 @@ cuts_by_parts program snap order unit packets more =
     ∙ ap (λ (t : List ℕ). header ++ t) (flat_map-append (record_text order unit) first others)
     ∙ sym (append_assoc header (records first) (records others))
     ∙ ap (λ (t : List ℕ). (header ++ records first) ++ t) (sym (behind header (records others) (header_length order unit n)))
+
+-- a cut of nothing is a header
+cut_of_nothing : (program : List Insn) (snap : ℕ) (order : Order) (unit : TimeUnit) → drop 24 (cut_text program snap order unit []) ≡ []
+unfolding cut_text encoded
+cut_of_nothing program snap order unit =
+    let n = effective_snaplen snap in
+    let header = header_text order unit n in
+    ap (λ (ps : List Packet). drop 24 (header ++ flat_map (record_text order unit) ps)) (accepted-nil program n) ∙ behind header [] (header_length order unit n)
+
+-- a cut has its header at least
+cut_has_header : (program : List Insn) (snap : ℕ) (order : Order) (unit : TimeUnit) (packets : List Packet) → 24 ≤ length (cut_text program snap order unit packets)
+unfolding cut_text encoded
+cut_has_header program snap order unit packets =
+    let n = effective_snaplen snap in
+    let header = header_text order unit n in
+    let records = flat_map (record_text order unit) (accepted program n packets) in
+    omega (arith, header_length order unit n, length-append header records)
+
+-- the cut of the packets of some parts is that of the first, and those of the others without their headers
+pub cuts_of_parts : (program : List Insn) (snap : ℕ) (order : Order) (unit : TimeUnit) (packets : List Packet) (lists : List (List Packet))
+    → cut_text program snap order unit (packets ++ all_of lists) ≡ cut_text program snap order unit packets ++ without_headers (cut_text program snap order unit) lists
+cuts_of_parts program snap order unit packets [] =
+    let cut = cut_text program snap order unit in
+    cuts_by_parts program snap order unit packets [] ∙ ap (λ (t : List ℕ). cut packets ++ t) (cut_of_nothing program snap order unit)
+cuts_of_parts program snap order unit packets (more ∷ lists) =
+    let cut = cut_text program snap order unit in
+    let others = without_headers cut lists in
+    cuts_by_parts program snap order unit packets (more ++ all_of lists)
+    ∙ ap (λ (t : List ℕ). cut packets ++ drop 24 t) (cuts_of_parts program snap order unit more lists)
+    ∙ ap (λ (t : List ℕ). cut packets ++ t) (drop-append-le 24 (cut more) others (cut_has_header program snap order unit more))

@@ -7,7 +7,17 @@ use Rattle.savefile.specs.declared.header.Order.{Order}
 use Rattle.savefile.specs.declared.header.Unit.{Unit as TimeUnit}
 use Rattle.savefile.specs.declared.packet.Packet.{Packet}
 use Rattle.savefile.specs.Savefile.{Holds}
+use Rattle.pcap_cut.specs.declared.cut.End.{End}
+use Rattle.pcap_cut.specs.declared.cut.End.TheVariants.{Clean, Input}
 use Rattle.pcap_cut.specs.Cut.{cut_text}
+
+-- the cut of a part came to its end or to a torn or bad record, and all was written
+abbrev pub IsCounted : End → Type 0
+IsCounted Clean = Unit {0}
+IsCounted (Input (TornRecord place)) = Unit {0}
+IsCounted (Input (BadFraction place)) = Unit {0}
+IsCounted (Input (TooLong place)) = Unit {0}
+IsCounted other = ⊥
 
 -- a fault whose place is counted from a later record on
 abbrev pub after_records : ℕ → Fault → Fault

@@ -1,6 +1,7 @@
 //! What follows from the definitions. Each function does nothing: its contract is the law.
 
 ghost use Rattle.pcap_parts.specs.Parts.{ReadsByParts, CutsByParts};
+ghost use Rattle.pcap_parts.specs.Whole.{CutsItsParts, HoldsItsParts};
 
 /// Where the header with a part ends clean, what comes after the part is read as a capture of its own behind the same header: the whole has
 /// the packets of both, and the fault of the rest, at its place in the whole. So a part may end wherever somebody guessed that a record
@@ -12,4 +13,15 @@ pub fn reads_by_parts()
 /// A cut of the whole is the cut of the first part, and then the cut of the rest without its header.
 pub fn cuts_by_parts()
     ensures { CutsByParts }
+{}
+
+/// If the parts make a whole capture, and what the cut of each reports is so, then the capture holds the packets of all parts, one after the
+/// other, up to the fault that they have together, at its place in the whole.
+pub fn holds_its_parts()
+    ensures { HoldsItsParts }
+{}
+
+/// The cut of a capture is the cut of its first part, and then those of the others without their headers.
+pub fn cuts_its_parts()
+    ensures { CutsItsParts }
 {}

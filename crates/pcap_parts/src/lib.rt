@@ -1,4 +1,8 @@
 //! One large capture, read and cut in parts: the header, and ranges of the bytes after it.
 #![tactic(auto)]
 
+pub mod join;
 pub mod laws;
+pub mod part;
+pub mod select;
+pub mod start;

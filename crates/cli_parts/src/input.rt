@@ -1,0 +1,120 @@
+//! The header of a capture and a range of its bytes, as one source.
+
+ghost use Rattle.std.specs.Prelude.{◌≡◌, ◌&&◌, nat_le};
+
+use cli_args::places::ByteRange;
+use cli_files::reading::report_io;
+use cli_files::retried::Retried;
+use cli_report::HintSink;
+use cli_report::probe::{FailureProbe, ProbedInput};
+use cli_report::stream::give_hint;
+use cli_text::Status;
+use cli_text::report::EscapedPath;
+use cli_watch::{Screen, Watch, Watched};
+use fault_report::Report;
+use fault_report::reporting::report_fault;
+use savefile::{Counted, HEADER_LEN};
+use std::alloc::Global;
+use std::fs::{Files, OpenFile};
+use std::io::{Chain, Cursor, Read, Seek, SeekFrom, Take};
+use std::{fs, io};
+
+/// The header of a capture, and a range of its bytes.
+pub type PartBytes<F> = Chain<Cursor<Vec<u8>>, Take<Retried<F>>>;
+
+/// The same, watched while it is read.
+pub type PartInput<'w, 'r, R> = ProbedInput<Watched<'w, 'r, R, PartBytes<<R as Files>::File>>>;
+
+/// A part that is open, and how many bytes the whole capture has.
+#[derive(Drop)]
+pub struct OpenPart<I> {
+    pub input: I,
+    pub size: u64,
+}
+
+/// A regular file, and how many bytes it has; or reports why there is none.
+pub(crate) fn open_regular<R: Files, E: HintSink>(
+    rt: &R,
+    path: &str,
+    err: &mut E,
+) -> Result<OpenPart<R::File>, Status> {
+    let opened = match fs::open(rt, path) {
+        Ok(file) => file,
+        Err(error) => return Err(report_io(&error, path, err)),
+    };
+    match opened.metadata() {
+        Ok(metadata) if metadata.is_file() => Ok(OpenPart {
+            input: opened,
+            size: metadata.len(),
+        }),
+        Ok(_) => {
+            let status = report_fault(&Report::named("NotRegular"), Status::Refused, err);
+            give_hint(
+                format_args!(
+                    "{} is no regular file, so it has no bytes to choose from",
+                    EscapedPath(path)
+                ),
+                err,
+            );
+            Err(status)
+        }
+        Err(error) => Err(report_io(&error, path, err)),
+    }
+}
+
+/// The first bytes of a file, as many as a header has, or fewer if the file is shorter.
+pub(crate) fn header_bytes<F: Read>(alloc: Global, file: &mut F) -> io::Result<Vec<u8>> {
+    let mut bytes = Vec::new(alloc);
+    Retried::new(file)
+        .take(HEADER_LEN as u64)
+        .read_to_end(&mut bytes)?;
+    Ok(bytes)
+}
+
+/// Whether these are bytes of a capture of this size, after its header.
+fn is_inside(bytes: ByteRange, size: u64) -> bool
+    ensures { result ≡ (nat_le 24 bytes.first && nat_le bytes.end size) }
+{
+    bytes.first >= HEADER_LEN as u64 && bytes.end <= size
+}
+
+/// Reads the header, and goes to the first byte of a range.
+fn header_and_range<F: Read + Seek + Drop>(
+    alloc: Global,
+    mut file: F,
+    bytes: ByteRange,
+) -> io::Result<PartBytes<F>> {
+    let header = header_bytes(alloc, &mut file)?;
+    file.seek(SeekFrom::Start(bytes.first))?;
+    let count = bytes.end.saturating_sub(bytes.first);
+    Ok(Cursor::new(header).chain(Retried::new(file).take(count)))
+}
+
+/// Opens a part of the capture at a path: its header, and a range of the bytes after it; or reports why there is none.
+pub fn open_part<'w, 'r, R: Files + AllocGlobal + Screen, E: HintSink>(
+    rt: &R,
+    path: &str,
+    bytes: ByteRange,
+    watch: &'w Watch<'r, R>,
+    err: &mut E,
+) -> Result<OpenPart<PartInput<'w, 'r, R>>, Status> {
+    let OpenPart { input: file, size } = open_regular(rt, path, err)?;
+    if !is_inside(bytes, size) {
+        let status = report_fault(&Report::named("BadRange"), Status::Refused, err);
+        give_hint(
+            format_args!(
+                "the packets of {} lie from byte {HEADER_LEN} to {size}",
+                EscapedPath(path)
+            ),
+            err,
+        );
+        return Err(status);
+    }
+    match header_and_range(rt.alloc(), file, bytes) {
+        Ok(input) => Ok(OpenPart {
+            input: Counted::new(FailureProbe::new(watch.watched(input))),
+            size,
+        }),
+        Err(error) => Err(report_io(&error, path, err)),
+    }
+}

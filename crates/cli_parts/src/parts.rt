@@ -1,0 +1,133 @@
+//! `bpftap parts`, over files.
+
+use crate::guess::start_after;
+use crate::input::{OpenPart, header_bytes, open_regular};
+use crate::line::print_range;
+use cli_args::parts::PartsWords;
+use cli_files::captures::output_buffer;
+use cli_files::paths::{Opening, STANDARD_OUTPUT, refuse_shared_files};
+use cli_files::reading::report_io;
+use cli_report::HintSink;
+use cli_report::captures::hint_capture_fault;
+use cli_report::failures::hint_output;
+use cli_text::Status;
+use fault_report::reporting::{report_capture, report_memory, report_output};
+use line_text::LineForm;
+use pcap_parts::join::FIRST_RECORD;
+use savefile::{Header, header_of};
+use std::alloc::Global;
+use std::fs::Files;
+use std::io;
+use std::io::{ErrorKind, Read, Seek, Write};
+
+/// Where the part of this number, from 0, begins at the earliest, if `count` parts have the same length.
+fn part_start(size: u64, count: u64, number: u64) -> u64 {
+    let length = size.saturating_sub(FIRST_RECORD) / count.max(1);
+    FIRST_RECORD.saturating_add(length.saturating_mul(number))
+}
+
+/// Why a capture was not parted.
+#[derive(Debug, Drop)]
+enum PartingFault {
+    /// The capture could not be read.
+    Input(io::Error),
+    /// The ranges could not be printed.
+    Output(io::Error),
+}
+
+/// Prints the ranges of a capture with this header: from the header to its end, each from where the one before ends.
+fn print_ranges<F: Read + Seek, O: Write>(
+    alloc: Global,
+    capture: &mut OpenPart<F>,
+    header: Header,
+    words: &PartsWords<'_>,
+    out: &mut O,
+) -> Result<(), PartingFault> {
+    let OpenPart { input, size } = capture;
+    let (count, form) = (words.count, LineForm::asked(words.json));
+    let mut first = FIRST_RECORD;
+    for number in 1..count {
+        let earliest = part_start(*size, count, number);
+        if earliest <= first {
+            continue;
+        }
+        let start = match start_after(alloc, input, header, earliest) {
+            Ok(start) => start,
+            Err(error) => return Err(PartingFault::Input(error)),
+        };
+        if let Some(start) = start {
+            if let Err(error) = print_range(alloc, form, first, start, out) {
+                return Err(PartingFault::Output(error));
+            }
+            first = start;
+        }
+    }
+    match print_range(alloc, form, first, *size, out) {
+        Ok(()) => Ok(()),
+        Err(error) => Err(PartingFault::Output(error)),
+    }
+}
+
+/// Reports why a capture was not parted, and returns the exit status.
+fn report_parting<E: HintSink>(fault: &PartingFault, path: &str, err: &mut E) -> Status {
+    match fault {
+        PartingFault::Input(error) => report_io(error, path, err),
+        PartingFault::Output(error) if error.kind() == ErrorKind::OutOfMemory => report_memory(err),
+        PartingFault::Output(error) => report_output(&Err(*error), err),
+    }
+}
+
+/// The header of a capture; or reports why it is refused.
+fn read_header<F: Read, E: HintSink>(
+    alloc: Global,
+    file: &mut F,
+    path: &str,
+    err: &mut E,
+) -> Result<Header, Status> {
+    let bytes = match header_bytes(alloc, file) {
+        Ok(bytes) => bytes,
+        Err(error) => return Err(report_io(&error, path, err)),
+    };
+    match header_of(bytes.as_slice()) {
+        Ok(header) => Ok(header),
+        Err(fault) => {
+            let status = report_capture(fault, path, err);
+            hint_capture_fault(bytes.as_slice(), fault, err);
+            Err(status)
+        }
+    }
+}
+
+/// Prints the ranges of the capture, with a buffer in front of the output.
+fn part_capture<R: Files + AllocGlobal, O: Write, E: HintSink>(
+    rt: &R,
+    words: &PartsWords<'_>,
+    out: &mut O,
+    err: &mut E,
+) -> Result<Status, Status> {
+    let paths = [words.input];
+    refuse_shared_files(rt, Opening::First, Some(STANDARD_OUTPUT), &paths, &[], err)?;
+    let mut capture = open_regular(rt, words.input, err)?;
+    let header = read_header(rt.alloc(), &mut capture.input, words.input, err)?;
+    let mut out = output_buffer(rt.alloc(), &mut *out, err)?;
+    let printed = print_ranges(rt.alloc(), &mut capture, header, words, &mut out);
+    let status = match printed {
+        Ok(()) => report_output(&out.flush(), err),
+        Err(fault) => report_parting(&fault, words.input, err),
+    };
+    hint_output(out.get_ref(), err);
+    Ok(status)
+}
+
+/// `bpftap parts`: prints ranges of the bytes of a capture, which follow each other from the header to the end. The capture is a regular file.
+/// Only its header and the bytes about each place are read.
+pub fn parts_command<R: Files + AllocGlobal, O: Write, E: HintSink>(
+    rt: &R,
+    words: &PartsWords<'_>,
+    out: &mut O,
+    err: &mut E,
+) -> Status {
+    match part_capture(rt, words, out, err) {
+        Ok(status) | Err(status) => status,
+    }
+}
