@@ -75,7 +75,7 @@ impl Builder {
         let offset = Bytes {
             offset: IP_OFF as u32,
             size: 2,
-            mask: u64::from(IP_OFFMASK),
+            mask: IP_OFFMASK as u64,
         };
         let first = self.masked(offset, 0)?;
         self.both(protocol, first)
