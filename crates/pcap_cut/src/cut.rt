@@ -1,12 +1,12 @@
 //! A capture cut by a filter: the function under `bpftap cut`.
 
-ghost use Rattle.std.specs.Prelude.{◌≡◌, ◌≢◌, ℕ, List, [], ◌∷◌, ◌++◌, Option, None, true, false, Err, IfErr, ◌↔◌, ◌+◌, ◌<◌, ◌≤◌, ◌^◌};
+ghost use Rattle.std.specs.Prelude.{◌≡◌, ◌≢◌, ℕ, List, [], ◌∷◌, ◌++◌, Option, None, true, false, Err, IfErr, ◌↔◌, ◌+◌, ◌-◌, ◌<◌, ◌≤◌, ◌^◌};
 ghost use Rattle.std.specs.Io.KnownBytes.{Consumes};
 ghost use Rattle.savefile.specs.Savefile.{IsWritable};
 ghost use Rattle.savefile.specs.declared.header.Header.{Header};
 ghost use Rattle.savefile.specs.declared.packet.Packet.{Packet};
 ghost use Rattle.savefile.specs.declared.writing.Writer.{Writer};
-ghost use Rattle.savefile.specs.Reader.{HasGiven, HasRecord, IsCause, Leaves, WasBegun, WasRead};
+ghost use Rattle.savefile.specs.Reader.{GoesOn, HasGiven, HasRecord, IsCause, Leaves, WasBegun, WasRead};
 ghost use Rattle.savefile.specs.Writer.{HasWritten};
 ghost use Rattle.pcap_cut.specs.Copying.{Copied, Wrote};
 ghost use Rattle.pcap_cut.specs.Cut.{accepts, accepted};
@@ -216,8 +216,9 @@ fn advance_flushed<R: Source, W: Sink>(
     ensures written { (start : Option (List ℕ)) (order : Order) (unit : Unit) (head : ℕ) (packets : List Packet) →
         HasWritten W.taken start order unit head packets writer.old → HasWritten W.taken start order unit head packets writer.new }
     ensures sink_works { W.failures writer.new.sink ≡ W.failures writer.old.sink }
-    ensures ahead { HasRecord reader.old.header reader.old.ahead → writer.new ≡ writer.old }
+    ensures ahead { GoesOn reader.old × (reader.old.given ≢ 2 ^ 64 - 1) × HasRecord reader.old.header reader.old.ahead → writer.new ≡ writer.old }
 {
+    given_so_far(reader);
     if reader.advance_ahead() {
         return Ok(true);
     }
