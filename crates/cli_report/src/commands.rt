@@ -132,15 +132,6 @@ pub fn command_way<S: AsStr>(words: &[S]) -> Option<&'static str> {
     way_of(&WAYS, command_of(words)?)
 }
 
-/// Hints on the name of a command that there is not, among the arguments with the program's name first.
-pub fn hint_command<S: AsStr, E: HintSink>(words: &[S], err: &mut E)
-    ensures quiet { E.takes_hints err.old ≡ false → err.new ≡ err.old }
-{
-    if let Some(way) = command_way(words) {
-        give_hint(way, err);
-    }
-}
-
 /// Whether these are arguments of a command that has this option itself.
 fn takes_option<S: AsStr>(words: &[S], option: &str) -> bool {
     matches!(
