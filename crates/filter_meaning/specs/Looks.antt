@@ -3,6 +3,7 @@
 use Rattle.std.specs.Prelude.{ℕ, ◌+◌, ◌*◌, ◌%◌, ◌^◌, ◌==◌, Bool, true, false, not, List, [], ◌∷◌, ◌++◌, length, max, nat_le, Option, Some, None, Result, Ok, Err, if◌then◌else◌, bit_and}
 use Rattle.bpfvm.specs.Codes.{Arithmetic, Subtract}
 use Rattle.bpfvm.specs.Machine.{number_at, calculated}
+use Rattle.filter_tree.specs.declared.headers.TheConstants.{ETHER_DST, ETHER_SRC, ETHER_TYPE, ETHER_HDR_LEN, ETHERTYPE_IP, ETHERTYPE_ARP, ETHERTYPE_REVARP, IP_OFF, IP_P, IP_SRC, IP_DST, IP_OFFMASK, IPPROTO_ICMP, IPPROTO_TCP, IPPROTO_UDP, IPPROTO_SCTP, ARP_SPA, ARP_TPA, SRC_PORT, DST_PORT}
 use Rattle.filter_tree.specs.Trees.{Amount, Tree}
 use Rattle.filter_tree.specs.Trees as trees
 use Rattle.filter_tree.specs.declared.tree.Comparison.{Comparison}
@@ -106,22 +107,22 @@ wire_field condition p = asked (Ok (condition p.wire)) (Length ∷ [])
 
 -- the Ethernet type; behind it the protocol number of IPv4; behind both the fragment's offset
 abbrev pub type_asked : ℕ → Packet → Asked
-type_asked number p = field 12 2 (λ h. h == number) p
+type_asked number p = field ETHER_TYPE 2 (λ h. h == number) p
 
 abbrev pub protocol_asked : ℕ → Packet → Asked
-protocol_asked number p = both (type_asked 0x0800 p) (field 23 1 (λ b. b == number) p)
+protocol_asked number p = both (type_asked ETHERTYPE_IP p) (field IP_P 1 (λ b. b == number) p)
 
 abbrev pub first_fragment_asked : ℕ → Packet → Asked
-first_fragment_asked number p = both (protocol_asked number p) (field 20 2 (λ h. bit_and h 0x1fff == 0) p)
+first_fragment_asked number p = both (protocol_asked number p) (field IP_OFF 2 (λ h. bit_and h IP_OFFMASK == 0) p)
 
 abbrev pub plain_asked : Plain → Packet → Asked
-plain_asked words.Ip p = type_asked 0x0800 p
-plain_asked words.Arp p = type_asked 0x0806 p
-plain_asked words.Rarp p = type_asked 0x8035 p
-plain_asked words.Icmp p = protocol_asked 1 p
-plain_asked words.Tcp p = protocol_asked 6 p
-plain_asked words.Udp p = protocol_asked 17 p
-plain_asked words.Sctp p = protocol_asked 132 p
+plain_asked words.Ip p = type_asked ETHERTYPE_IP p
+plain_asked words.Arp p = type_asked ETHERTYPE_ARP p
+plain_asked words.Rarp p = type_asked ETHERTYPE_REVARP p
+plain_asked words.Icmp p = protocol_asked IPPROTO_ICMP p
+plain_asked words.Tcp p = protocol_asked IPPROTO_TCP p
+plain_asked words.Udp p = protocol_asked IPPROTO_UDP p
+plain_asked words.Sctp p = protocol_asked IPPROTO_SCTP p
 
 -- A side of a packet, at an offset: an address of four bytes under a mask, an Ethernet address, or a port. A port's offset counts from the
 -- end of the IPv4 header, whose length is looked at first.
@@ -133,7 +134,7 @@ ether_asked address offset p = field offset 6 (λ n. n == address) p
 
 abbrev pub port_asked : (low high : ℕ) → ℕ → Packet → Asked
 port_asked low high offset p =
-    then_asked (bytes_found 14 1 p) (λ b. field (14 + 4 * bit_and b 15 + offset) 2 (within low high) p)
+    then_asked (bytes_found ETHER_HDR_LEN 1 p) (λ b. field (ETHER_HDR_LEN + 4 * bit_and b 15 + offset) 2 (within low high) p)
 
 -- the sides that a direction chooses, the source's first
 abbrev pub directed_asked : Direction → (ℕ → Packet → Asked) → (source destination : ℕ) → Packet → Asked
@@ -144,9 +145,9 @@ directed_asked SrcAndDst side source destination p = both (side source p) (side 
 
 -- the addresses of IPv4, and those of ARP and RARP
 abbrev pub net_asked : Network → Direction → (ℕ → Packet → Asked) → Packet → Asked
-net_asked networks.Ip direction side p = both (type_asked 0x0800 p) (directed_asked direction side 26 30 p)
-net_asked networks.Arp direction side p = both (type_asked 0x0806 p) (directed_asked direction side 28 38 p)
-net_asked networks.Rarp direction side p = both (type_asked 0x8035 p) (directed_asked direction side 28 38 p)
+net_asked networks.Ip direction side p = both (type_asked ETHERTYPE_IP p) (directed_asked direction side IP_SRC IP_DST p)
+net_asked networks.Arp direction side p = both (type_asked ETHERTYPE_ARP p) (directed_asked direction side ARP_SPA ARP_TPA p)
+net_asked networks.Rarp direction side p = both (type_asked ETHERTYPE_REVARP p) (directed_asked direction side ARP_SPA ARP_TPA p)
 
 abbrev pub any_net_asked : Option Network → Direction → (ℕ → Packet → Asked) → Packet → Asked
 any_net_asked (Some network) direction side p = net_asked network direction side p
@@ -155,23 +156,23 @@ any_net_asked None direction side p =
 
 -- the ports of a protocol number
 abbrev pub ports_asked : ℕ → Direction → (ℕ → Packet → Asked) → Packet → Asked
-ports_asked number direction side p = both (first_fragment_asked number p) (directed_asked direction side 0 2 p)
+ports_asked number direction side p = both (first_fragment_asked number p) (directed_asked direction side SRC_PORT DST_PORT p)
 
 abbrev pub any_ports_asked : Option Transport → Direction → (ℕ → Packet → Asked) → Packet → Asked
 any_ports_asked (Some transport) direction side p = ports_asked (protocol_number transport) direction side p
 any_ports_asked None direction side p =
-    either (either (ports_asked 6 direction side p) (ports_asked 17 direction side p)) (ports_asked 132 direction side p)
+    either (either (ports_asked IPPROTO_TCP direction side p) (ports_asked IPPROTO_UDP direction side p)) (ports_asked IPPROTO_SCTP direction side p)
 
 abbrev pub primitive_asked : Primitive → Packet → Asked
 primitive_asked (Protocol word) p = plain_asked word p
 primitive_asked (Net network direction address mask) p = any_net_asked network direction (address_asked address mask) p
-primitive_asked (EtherHost direction address) p = directed_asked direction (ether_asked (address_number address.octets)) 6 0 p
+primitive_asked (EtherHost direction address) p = directed_asked direction (ether_asked (address_number address.octets)) ETHER_SRC ETHER_DST p
 primitive_asked (Ports transport direction low high) p = any_ports_asked transport direction (port_asked low high) p
 primitive_asked (IpProto number) p = protocol_asked number p
 primitive_asked (EtherProto number) p = type_asked number p
-primitive_asked EtherBroadcast p = ether_asked 0xffffffffffff 0 p
-primitive_asked EtherMulticast p = field 0 1 (λ b. not (bit_and b 1 == 0)) p
-primitive_asked IpMulticast p = both (type_asked 0x0800 p) (field 30 1 (λ b. nat_le 224 b) p)
+primitive_asked EtherBroadcast p = ether_asked 0xffffffffffff ETHER_DST p
+primitive_asked EtherMulticast p = field ETHER_DST 1 (λ b. not (bit_and b 1 == 0)) p
+primitive_asked IpMulticast p = both (type_asked ETHERTYPE_IP p) (field IP_DST 1 (λ b. nat_le 224 b) p)
 primitive_asked (Less n) p = wire_field (λ wire. nat_le wire n) p
 primitive_asked (Greater n) p = wire_field (λ wire. nat_le n wire) p
 
@@ -180,13 +181,13 @@ primitive_asked (Greater n) p = wire_field (λ wire. nat_le n wire) p
 -- proto[i:size]: at an index of the frame, or behind the Ethernet header, or behind the IPv4 header, whose length is looked at first
 abbrev pub behind_header_found : (size index : ℕ) → Packet → Found
 behind_header_found size index p =
-    then_found (bytes_found 14 1 p) (λ b. bytes_found (14 + (index + 4 * bit_and b 15) % 2 ^ 32) size p)
+    then_found (bytes_found ETHER_HDR_LEN 1 p) (λ b. bytes_found (ETHER_HDR_LEN + (index + 4 * bit_and b 15) % 2 ^ 32) size p)
 
 abbrev pub access_found : Layer → (size index : ℕ) → Packet → Found
 access_found layers.Ether size index p = bytes_found index size p
-access_found layers.Ip size index p = bytes_found (14 + index) size p
-access_found layers.Arp size index p = bytes_found (14 + index) size p
-access_found layers.Rarp size index p = bytes_found (14 + index) size p
+access_found layers.Ip size index p = bytes_found (ETHER_HDR_LEN + index) size p
+access_found layers.Arp size index p = bytes_found (ETHER_HDR_LEN + index) size p
+access_found layers.Rarp size index p = bytes_found (ETHER_HDR_LEN + index) size p
 access_found layers.Tcp size index p = behind_header_found size index p
 access_found layers.Udp size index p = behind_header_found size index p
 access_found layers.Icmp size index p = behind_header_found size index p
@@ -206,12 +207,12 @@ value_found (trees.accessor layer v size) p = then_found (value_found v p) (λ i
 -- the layer that an accessor reads
 abbrev pub layer_asked : Layer → Packet → Asked
 layer_asked layers.Ether p = asked (Ok true) []
-layer_asked layers.Ip p = type_asked 0x0800 p
-layer_asked layers.Arp p = type_asked 0x0806 p
-layer_asked layers.Rarp p = type_asked 0x8035 p
-layer_asked layers.Tcp p = first_fragment_asked 6 p
-layer_asked layers.Udp p = first_fragment_asked 17 p
-layer_asked layers.Icmp p = first_fragment_asked 1 p
+layer_asked layers.Ip p = type_asked ETHERTYPE_IP p
+layer_asked layers.Arp p = type_asked ETHERTYPE_ARP p
+layer_asked layers.Rarp p = type_asked ETHERTYPE_REVARP p
+layer_asked layers.Tcp p = first_fragment_asked IPPROTO_TCP p
+layer_asked layers.Udp p = first_fragment_asked IPPROTO_UDP p
+layer_asked layers.Icmp p = first_fragment_asked IPPROTO_ICMP p
 
 abbrev pub layers_asked : Amount → Packet → Asked
 layers_asked (trees.number n) p = asked (Ok true) []

@@ -6,6 +6,7 @@ use Rattle.bpfvm.specs.Codes.{Arithmetic, Add, Subtract, Multiply, Divide, Modul
 use Rattle.bpfvm.specs.Machine.{number_at, calculated}
 use Rattle.filter_tree.specs.Trees.{Amount, Tree}
 use Rattle.filter_tree.specs.Trees as trees
+use Rattle.filter_tree.specs.declared.headers.TheConstants.{ETHER_DST, ETHER_SRC, ETHER_TYPE, ETHER_HDR_LEN, ETHERTYPE_IP, ETHERTYPE_ARP, ETHERTYPE_REVARP, IP_OFF, IP_P, IP_SRC, IP_DST, IP_OFFMASK, IPPROTO_ICMP, IPPROTO_TCP, IPPROTO_UDP, IPPROTO_SCTP, ARP_SPA, ARP_TPA, SRC_PORT, DST_PORT}
 use Rattle.filter_tree.specs.declared.tree.Comparison.{Comparison}
 use Rattle.filter_tree.specs.declared.tree.Comparison.TheVariants as comparisons
 use Rattle.filter_tree.specs.declared.tree.Operator.{Operator}
@@ -92,25 +93,25 @@ six o p = number_at p.captured o 6
 
 -- ether proto t: the type field of the frame
 abbrev pub is_type : ℕ → Test
-is_type t p = check (λ n. n == t) (half 12 p)
+is_type t p = check (λ n. n == t) (half ETHER_TYPE p)
 
 -- ip proto n: IPv4 with this protocol number
 abbrev pub is_protocol : ℕ → Test
-is_protocol n = and_test (is_type 0x0800) (λ p. check (λ b. b == n) (byte 23 p))
+is_protocol n = and_test (is_type ETHERTYPE_IP) (λ p. check (λ b. b == n) (byte IP_P p))
 
 -- the same, and no later fragment
 abbrev pub is_first_fragment_of : ℕ → Test
-is_first_fragment_of n = and_test (is_protocol n) (λ p. check (λ b. bit_and b 0x1fff == 0) (half 20 p))
+is_first_fragment_of n = and_test (is_protocol n) (λ p. check (λ b. bit_and b IP_OFFMASK == 0) (half IP_OFF p))
 
 -- ip, arp, rarp, icmp, tcp, udp, sctp
 abbrev pub plain_test : Plain → Test
-plain_test words.Ip = is_type 0x0800
-plain_test words.Arp = is_type 0x0806
-plain_test words.Rarp = is_type 0x8035
-plain_test words.Icmp = is_protocol 1
-plain_test words.Tcp = is_protocol 6
-plain_test words.Udp = is_protocol 17
-plain_test words.Sctp = is_protocol 132
+plain_test words.Ip = is_type ETHERTYPE_IP
+plain_test words.Arp = is_type ETHERTYPE_ARP
+plain_test words.Rarp = is_type ETHERTYPE_REVARP
+plain_test words.Icmp = is_protocol IPPROTO_ICMP
+plain_test words.Tcp = is_protocol IPPROTO_TCP
+plain_test words.Udp = is_protocol IPPROTO_UDP
+plain_test words.Sctp = is_protocol IPPROTO_SCTP
 
 -- by the direction: the test of the source, that of the destination, or two of them, the source first
 abbrev pub by_direction : Direction → Test → Test → Test
@@ -126,11 +127,11 @@ has_address address mask o p = check (λ w. bit_and w mask == address) (word o p
 -- ip, arp or rarp host and net
 abbrev pub in_net : Network → Direction → ℕ → ℕ → Test
 in_net networks.Ip direction address mask =
-    and_test (is_type 0x0800) (by_direction direction (has_address address mask 26) (has_address address mask 30))
+    and_test (is_type ETHERTYPE_IP) (by_direction direction (has_address address mask IP_SRC) (has_address address mask IP_DST))
 in_net networks.Arp direction address mask =
-    and_test (is_type 0x0806) (by_direction direction (has_address address mask 28) (has_address address mask 38))
+    and_test (is_type ETHERTYPE_ARP) (by_direction direction (has_address address mask ARP_SPA) (has_address address mask ARP_TPA))
 in_net networks.Rarp direction address mask =
-    and_test (is_type 0x8035) (by_direction direction (has_address address mask 28) (has_address address mask 38))
+    and_test (is_type ETHERTYPE_REVARP) (by_direction direction (has_address address mask ARP_SPA) (has_address address mask ARP_TPA))
 
 -- host and net without a protocol: the ip, then the arp, then the rarp form
 abbrev pub in_any_net : Option Network → Direction → ℕ → ℕ → Test
@@ -151,7 +152,7 @@ is_address octets o p = check (λ n. n == address_number octets) (six o p)
 
 -- two bytes that begin so many behind the IPv4 header, whose length is four times the low four bits of its first byte
 abbrev pub half_behind_header : ℕ → Packet → Option ℕ
-half_behind_header o p = option_and_then (λ b. half (14 + 4 * bit_and b 15 + o) p) (byte 14 p)
+half_behind_header o p = option_and_then (λ b. half (ETHER_HDR_LEN + 4 * bit_and b 15 + o) p) (byte ETHER_HDR_LEN p)
 
 -- from low to high, with both
 abbrev pub within : ℕ → ℕ → ℕ → Bool
@@ -162,33 +163,33 @@ has_port low high o p = check (within low high) (half_behind_header o p)
 
 -- port and portrange of a protocol number: the source port stands first behind the header, then the destination port
 abbrev pub has_ports : ℕ → Direction → ℕ → ℕ → Test
-has_ports n direction low high = and_test (is_first_fragment_of n) (by_direction direction (has_port low high 0) (has_port low high 2))
+has_ports n direction low high = and_test (is_first_fragment_of n) (by_direction direction (has_port low high SRC_PORT) (has_port low high DST_PORT))
 
 abbrev pub protocol_number : Transport → ℕ
-protocol_number transports.Tcp = 6
-protocol_number transports.Udp = 17
-protocol_number transports.Sctp = 132
+protocol_number transports.Tcp = IPPROTO_TCP
+protocol_number transports.Udp = IPPROTO_UDP
+protocol_number transports.Sctp = IPPROTO_SCTP
 
 -- without a protocol: the tcp, then the udp, then the sctp form
 abbrev pub has_any_ports : Option Transport → Direction → ℕ → ℕ → Test
 has_any_ports (Some transport) direction low high = has_ports (protocol_number transport) direction low high
 has_any_ports None direction low high =
     or_test
-    (or_test (has_ports 6 direction low high) (has_ports 17 direction low high))
-    (has_ports 132 direction low high)
+    (or_test (has_ports IPPROTO_TCP direction low high) (has_ports IPPROTO_UDP direction low high))
+    (has_ports IPPROTO_SCTP direction low high)
 
 -- a primitive's test
 abbrev pub primitive_test : Primitive → Test
 primitive_test (Protocol word) = plain_test word
 primitive_test (Net network direction address mask) = in_any_net network direction address mask
 primitive_test (EtherHost direction address) =
-    by_direction direction (is_address address.octets 6) (is_address address.octets 0)
+    by_direction direction (is_address address.octets ETHER_SRC) (is_address address.octets ETHER_DST)
 primitive_test (Ports transport direction low high) = has_any_ports transport direction low high
 primitive_test (IpProto n) = is_protocol n
 primitive_test (EtherProto n) = is_type n
-primitive_test EtherBroadcast = (λ p. check (λ n. n == 0xffffffffffff) (six 0 p))
-primitive_test EtherMulticast = (λ p. check (λ b. not (bit_and b 1 == 0)) (byte 0 p))
-primitive_test IpMulticast = and_test (is_type 0x0800) (λ p. check (λ b. nat_le 224 b) (byte 30 p))
+primitive_test EtherBroadcast = (λ p. check (λ n. n == 0xffffffffffff) (six ETHER_DST p))
+primitive_test EtherMulticast = (λ p. check (λ b. not (bit_and b 1 == 0)) (byte ETHER_DST p))
+primitive_test IpMulticast = and_test (is_type ETHERTYPE_IP) (λ p. check (λ b. nat_le 224 b) (byte IP_DST p))
 primitive_test (Less n) = (λ p. decided (nat_le p.wire n))
 primitive_test (Greater n) = (λ p. decided (nat_le n p.wire))
 
@@ -218,11 +219,11 @@ in_frame size p i = number_at p.captured i size
 
 -- at an index of what stands behind the Ethernet header, without wrapping
 abbrev pub behind_ethernet : ℕ → Packet → ℕ → Option ℕ
-behind_ethernet size p i = number_at p.captured (14 + i) size
+behind_ethernet size p i = number_at p.captured (ETHER_HDR_LEN + i) size
 
 -- at an index of what stands behind the IPv4 header; the sum of index and header length is modulo 2 ^ 32
 abbrev pub behind_header : ℕ → Packet → ℕ → Option ℕ
-behind_header size p i = option_and_then (λ b. number_at p.captured (14 + (i + 4 * bit_and b 15) % 2 ^ 32) size) (byte 14 p)
+behind_header size p i = option_and_then (λ b. number_at p.captured (ETHER_HDR_LEN + (i + 4 * bit_and b 15) % 2 ^ 32) size) (byte ETHER_HDR_LEN p)
 
 -- proto[i:size]
 abbrev pub accessed : Layer → ℕ → Packet → ℕ → Option ℕ
@@ -245,12 +246,12 @@ value (trees.accessor layer v size) p = option_and_then (accessed layer (bytes_o
 -- the packet has the layer that an accessor reads
 abbrev pub in_layer : Layer → Test
 in_layer layers.Ether = (λ p. Yes)
-in_layer layers.Ip = is_type 0x0800
-in_layer layers.Arp = is_type 0x0806
-in_layer layers.Rarp = is_type 0x8035
-in_layer layers.Tcp = is_first_fragment_of 6
-in_layer layers.Udp = is_first_fragment_of 17
-in_layer layers.Icmp = is_first_fragment_of 1
+in_layer layers.Ip = is_type ETHERTYPE_IP
+in_layer layers.Arp = is_type ETHERTYPE_ARP
+in_layer layers.Rarp = is_type ETHERTYPE_REVARP
+in_layer layers.Tcp = is_first_fragment_of IPPROTO_TCP
+in_layer layers.Udp = is_first_fragment_of IPPROTO_UDP
+in_layer layers.Icmp = is_first_fragment_of IPPROTO_ICMP
 
 -- and the layers of all accessors, in the order of their words
 abbrev pub in_layers : Amount → Test

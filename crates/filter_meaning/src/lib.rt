@@ -19,5 +19,5 @@ pub use arithmetic::calculate;
 pub use cause::AbortCause;
 pub use evaluator::{abort_cause, evaluate, looks_of, value_of};
 pub use frame::{Frame, Look};
-pub use headers::{ARP, BROADCAST, IP, RARP, protocol_number};
+pub use headers::{BROADCAST, protocol_number};
 pub use verdict::Verdict;

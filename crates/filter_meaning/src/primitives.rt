@@ -3,11 +3,17 @@
 ghost use Rattle.std.specs.Prelude.{◌≡◌, ◌≤◌, ◌<◌, ◌^◌};
 ghost use Rattle.filter_meaning.specs.Looks.{packet, type_asked, protocol_asked, first_fragment_asked, plain_asked, directed_asked, net_asked, any_net_asked, ports_asked, any_ports_asked, primitive_asked};
 ghost use Rattle.filter_meaning.specs.Notes.{Noted, side_asked};
+ghost use Rattle.filter_tree.specs.declared.headers.TheConstants.{ARP_TPA};
 ghost use Rattle.filter_tree.specs.declared.tree.Primitive.TheVariants.{IpMulticast};
 
 use crate::cause::AbortCause;
 use crate::frame::{Frame, Notes};
-use crate::headers::{ARP, BROADCAST, IP, RARP, protocol_number};
+use crate::headers::{BROADCAST, protocol_number};
+use filter_tree::headers::{
+    ARP_SPA, ARP_TPA, DST_PORT, ETHER_DST, ETHER_HDR_LEN, ETHER_SRC, ETHER_TYPE, ETHERTYPE_ARP,
+    ETHERTYPE_IP, ETHERTYPE_REVARP, IP_DST, IP_OFF, IP_OFFMASK, IP_P, IP_SRC, IPPROTO_ICMP,
+    IPPROTO_SCTP, IPPROTO_TCP, IPPROTO_UDP, SRC_PORT,
+};
 use filter_tree::{Direction, EthernetAddress, Network, Plain, Primitive, Transport};
 
 /// What a test answers, or why it aborts.
@@ -19,7 +25,7 @@ pub(crate) fn is_type(number: u32, frame: &Frame<'_>, notes: &mut Notes) -> Answ
     ensures answer { result ≡ (type_asked number (packet frame.now)).answer }
     ensures noted { Noted notes.old notes.new (type_asked number (packet frame.now)).looks }
 {
-    Ok(frame.half(12, notes)? == number)
+    Ok(frame.half(ETHER_TYPE, notes)? == number)
 }
 
 /// IPv4 with this protocol number.
@@ -28,10 +34,10 @@ pub(crate) fn is_protocol(number: u32, frame: &Frame<'_>, notes: &mut Notes) -> 
     ensures answer { result ≡ (protocol_asked number (packet frame.now)).answer }
     ensures noted { Noted notes.old notes.new (protocol_asked number (packet frame.now)).looks }
 {
-    if !is_type(IP, frame, notes)? {
+    if !is_type(ETHERTYPE_IP, frame, notes)? {
         return Ok(false);
     }
-    Ok(frame.byte(23, notes)? == number)
+    Ok(frame.byte(IP_P, notes)? == number)
 }
 
 /// IPv4 with this protocol number, and no later fragment.
@@ -43,7 +49,7 @@ pub(crate) fn is_first_fragment_of(number: u32, frame: &Frame<'_>, notes: &mut N
     if !is_protocol(number, frame, notes)? {
         return Ok(false);
     }
-    Ok(frame.half(20, notes)? & 0x1fff == 0)
+    Ok(frame.half(IP_OFF, notes)? & IP_OFFMASK == 0)
 }
 
 /// A protocol word.
@@ -52,13 +58,13 @@ fn is_plain(word: Plain, frame: &Frame<'_>, notes: &mut Notes) -> Answer
     ensures noted { Noted notes.old notes.new (plain_asked word (packet frame.now)).looks }
 {
     match word {
-        Plain::Ip => is_type(IP, frame, notes),
-        Plain::Arp => is_type(ARP, frame, notes),
-        Plain::Rarp => is_type(RARP, frame, notes),
-        Plain::Icmp => is_protocol(1, frame, notes),
-        Plain::Tcp => is_protocol(6, frame, notes),
-        Plain::Udp => is_protocol(17, frame, notes),
-        Plain::Sctp => is_protocol(132, frame, notes),
+        Plain::Ip => is_type(ETHERTYPE_IP, frame, notes),
+        Plain::Arp => is_type(ETHERTYPE_ARP, frame, notes),
+        Plain::Rarp => is_type(ETHERTYPE_REVARP, frame, notes),
+        Plain::Icmp => is_protocol(IPPROTO_ICMP, frame, notes),
+        Plain::Tcp => is_protocol(IPPROTO_TCP, frame, notes),
+        Plain::Udp => is_protocol(IPPROTO_UDP, frame, notes),
+        Plain::Sctp => is_protocol(IPPROTO_SCTP, frame, notes),
     }
 }
 
@@ -77,7 +83,7 @@ impl Side {
     /// Whether the packet has it at an offset.
     #[inline(always)]
     fn is_at(self, offset: usize, frame: &Frame<'_>, notes: &mut Notes) -> Answer
-        requires { offset ≤ 38 }
+        requires { offset ≤ ARP_TPA }
         ensures answer { result ≡ (side_asked self offset (packet frame.now)).answer }
         ensures noted { Noted notes.old notes.new (side_asked self offset (packet frame.now)).looks }
     {
@@ -89,8 +95,8 @@ impl Side {
                 Ok(frame.six(offset, notes)? == number)
             }
             Side::Port { low, high } => {
-                let header = 4 * (frame.byte(14, notes)? & 15) as usize;
-                let port = frame.half(14 + header + offset, notes)?;
+                let header = 4 * (frame.byte(ETHER_HDR_LEN, notes)? & 15) as usize;
+                let port = frame.half(ETHER_HDR_LEN + header + offset, notes)?;
                 Ok(low <= port && port <= high)
             }
         }
@@ -105,8 +111,8 @@ impl Side {
         frame: &Frame<'_>,
         notes: &mut Notes,
     ) -> Answer
-        requires source { offsets.0 ≤ 38 }
-        requires destination { offsets.1 ≤ 38 }
+        requires source { offsets.0 ≤ ARP_TPA }
+        requires destination { offsets.1 ≤ ARP_TPA }
         ensures answer { result ≡ (directed_asked direction (side_asked self) offsets.0 offsets.1 (packet frame.now)).answer }
         ensures noted { Noted notes.old notes.new (directed_asked direction (side_asked self) offsets.0 offsets.1 (packet frame.now)).looks }
     {
@@ -142,9 +148,9 @@ fn is_in_net(
     ensures noted { Noted notes.old notes.new (net_asked network direction (side_asked side) (packet frame.now)).looks }
 {
     let (number, offsets) = match network {
-        Network::Ip => (IP, (26, 30)),
-        Network::Arp => (ARP, (28, 38)),
-        Network::Rarp => (RARP, (28, 38)),
+        Network::Ip => (ETHERTYPE_IP, (IP_SRC, IP_DST)),
+        Network::Arp => (ETHERTYPE_ARP, (ARP_SPA, ARP_TPA)),
+        Network::Rarp => (ETHERTYPE_REVARP, (ARP_SPA, ARP_TPA)),
     };
     if !is_type(number, frame, notes)? {
         return Ok(false);
@@ -189,7 +195,7 @@ fn has_ports(
     if !is_first_fragment_of(number, frame, notes)? {
         return Ok(false);
     }
-    side.is_of(direction, (0, 2), frame, notes)
+    side.is_of(direction, (SRC_PORT, DST_PORT), frame, notes)
 }
 
 /// A port of a protocol; without one that of TCP, or else of UDP, or else of SCTP.
@@ -206,13 +212,13 @@ fn has_any_ports(
     if let Some(transport) = transport {
         return has_ports(protocol_number(transport), direction, side, frame, notes);
     }
-    if has_ports(6, direction, side, frame, notes)? {
+    if has_ports(IPPROTO_TCP, direction, side, frame, notes)? {
         return Ok(true);
     }
-    if has_ports(17, direction, side, frame, notes)? {
+    if has_ports(IPPROTO_UDP, direction, side, frame, notes)? {
         return Ok(true);
     }
-    has_ports(132, direction, side, frame, notes)
+    has_ports(IPPROTO_SCTP, direction, side, frame, notes)
 }
 
 /// The destination of IPv4 is from 224.0.0.0 on.
@@ -220,10 +226,10 @@ fn is_ip_multicast(frame: &Frame<'_>, notes: &mut Notes) -> Answer
     ensures answer { result ≡ (primitive_asked IpMulticast (packet frame.now)).answer }
     ensures noted { Noted notes.old notes.new (primitive_asked IpMulticast (packet frame.now)).looks }
 {
-    if !is_type(IP, frame, notes)? {
+    if !is_type(ETHERTYPE_IP, frame, notes)? {
         return Ok(false);
     }
-    Ok(224 <= frame.byte(30, notes)?)
+    Ok(224 <= frame.byte(IP_DST, notes)?)
 }
 
 /// A primitive.
@@ -246,7 +252,7 @@ pub(crate) fn primitive(primitive: Primitive, frame: &Frame<'_>, notes: &mut Not
             notes,
         ),
         Primitive::EtherHost { direction, address } => {
-            Side::Ether(address).is_of(direction, (6, 0), frame, notes)
+            Side::Ether(address).is_of(direction, (ETHER_SRC, ETHER_DST), frame, notes)
         }
         Primitive::Ports {
             transport,
@@ -259,8 +265,8 @@ pub(crate) fn primitive(primitive: Primitive, frame: &Frame<'_>, notes: &mut Not
         }
         Primitive::IpProto(number) => is_protocol(u32::from(number), frame, notes),
         Primitive::EtherProto(number) => is_type(u32::from(number), frame, notes),
-        Primitive::EtherBroadcast => Side::Ether(BROADCAST).is_at(0, frame, notes),
-        Primitive::EtherMulticast => Ok(frame.byte(0, notes)? & 1 != 0),
+        Primitive::EtherBroadcast => Side::Ether(BROADCAST).is_at(ETHER_DST, frame, notes),
+        Primitive::EtherMulticast => Ok(frame.byte(ETHER_DST, notes)? & 1 != 0),
         Primitive::IpMulticast => is_ip_multicast(frame, notes),
         Primitive::Less(bytes) => Ok(frame.length(notes) <= bytes),
         Primitive::Greater(bytes) => Ok(bytes <= frame.length(notes)),

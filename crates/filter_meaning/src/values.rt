@@ -9,8 +9,11 @@ ghost use Rattle.filter_meaning.specs.Notes.{Noted};
 use crate::arithmetic::calculate;
 use crate::cause::AbortCause;
 use crate::frame::{Frame, Notes};
-use crate::headers::{ARP, IP, RARP};
 use crate::primitives::{Answer, is_first_fragment_of, is_type};
+use filter_tree::headers::{
+    ETHER_HDR_LEN, ETHERTYPE_ARP, ETHERTYPE_IP, ETHERTYPE_REVARP, IPPROTO_ICMP, IPPROTO_TCP,
+    IPPROTO_UDP,
+};
 use filter_tree::{Comparison, Layer, Operator, Size, Value};
 
 /// So many bytes at an offset.
@@ -42,9 +45,9 @@ fn behind_header(
     ensures number { result ≡ (behind_header_found (bytes_of size) index (packet frame.now)).number }
     ensures noted { Noted notes.old notes.new (behind_header_found (bytes_of size) index (packet frame.now)).looks }
 {
-    let first = frame.byte(14, notes)?;
+    let first = frame.byte(ETHER_HDR_LEN, notes)?;
     let behind = index.wrapping_add(4 * (first & 15));
-    bytes_at(14 + behind as usize, size, frame, notes)
+    bytes_at(ETHER_HDR_LEN + behind as usize, size, frame, notes)
 }
 
 /// The bytes that an accessor reads.
@@ -60,9 +63,9 @@ fn access(
 {
     match layer {
         Layer::Ether => bytes_at(index as usize, size, frame, notes),
-        Layer::Ip => bytes_at(14 + index as usize, size, frame, notes),
-        Layer::Arp => bytes_at(14 + index as usize, size, frame, notes),
-        Layer::Rarp => bytes_at(14 + index as usize, size, frame, notes),
+        Layer::Ip => bytes_at(ETHER_HDR_LEN + index as usize, size, frame, notes),
+        Layer::Arp => bytes_at(ETHER_HDR_LEN + index as usize, size, frame, notes),
+        Layer::Rarp => bytes_at(ETHER_HDR_LEN + index as usize, size, frame, notes),
         Layer::Tcp => behind_header(index, size, frame, notes),
         Layer::Udp => behind_header(index, size, frame, notes),
         Layer::Icmp => behind_header(index, size, frame, notes),
@@ -119,12 +122,12 @@ fn is_in_layer(layer: Layer, frame: &Frame<'_>, notes: &mut Notes) -> Answer
 {
     match layer {
         Layer::Ether => Ok(true),
-        Layer::Ip => is_type(IP, frame, notes),
-        Layer::Arp => is_type(ARP, frame, notes),
-        Layer::Rarp => is_type(RARP, frame, notes),
-        Layer::Tcp => is_first_fragment_of(6, frame, notes),
-        Layer::Udp => is_first_fragment_of(17, frame, notes),
-        Layer::Icmp => is_first_fragment_of(1, frame, notes),
+        Layer::Ip => is_type(ETHERTYPE_IP, frame, notes),
+        Layer::Arp => is_type(ETHERTYPE_ARP, frame, notes),
+        Layer::Rarp => is_type(ETHERTYPE_REVARP, frame, notes),
+        Layer::Tcp => is_first_fragment_of(IPPROTO_TCP, frame, notes),
+        Layer::Udp => is_first_fragment_of(IPPROTO_UDP, frame, notes),
+        Layer::Icmp => is_first_fragment_of(IPPROTO_ICMP, frame, notes),
     }
 }
 

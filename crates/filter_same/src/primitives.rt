@@ -8,7 +8,12 @@ ghost use Rattle.filter_same.specs.Packets.{Means, Extends};
 use crate::builder::{Builder, Refusal};
 use crate::fields::{AT_LEAST, AT_MOST, Bytes, GREATER};
 use filter_bdd::Stop;
-use filter_meaning::{ARP, IP, RARP, protocol_number};
+use filter_meaning::protocol_number;
+use filter_tree::headers::{
+    ARP_SPA, ARP_TPA, ETHER_DST, ETHER_SRC, ETHER_TYPE, ETHERTYPE_ARP, ETHERTYPE_IP,
+    ETHERTYPE_REVARP, IP_DST, IP_OFF, IP_OFFMASK, IP_P, IP_SRC, IPPROTO_ICMP, IPPROTO_SCTP,
+    IPPROTO_TCP, IPPROTO_UDP,
+};
 use filter_tree::{Direction, EthernetAddress, Network, Plain, Primitive, Transport};
 
 /// The addresses of a net, and which side of a packet they are wanted on.
@@ -43,7 +48,7 @@ impl Builder {
         ensures means { IfOk result (Means self.new (is_type number)) }
         ensures extends { Extends self.old self.new }
     {
-        self.equals(12, 2, u64::from(number))
+        self.equals(ETHER_TYPE as u32, 2, u64::from(number))
     }
 
     /// IPv4 with this protocol number.
@@ -53,8 +58,8 @@ impl Builder {
         ensures means { IfOk result (Means self.new (is_protocol number)) }
         ensures extends { Extends self.old self.new }
     {
-        let ip = self.is_type(IP)?;
-        let protocol = self.equals(23, 1, u64::from(number))?;
+        let ip = self.is_type(ETHERTYPE_IP)?;
+        let protocol = self.equals(IP_P as u32, 1, u64::from(number))?;
         self.both(ip, protocol)
     }
 
@@ -67,9 +72,9 @@ impl Builder {
     {
         let protocol = self.is_protocol(number)?;
         let offset = Bytes {
-            offset: 20,
+            offset: IP_OFF as u32,
             size: 2,
-            mask: 0x1fff,
+            mask: u64::from(IP_OFFMASK),
         };
         let first = self.masked(offset, 0)?;
         self.both(protocol, first)
@@ -81,13 +86,13 @@ impl Builder {
         ensures extends { Extends self.old self.new }
     {
         match word {
-            Plain::Ip => self.is_type(IP),
-            Plain::Arp => self.is_type(ARP),
-            Plain::Rarp => self.is_type(RARP),
-            Plain::Icmp => self.is_protocol(1),
-            Plain::Tcp => self.is_protocol(6),
-            Plain::Udp => self.is_protocol(17),
-            Plain::Sctp => self.is_protocol(132),
+            Plain::Ip => self.is_type(ETHERTYPE_IP),
+            Plain::Arp => self.is_type(ETHERTYPE_ARP),
+            Plain::Rarp => self.is_type(ETHERTYPE_REVARP),
+            Plain::Icmp => self.is_protocol(IPPROTO_ICMP),
+            Plain::Tcp => self.is_protocol(IPPROTO_TCP),
+            Plain::Udp => self.is_protocol(IPPROTO_UDP),
+            Plain::Sctp => self.is_protocol(IPPROTO_SCTP),
         }
     }
 
@@ -126,9 +131,13 @@ impl Builder {
         ensures extends { Extends self.old self.new }
     {
         match network {
-            Network::Ip => self.in_net_at(IP, (26, 30), net),
-            Network::Arp => self.in_net_at(ARP, (28, 38), net),
-            Network::Rarp => self.in_net_at(RARP, (28, 38), net),
+            Network::Ip => self.in_net_at(ETHERTYPE_IP, (IP_SRC as u32, IP_DST as u32), net),
+            Network::Arp => self.in_net_at(ETHERTYPE_ARP, (ARP_SPA as u32, ARP_TPA as u32), net),
+            Network::Rarp => self.in_net_at(
+                ETHERTYPE_REVARP,
+                (ARP_SPA as u32, ARP_TPA as u32),
+                net,
+            ),
         }
     }
 
@@ -188,9 +197,9 @@ impl Builder {
         ensures means { IfOk result (Means self.new (has_any_ports None ports.direction ports.low ports.high)) }
         ensures extends { Extends self.old self.new }
     {
-        let tcp = self.has_ports(header, 6, ports)?;
-        let udp = self.has_ports(header, 17, ports)?;
-        let sctp = self.has_ports(header, 132, ports)?;
+        let tcp = self.has_ports(header, IPPROTO_TCP, ports)?;
+        let udp = self.has_ports(header, IPPROTO_UDP, ports)?;
+        let sctp = self.has_ports(header, IPPROTO_SCTP, ports)?;
         let first = self.either(tcp, udp)?;
         self.either(first, sctp)
     }
@@ -217,8 +226,8 @@ impl Builder {
         ensures extends { Extends self.old self.new }
     {
         let number = number_of_address(address);
-        let source = self.equals(6, 6, number)?;
-        let destination = self.equals(0, 6, number)?;
+        let source = self.equals(ETHER_SRC as u32, 6, number)?;
+        let destination = self.equals(ETHER_DST as u32, 6, number)?;
         self.directed(direction, source, destination)
     }
 
@@ -228,9 +237,9 @@ impl Builder {
         ensures means { IfOk result (Means self.new (primitive_test IpMulticast)) }
         ensures extends { Extends self.old self.new }
     {
-        let ip = self.is_type(IP)?;
+        let ip = self.is_type(ETHERTYPE_IP)?;
         let bytes = Bytes {
-            offset: 30,
+            offset: IP_DST as u32,
             size: 1,
             mask: u64::MAX,
         };
@@ -309,7 +318,7 @@ impl Builder {
             }
             Primitive::IpProto(number) => Ok(self.is_protocol(u32::from(number))?),
             Primitive::EtherProto(number) => Ok(self.is_type(u32::from(number))?),
-            Primitive::EtherBroadcast => Ok(self.equals(0, 6, 0xffff_ffff_ffff)?),
+            Primitive::EtherBroadcast => Ok(self.equals(ETHER_DST as u32, 6, 0xffff_ffff_ffff)?),
             Primitive::EtherMulticast => Ok(self.is_ether_multicast()?),
             Primitive::IpMulticast => Ok(self.is_ip_multicast()?),
             Primitive::Less(number) => Ok(self.is_at_most(number)?),

@@ -12,7 +12,9 @@ use crate::builder::{Builder, Refusal};
 use crate::fields::{AT_LEAST, AT_MOST, Bytes, EQUAL, GREATER};
 use crate::terms::{LAST_INDEX, Load, Term, term_of};
 use filter_bdd::{Answer, ByOrder, Stop};
-use filter_meaning::{ARP, IP, RARP};
+use filter_tree::headers::{
+    ETHERTYPE_ARP, ETHERTYPE_IP, ETHERTYPE_REVARP, IPPROTO_ICMP, IPPROTO_TCP, IPPROTO_UDP,
+};
 use filter_tree::{Comparison, Layer, Size, Value};
 
 /// The same, of the two numbers in the other order.
@@ -114,12 +116,12 @@ impl Builder {
     {
         match layer {
             Layer::Ether => self.leaf(Answer::Final(0, true)),
-            Layer::Ip => self.is_type(IP),
-            Layer::Arp => self.is_type(ARP),
-            Layer::Rarp => self.is_type(RARP),
-            Layer::Tcp => self.is_first_fragment_of(6),
-            Layer::Udp => self.is_first_fragment_of(17),
-            Layer::Icmp => self.is_first_fragment_of(1),
+            Layer::Ip => self.is_type(ETHERTYPE_IP),
+            Layer::Arp => self.is_type(ETHERTYPE_ARP),
+            Layer::Rarp => self.is_type(ETHERTYPE_REVARP),
+            Layer::Tcp => self.is_first_fragment_of(IPPROTO_TCP),
+            Layer::Udp => self.is_first_fragment_of(IPPROTO_UDP),
+            Layer::Icmp => self.is_first_fragment_of(IPPROTO_ICMP),
         }
     }
 

@@ -4,6 +4,7 @@
 //! is read is no concern of this crate.
 #![tactic(auto)]
 
+pub mod headers;
 mod tree;
 
 pub use tree::{

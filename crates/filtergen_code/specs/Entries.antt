@@ -1,6 +1,7 @@
 -- What code does whose targets depend on what is known of the packet. Only private clauses use this.
 use Rattle.std.specs.Prelude.{◌≡◌, ◌≢◌, ◌⊎◌, ℕ, ◌+◌, ◌≤◌, Bool, true, false, List, length, Option, Some, None, Result}
 use Rattle.bpfvm.specs.declared.insn.Insn.{Insn}
+use Rattle.filter_tree.specs.declared.headers.TheConstants.{ETHERTYPE_IP}
 use Rattle.filter_tree.specs.declared.tree.Transport.{Transport}
 use Rattle.filtergen_code.specs.declared.entries.Entry.{Entry}
 use Rattle.filtergen_code.specs.declared.entries.Targets.{Targets}
@@ -29,8 +30,8 @@ pub record Suits (code : List Insn) (place : ℕ) (p : Packet) (n : ℕ) (is_kno
 -- the run from each place of the entry has this answer, on the packets that the place is for
 pub record Serves (code : List Insn) (entry : Entry) (p : Packet) (n : ℕ) : Type 0 where
   pub any : Answers code entry.any p n
-  pub ip : Suits code entry.ip p n (is_type 0x0800 p ≡ Yes)
-  pub other : Suits code entry.other p n (is_type 0x0800 p ≡ No)
+  pub ip : Suits code entry.ip p n (is_type ETHERTYPE_IP p ≡ Yes)
+  pub other : Suits code entry.other p n (is_type ETHERTYPE_IP p ≡ No)
   pub first_fragment : Suits code entry.first_fragment p n (is_first_fragment entry.transport p ≡ Yes)
 
 -- all its places are places of the code
@@ -107,7 +108,7 @@ IsFor transport place entry = (place ≡ entry.ip) ⊎ ((place ≡ entry.first_f
 pub record GuardsIp (known : PacketFacts) (place : ℕ) (targets : Targets) (entry : Entry) (old new : List Insn) : Type 0 where
   pub guards : (most : ℕ) (test : Test) (before : List Insn) → AreTargets before targets
       → Decides most test (record { yes = targets.yes.ip; no = targets.no.ip }) place before old
-      → DecidesGiven known (most + 4) (and_test (is_type 0x0800) test) targets entry before new
+      → DecidesGiven known (most + 4) (and_test (is_type ETHERTYPE_IP) test) targets entry before new
 
 -- That of a first fragment does.
 pub record GuardsPorts (asked : Option Transport) (place : ℕ) (targets : Targets) (entry : Entry) (old new : List Insn) : Type 0 where

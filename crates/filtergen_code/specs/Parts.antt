@@ -2,6 +2,7 @@
 use Rattle.std.specs.Prelude.{◌≡◌, ℕ, ◌==◌, ◌+◌, ◌<◌, Option, Some, None, option_and_then}
 use Rattle.bpfvm.specs.Codes.{Subtract}
 use Rattle.bpfvm.specs.Machine.{calculated}
+use Rattle.filter_tree.specs.declared.headers.TheConstants.{ETHER_HDR_LEN, ETHERTYPE_IP, IP_P, IPPROTO_TCP, IPPROTO_UDP, IPPROTO_SCTP}
 use Rattle.filter_tree.specs.Trees.{Amount, number, wire_length, minus, binary, accessor}
 use Rattle.filter_tree.specs.declared.tree.Operator.{Operator}
 use Rattle.filter_tree.specs.declared.tree.Operator.TheVariants as operators
@@ -37,29 +38,29 @@ side_test (sides.Ethernet offset address) = is_address address.octets offset
 
 -- a port, where the index register has the length of the IPv4 header
 abbrev pub port_after : ℕ → ℕ → ℕ → ℕ → Test
-port_after length low high o p = check (within low high) (half (length + (14 + o)) p)
+port_after length low high o p = check (within low high) (half (length + (ETHER_HDR_LEN + o)) p)
 
 -- the protocol number of TCP or of UDP
 abbrev pub has_tcp_or_udp_number : Test
-has_tcp_or_udp_number = or_test (λ p. check (λ b. b == 6) (byte 23 p)) (λ p. check (λ b. b == 17) (byte 23 p))
+has_tcp_or_udp_number = or_test (λ p. check (λ b. b == IPPROTO_TCP) (byte IP_P p)) (λ p. check (λ b. b == IPPROTO_UDP) (byte IP_P p))
 
 -- one of the protocol numbers of IPv4 that have ports
 abbrev pub has_port_number : Test
-has_port_number = or_test has_tcp_or_udp_number (λ p. check (λ b. b == 132) (byte 23 p))
+has_port_number = or_test has_tcp_or_udp_number (λ p. check (λ b. b == IPPROTO_SCTP) (byte IP_P p))
 
 -- the protocol number of a transport protocol, or of any
 abbrev pub number_of : Option Transport → Test
 number_of None = has_port_number
-number_of (Some transport) = (λ p. check (λ b. b == protocol_number transport) (byte 23 p))
+number_of (Some transport) = (λ p. check (λ b. b == protocol_number transport) (byte IP_P p))
 
 -- a test of a first fragment of a protocol, or of any: the tcp, then the udp, then the sctp form
 abbrev pub of_transport : Option Transport → Test → Test
-of_transport None t = or_test (or_test (and_test (is_first_fragment_of 6) t) (and_test (is_first_fragment_of 17) t)) (and_test (is_first_fragment_of 132) t)
+of_transport None t = or_test (or_test (and_test (is_first_fragment_of IPPROTO_TCP) t) (and_test (is_first_fragment_of IPPROTO_UDP) t)) (and_test (is_first_fragment_of IPPROTO_SCTP) t)
 of_transport (Some transport) t = and_test (is_first_fragment_of (protocol_number transport)) t
 
 -- IPv4 with one of them, and no later fragment
 abbrev pub is_any_first : Test
-is_any_first = and_test (and_test (is_type 0x0800) has_port_number) is_unfragmented
+is_any_first = and_test (and_test (is_type ETHERTYPE_IP) has_port_number) is_unfragmented
 
 abbrev pub plain_cost : Plain → ℕ
 plain_cost words.Ip = 4
@@ -131,7 +132,7 @@ read_from bases.Transport = behind_header
 -- how far a base can be from the start of the frame
 abbrev pub farthest : Base → ℕ
 farthest bases.Frame = 0
-farthest bases.Network = 14
+farthest bases.Network = ETHER_HDR_LEN
 farthest bases.Transport = 74
 
 -- how many instructions compute a value, and how many test its layers, at most

@@ -1,5 +1,6 @@
 -- What a test needs of a packet of which passed tests have shown something. Only private clauses use this.
 use Rattle.std.specs.Prelude.{ℕ, ◌==◌, Bool, if◌then◌else◌, bit_and}
+use Rattle.filter_tree.specs.declared.headers.TheConstants.{ETHERTYPE_IP, IP_OFF, IP_P, IP_OFFMASK}
 use Rattle.filter_tree.specs.Trees.{Amount}
 use Rattle.filter_tree.specs.Trees as trees
 use Rattle.filter_tree.specs.declared.tree.Comparison.{Comparison}
@@ -11,7 +12,7 @@ use Rattle.filtergen_facts.specs.Facts.{has_type, has_protocol, has_first_fragme
 
 -- no later fragment of IPv4
 abbrev pub is_unfragmented : Test
-is_unfragmented p = check (λ b. bit_and b 0x1fff == 0) (half 20 p)
+is_unfragmented p = check (λ b. bit_and b IP_OFFMASK == 0) (half IP_OFF p)
 
 abbrev pub always : Test
 always p = Yes
@@ -31,7 +32,7 @@ abbrev pub rest_of_type : PacketFacts → ℕ → Test
 rest_of_type k n = unless_known (has_type k n) (is_type n)
 
 abbrev pub rest_of_protocol : PacketFacts → ℕ → Test
-rest_of_protocol k n = unless_known (has_protocol k n) (and_test (rest_of_type k 0x0800) (λ p. check (λ b. b == n) (byte 23 p)))
+rest_of_protocol k n = unless_known (has_protocol k n) (and_test (rest_of_type k ETHERTYPE_IP) (λ p. check (λ b. b == n) (byte IP_P p)))
 
 abbrev pub rest_of_first_fragment : PacketFacts → ℕ → Test
 rest_of_first_fragment k n = unless_known (has_first_fragment k n) (and_test (rest_of_protocol k n) is_unfragmented)

@@ -4,7 +4,11 @@ ghost use Rattle.std.specs.Prelude.{◌≡◌};
 ghost use Rattle.filtergen_code.specs.Insns.{plain_insn, branch_code, constant_of, branch_insn, load_insn, calculation_code, absolute_code, indirect_code};
 
 use bpfvm::{Insn, code};
+use filter_tree::headers::{ETHER_HDR_LEN, ETHER_TYPE, IP_OFF, IP_P};
 use filter_tree::{Operator, Size};
+
+/// Where what comes after the Ethernet header begins, as a constant of an instruction.
+pub(crate) const NETWORK: u32 = ETHER_HDR_LEN as u32;
 
 /// What a jump tests of the accumulator and its operand.
 #[derive(Clone, Copy)]
@@ -31,6 +35,16 @@ pub(crate) enum Field {
     Word(u32),
     /// The length on the wire.
     Length,
+}
+
+impl Field {
+    pub const ETHER_TYPE: Field = Field::Half(ETHER_TYPE as u32);
+
+    /// The flags and the fragment offset.
+    pub const IP_OFF: Field = Field::Half(IP_OFF as u32);
+
+    /// The protocol number.
+    pub const IP_P: Field = Field::Byte(IP_P as u32);
 }
 
 /// An instruction that does not branch.

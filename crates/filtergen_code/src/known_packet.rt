@@ -8,7 +8,7 @@ ghost use Rattle.filter_tree.specs.declared.tree.Network.TheVariants as networks
 ghost use Rattle.filter_tree.specs.Trees.{amount_of};
 ghost use Rattle.filtergen_facts.specs.Weights.{value_weight, value_need};
 ghost use Rattle.filter_meaning.specs.Meaning.{is_protocol, plain_test, in_any_net, has_any_ports, protocol_number, primitive_test, relation_test};
-ghost use Rattle.filter_meaning.specs.declared.headers.TheConstants.{IP};
+ghost use Rattle.filter_tree.specs.declared.headers.TheConstants.{ETHERTYPE_IP};
 ghost use Rattle.filtergen_facts.specs.Facts.{has_type, has_protocol, begins_with_ip};
 ghost use Rattle.filtergen_code.specs.Parts.{plain_cost, cost, relation_cost};
 ghost use Rattle.filtergen_code.specs.Emission.{CanEmit};
@@ -17,9 +17,10 @@ ghost use Rattle.filtergen_code.specs.Entries.{AreTargets, DecidesGiven, EmitsGi
 use crate::code::{Code, Exits, Full};
 use crate::entries::{Context, Entry};
 use crate::primitives::{IP_ADDRESSES, NetTest, PortTest};
-use filter_meaning::{IP, protocol_number};
+use filter_meaning::protocol_number;
+use filter_tree::headers::{ETHERTYPE_IP, IPPROTO_ICMP, IPPROTO_SCTP, IPPROTO_TCP, IPPROTO_UDP};
 use filter_tree::{Comparison, Network, Plain, Primitive, Transport, Value};
-use filtergen_facts::{ICMP, PacketFacts, SCTP, TCP, UDP};
+use filtergen_facts::PacketFacts;
 
 /// Whether a host or a net of this protocol, or of any protocol, can be one of IPv4.
 fn may_be_ip(network: Option<Network>) -> bool
@@ -38,7 +39,7 @@ impl Code {
         requires { CanEmit 4 (record { yes = next; no = context.targets.no.other }) self.old }
         ensures { GuardsIp context.known next context.targets result self.old self.new }
     {
-        if context.known.has_type(IP) {
+        if context.known.has_type(ETHERTYPE_IP) {
             return Entry::at(next);
         }
         self.emit_ip_guard(next, context.targets.no.other)
@@ -89,7 +90,7 @@ impl Code {
 
     /// Emits the test for a host or a net of a packet that is known to be IPv4.
     fn emit_net_given(&mut self, network: Option<Network>, net: NetTest, context: Context) -> Entry
-        requires known { has_type context.known IP ≡ true }
+        requires known { has_type context.known ETHERTYPE_IP ≡ true }
         requires network { (network ≡ None) ⊎ (network ≡ Some networks.Ip) }
         requires ready { CanEmitBy 10 context.targets self.old }
         ensures { DecidesGiven context.known 10 (in_any_net network net.direction net.address net.mask) context.targets result
@@ -107,7 +108,7 @@ impl Code {
         if context.known.has_protocol(number) {
             return context.targets.yes;
         }
-        if context.known.has_type(IP) {
+        if context.known.has_type(ETHERTYPE_IP) {
             let exits = context.targets.ip_exits();
             return Entry::at(self.emit_protocol_number(number, exits));
         }
@@ -119,10 +120,10 @@ impl Code {
         ensures { DecidesGiven context.known (plain_cost word) (plain_test word) context.targets result self.old self.new }
     {
         match word {
-            Plain::Icmp => self.emit_ip_protocol_given(ICMP, context),
-            Plain::Tcp => self.emit_ip_protocol_given(TCP, context),
-            Plain::Udp => self.emit_ip_protocol_given(UDP, context),
-            Plain::Sctp => self.emit_ip_protocol_given(SCTP, context),
+            Plain::Icmp => self.emit_ip_protocol_given(IPPROTO_ICMP, context),
+            Plain::Tcp => self.emit_ip_protocol_given(IPPROTO_TCP, context),
+            Plain::Udp => self.emit_ip_protocol_given(IPPROTO_UDP, context),
+            Plain::Sctp => self.emit_ip_protocol_given(IPPROTO_SCTP, context),
             _ => self.emit_protocol_word(word, context.targets),
         }
     }
@@ -163,7 +164,7 @@ impl Code {
         ensures { EmitsGiven context.known (relation_cost (amount_of left.now) (amount_of right.now) + 4)
             (relation_test comparison (amount_of left.now) (amount_of right.now)) context.targets self.old self.new result }
     {
-        let of_ip = context.known.with_fact(PacketFacts::Type(IP));
+        let of_ip = context.known.with_fact(PacketFacts::Type(ETHERTYPE_IP));
         let exits = context.targets.ip_exits();
         let next = self.emit_relation(of_ip, comparison, left, right, exits)?;
         self.room(4)?;
@@ -195,7 +196,7 @@ impl Code {
                 address,
                 mask,
             } => {
-                if context.known.has_type(IP) && may_be_ip(network) {
+                if context.known.has_type(ETHERTYPE_IP) && may_be_ip(network) {
                     let net = NetTest {
                         direction,
                         address,

@@ -3,8 +3,8 @@
 ghost use Rattle.std.specs.Prelude.{◌≡◌, ◌≢◌, ◌+◌, ◌≤◌, ◌==◌, true, if◌then◌else◌, None, length};
 ghost use Rattle.filtergen_trim.specs.declared.unreached.TheConstants.{MAX_CODE};
 ghost use Rattle.filter_tree.specs.declared.tree.Primitive.TheVariants.{IpMulticast, Less};
-ghost use Rattle.filter_meaning.specs.declared.headers.TheConstants.{IP};
-ghost use Rattle.filtergen_facts.specs.declared.packet_facts.TheConstants.{TCP, UDP};
+ghost use Rattle.filter_tree.specs.declared.headers.TheConstants.{ETHER_DST, ETHER_SRC, ETHERTYPE_IP, IP_P, IPPROTO_TCP, IPPROTO_UDP};
+ghost use Rattle.filtergen_code.specs.declared.insns.TheConstants.{NETWORK};
 ghost use Rattle.filtergen_code.specs.declared.primitives.TheConstants.{ARP_ADDRESSES};
 ghost use Rattle.filter_meaning.specs.Meaning.{check, byte, and_test, is_type, is_protocol, plain_test, by_direction, has_address, in_net, in_any_net, is_address, within, has_port, has_any_ports, protocol_number, primitive_test};
 ghost use Rattle.filtergen_code.specs.Insns.{plain_insn};
@@ -15,17 +15,20 @@ ghost use Rattle.filtergen_code.specs.Remaining.{is_unfragmented};
 
 use crate::code::{Code, Exits};
 use crate::entries::{Entry, Targets};
-use crate::insns::{Field, Jump, Operand, load_insn, plain_insn};
+use crate::insns::{Field, Jump, NETWORK, Operand, load_insn, plain_insn};
 use bpfvm::code;
-use filter_meaning::{ARP, BROADCAST, IP, RARP, protocol_number};
+use filter_meaning::{BROADCAST, protocol_number};
+use filter_tree::headers::{
+    ARP_SPA, ARP_TPA, ETHER_DST, ETHER_SRC, ETHERTYPE_ARP, ETHERTYPE_IP, ETHERTYPE_REVARP, IP_DST,
+    IP_OFFMASK, IP_SRC, IPPROTO_ICMP, IPPROTO_SCTP, IPPROTO_TCP, IPPROTO_UDP,
+};
 use filter_tree::{Direction, EthernetAddress, Network, Plain, Primitive, Transport};
-use filtergen_facts::{ICMP, SCTP, TCP, UDP};
 
 /// Offsets in the frame of the source and the destination address of IPv4.
-pub(crate) const IP_ADDRESSES: (u32, u32) = (26, 30);
+pub(crate) const IP_ADDRESSES: (u32, u32) = (IP_SRC as u32, IP_DST as u32);
 
 /// Offsets in the frame of the sender's and the target's address of ARP and RARP.
-pub(crate) const ARP_ADDRESSES: (u32, u32) = (28, 38);
+pub(crate) const ARP_ADDRESSES: (u32, u32) = (ARP_SPA as u32, ARP_TPA as u32);
 
 /// A test of the source or the destination, at an offset in the frame.
 #[derive(Clone, Copy)]
@@ -97,20 +100,20 @@ impl Code {
         requires { CanEmit 4 exits self.old }
         ensures { Decides 4 (is_type number) exits result self.old self.new }
     {
-        self.emit_test(Field::Half(12), Jump::Equal, number, exits)
+        self.emit_test(Field::ETHER_TYPE, Jump::Equal, number, exits)
     }
 
     pub fn emit_protocol_number(&mut self, number: u32, exits: Exits) -> usize
         requires { CanEmit 4 exits self.old }
-        ensures { Decides 4 (λ p. check (λ b. b == number) (byte 23 p)) exits result self.old self.new }
+        ensures { Decides 4 (λ p. check (λ b. b == number) (byte IP_P p)) exits result self.old self.new }
     {
-        self.emit_test(Field::Byte(23), Jump::Equal, number, exits)
+        self.emit_test(Field::IP_P, Jump::Equal, number, exits)
     }
 
     /// Emits the test for IPv4 in front of a test for IPv4 packets. A packet of another type goes to the other place.
     pub fn emit_ip_guard(&mut self, next: usize, other: usize) -> Entry
         requires { CanEmit 4 (record { yes = next; no = other }) self.old }
-        ensures test { Decides 4 (is_type IP) (record { yes = next; no = other }) result.any self.old self.new }
+        ensures test { Decides 4 (is_type ETHERTYPE_IP) (record { yes = next; no = other }) result.any self.old self.new }
         ensures places { result ≡
             record { any = result.any; ip = next; other = other; first_fragment = next; transport = None } }
     {
@@ -120,18 +123,18 @@ impl Code {
     /// Emits the test for IPv4. A packet of IPv4 goes on at the given entry, a packet of another type at the other place.
     pub fn emit_ip_split(&mut self, ip: Entry, other: usize) -> Entry
         requires { CanEmit 4 (record { yes = ip.ip; no = other }) self.old }
-        ensures test { Decides 4 (is_type IP) (record { yes = ip.ip; no = other }) result.any self.old self.new }
+        ensures test { Decides 4 (is_type ETHERTYPE_IP) (record { yes = ip.ip; no = other }) result.any self.old self.new }
         ensures places { result ≡
             record { any = result.any; ip = ip.ip; other = other; first_fragment = ip.first_fragment; transport = ip.transport } }
     {
         let (yes, no) = (ip.ip, other);
-        let any = self.emit_ether_type(IP, Exits { yes, no });
+        let any = self.emit_ether_type(ETHERTYPE_IP, Exits { yes, no });
         Entry { any, other, ..ip }
     }
 
     /// Emits the test of an Ethernet type other than IPv4. If the targets differ for IPv4, that type is tested first.
     fn emit_non_ip_type(&mut self, number: u32, targets: Targets) -> Entry
-        requires number { number ≢ IP }
+        requires number { number ≢ ETHERTYPE_IP }
         requires ready { CanEmitBy 8 targets self.old }
         ensures { DecidesBy 8 (is_type number) targets result self.old self.new }
     {
@@ -149,7 +152,7 @@ impl Code {
         requires { CanEmitBy 8 targets self.old }
         ensures { DecidesBy 8 (is_type number) targets result self.old self.new }
     {
-        if number == IP {
+        if number == ETHERTYPE_IP {
             self.emit_protocol_word(Plain::Ip, targets)
         } else {
             self.emit_non_ip_type(number, targets)
@@ -170,17 +173,21 @@ impl Code {
         requires { CanEmit 4 exits self.old }
         ensures { Decides 4 is_unfragmented exits result self.old self.new }
     {
-        self.emit_test(Field::Half(20), Jump::AnyBit, 0x1fff, exits.opposite())
+        self.emit_test(Field::IP_OFF, Jump::AnyBit, IP_OFFMASK, exits.opposite())
     }
 
     /// Emits the comparisons of the accumulator with the protocol numbers of TCP and UDP.
     fn emit_tcp_or_udp_branch(&mut self, exits: Exits)
         requires { CanEmit 6 exits self.old }
-        ensures { Chooses 6 (λ r. if r.accumulator == TCP then true else r.accumulator == UDP) exits self.old self.new }
+        ensures { Chooses 6 (λ r. if r.accumulator == IPPROTO_TCP then true else r.accumulator == IPPROTO_UDP) exits self.old self.new }
     {
-        self.emit_branch(Jump::Equal, Operand::Constant(UDP), exits);
+        self.emit_branch(Jump::Equal, Operand::Constant(IPPROTO_UDP), exits);
         let no = self.len();
-        self.emit_branch(Jump::Equal, Operand::Constant(TCP), Exits { no, ..exits });
+        self.emit_branch(
+            Jump::Equal,
+            Operand::Constant(IPPROTO_TCP),
+            Exits { no, ..exits },
+        );
     }
 
     /// Emits the test for the protocol number of TCP or UDP. An exit that begins with the same load is entered after it.
@@ -188,7 +195,7 @@ impl Code {
         requires { CanEmit 7 exits self.old }
         ensures { Decides 7 has_tcp_or_udp_number exits result self.old self.new }
     {
-        let load = load_insn(Field::Byte(23));
+        let load = load_insn(Field::IP_P);
         let exits = self.exits_after(load, exits);
         self.emit_tcp_or_udp_branch(exits);
         self.emit(load);
@@ -200,9 +207,9 @@ impl Code {
         requires { CanEmit 10 exits self.old }
         ensures { Decides 10 has_port_number exits result self.old self.new }
     {
-        let load = load_insn(Field::Byte(23));
+        let load = load_insn(Field::IP_P);
         let exits = self.exits_after(load, exits);
-        self.emit_branch(Jump::Equal, Operand::Constant(SCTP), exits);
+        self.emit_branch(Jump::Equal, Operand::Constant(IPPROTO_SCTP), exits);
         let sctp = self.len();
         self.emit_tcp_or_udp_branch(Exits { no: sctp, ..exits });
         self.emit(load);
@@ -213,11 +220,11 @@ impl Code {
     fn emit_port(&mut self, offset: u32, low: u32, high: u32, exits: Exits) -> usize
         requires offset { offset ≤ 2 }
         requires ready { CanEmit 7 exits self.old }
-        ensures { ChoosesAfter 6 (plain_insn 0x48 (14 + offset)) (λ r. within low high r.accumulator) exits result
+        ensures { ChoosesAfter 6 (plain_insn 0x48 (NETWORK + offset)) (λ r. within low high r.accumulator) exits result
             self.old self.new }
     {
         self.emit_range_branch(low, high, exits);
-        self.emit(plain_insn(code::LD_H_IND, 14 + offset));
+        self.emit(plain_insn(code::LD_H_IND, NETWORK + offset));
         self.len()
     }
 
@@ -251,7 +258,7 @@ impl Code {
         ensures { Decides 15 (by_direction ports.direction (has_port ports.low ports.high 0) (has_port ports.low ports.high 2)) exits
             result self.old self.new }
     {
-        let header = plain_insn(code::LDX_MSH, 14);
+        let header = plain_insn(code::LDX_MSH, NETWORK);
         let exits = self.exits_after(header, exits);
         self.emit_port_sides(ports, exits);
         self.emit(header);
@@ -403,8 +410,8 @@ impl Code {
                 let next = self.emit_addresses(IP_ADDRESSES, net, targets.ip_exits());
                 self.emit_ip_guard(next, targets.no.other)
             }
-            Network::Arp => self.emit_arp_net(ARP, net, targets),
-            Network::Rarp => self.emit_arp_net(RARP, net, targets),
+            Network::Arp => self.emit_arp_net(ETHERTYPE_ARP, net, targets),
+            Network::Rarp => self.emit_arp_net(ETHERTYPE_REVARP, net, targets),
         }
     }
 
@@ -417,13 +424,21 @@ impl Code {
         let exits = targets.other_exits();
         let next = self.emit_addresses(ARP_ADDRESSES, net, exits);
         let arp = Exits { yes: next, ..exits };
-        self.emit_branch(Jump::Equal, Operand::Constant(RARP), arp);
+        self.emit_branch(Jump::Equal, Operand::Constant(ETHERTYPE_REVARP), arp);
         let no = self.len();
-        self.emit_branch(Jump::Equal, Operand::Constant(ARP), Exits { no, ..arp });
+        self.emit_branch(
+            Jump::Equal,
+            Operand::Constant(ETHERTYPE_ARP),
+            Exits { no, ..arp },
+        );
         let no = self.len();
         let yes = self.emit_addresses(IP_ADDRESSES, net, targets.ip_exits());
-        self.emit_branch(Jump::Equal, Operand::Constant(IP), Exits { yes, no });
-        self.emit(load_insn(Field::Half(12)));
+        self.emit_branch(
+            Jump::Equal,
+            Operand::Constant(ETHERTYPE_IP),
+            Exits { yes, no },
+        );
+        self.emit(load_insn(Field::ETHER_TYPE));
         // The place for other types compares the accumulator with them, so a packet known to be of another type enters at the load.
         let mut entry = Entry::at(yes);
         entry.any = self.len();
@@ -438,12 +453,12 @@ impl Code {
     {
         match word {
             Plain::Ip => self.emit_ip_guard(targets.yes.ip, targets.no.other),
-            Plain::Arp => self.emit_non_ip_type(ARP, targets),
-            Plain::Rarp => self.emit_non_ip_type(RARP, targets),
-            Plain::Icmp => self.emit_ip_protocol(ICMP, targets),
-            Plain::Tcp => self.emit_ip_protocol(TCP, targets),
-            Plain::Udp => self.emit_ip_protocol(UDP, targets),
-            Plain::Sctp => self.emit_ip_protocol(SCTP, targets),
+            Plain::Arp => self.emit_non_ip_type(ETHERTYPE_ARP, targets),
+            Plain::Rarp => self.emit_non_ip_type(ETHERTYPE_REVARP, targets),
+            Plain::Icmp => self.emit_ip_protocol(IPPROTO_ICMP, targets),
+            Plain::Tcp => self.emit_ip_protocol(IPPROTO_TCP, targets),
+            Plain::Udp => self.emit_ip_protocol(IPPROTO_UDP, targets),
+            Plain::Sctp => self.emit_ip_protocol(IPPROTO_SCTP, targets),
         }
     }
 
@@ -454,11 +469,11 @@ impl Code {
         exits: Exits,
     ) -> usize
         requires { CanEmit 16 exits self.old }
-        ensures { Decides 16 (by_direction direction (is_address address.octets 6) (is_address address.octets 0)) exits
+        ensures { Decides 16 (by_direction direction (is_address address.octets ETHER_SRC) (is_address address.octets ETHER_DST)) exits
             result self.old self.new }
     {
-        let source = FieldTest::Ethernet(6, address);
-        let destination = FieldTest::Ethernet(0, address);
+        let source = FieldTest::Ethernet(ETHER_SRC as u32, address);
+        let destination = FieldTest::Ethernet(ETHER_DST as u32, address);
         self.emit_sides(direction, source, destination, exits)
     }
 
@@ -468,7 +483,7 @@ impl Code {
         ensures { DecidesBy 8 (primitive_test IpMulticast) targets result self.old self.new }
     {
         let exits = targets.ip_exits();
-        let next = self.emit_test(Field::Byte(30), Jump::GreaterOrEqual, 224, exits);
+        let next = self.emit_test(Field::Byte(IP_DST as u32), Jump::GreaterOrEqual, 224, exits);
         self.emit_ip_guard(next, targets.no.other)
     }
 

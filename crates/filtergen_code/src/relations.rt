@@ -13,7 +13,7 @@ use crate::code::{Code, Exits, Full};
 use crate::constants::constant;
 use crate::insns::{Field, Jump, Operand, load_insn};
 use crate::values::field_of;
-use filter_meaning::IP;
+use filter_tree::headers::ETHERTYPE_IP;
 use filter_tree::{Comparison, Operator, Value};
 use filtergen_facts::PacketFacts;
 
@@ -58,7 +58,7 @@ impl Code {
         }
         let next = self.emit_protocol_number(number, exits);
         let exits = Exits { yes: next, ..exits };
-        self.emit_rest_of_type(known, IP, exits)
+        self.emit_rest_of_type(known, ETHERTYPE_IP, exits)
     }
 
     /// Emits what a test for a first fragment of this protocol needs.

@@ -13,9 +13,10 @@ ghost use Rattle.filtergen_code.specs.ValueLists.{in_ranges, comparisons_cost, l
 ghost use Rattle.filtergen_code.specs.Emission.{AreExits, Extends, Emits, OrFull};
 
 use crate::code::{Code, Exits, Full, REACH};
-use crate::insns::{Field, Jump, load_insn, plain_insn};
+use crate::insns::{Field, Jump, NETWORK, load_insn, plain_insn};
 use crate::values::base_of;
 use bpfvm::code;
+use filter_tree::headers::{ETHER_DST, ETHER_SRC};
 use filtergen_facts::{Group, Sides, ValueRange};
 
 /// The reach of a list's exit for its jumps: the code of one more member fits between.
@@ -284,11 +285,11 @@ impl Code {
         ensures { EmitsGroupLookup ethernet_cost (λ k. ether_host_test (direction_of k.sides) k.head) group.now exits self.old self.new result }
     {
         match group.kind.sides {
-            Sides::Source => self.emit_tail_lookup(6, group, exits),
-            Sides::Destination => self.emit_tail_lookup(0, group, exits),
+            Sides::Source => self.emit_tail_lookup(ETHER_SRC as u32, group, exits),
+            Sides::Destination => self.emit_tail_lookup(ETHER_DST as u32, group, exits),
             Sides::Either => {
-                let next = self.emit_tail_lookup(0, group, exits)?;
-                self.emit_tail_lookup(6, group, Exits { no: next, ..exits })
+                let next = self.emit_tail_lookup(ETHER_DST as u32, group, exits)?;
+                self.emit_tail_lookup(ETHER_SRC as u32, group, Exits { no: next, ..exits })
             }
         }
     }
@@ -299,9 +300,9 @@ impl Code {
         requires exits { AreExits self.old exits }
         ensures { EmitsGroupLookup port_sides_cost (λ k. header_ports_test (direction_of k.sides)) group.now exits self.old self.new result }
     {
-        let header = plain_insn(code::LDX_MSH, 14);
+        let header = plain_insn(code::LDX_MSH, NETWORK);
         let exits = self.exits_after(header, exits);
-        let (source, destination) = (Location::Indirect(14), Location::Indirect(16));
+        let (source, destination) = (Location::Indirect(NETWORK), Location::Indirect(NETWORK + 2));
         self.emit_side_lookups(source, destination, group, exits)?;
         self.room(1)?;
         self.emit(header);

@@ -4,7 +4,7 @@
 
 ghost use Rattle.std.specs.Prelude.{◌≡◌, ◌<◌, ◌≤◌, length};
 ghost use Rattle.filter_meaning.specs.Meaning.{is_type, is_first_fragment_of, protocol_number, in_layer, within};
-ghost use Rattle.filter_meaning.specs.declared.headers.TheConstants.{IP};
+ghost use Rattle.filter_tree.specs.declared.headers.TheConstants.{ETHERTYPE_IP};
 ghost use Rattle.filtergen_facts.specs.Lists.{any_of, direction_of, ip_addresses_test, arp_addresses_test, any_net_test, ip_net_test, arp_net_test, ports_test, tcp_or_udp_ports_test, ip_protocol_test, ether_type_test, ether_host_test, bytes_test, kind_test};
 ghost use Rattle.filtergen_code.specs.ValueLists.{in_ranges, comparisons_cost, net_sides_cost, any_net_cost, one_net_cost, ports_cost, number_cost, ethernet_cost, bytes_cost, list_cost, AreComparisons, EmitsGroup, EmitsGroupGiven};
 ghost use Rattle.filtergen_code.specs.Emission.{AreExits, Extends, Decides, OrFull};
@@ -15,8 +15,9 @@ use crate::entries::{Context, Entry, Targets};
 use crate::insns::{Field, Jump, Operand, load_insn};
 use crate::primitives::{ARP_ADDRESSES, IP_ADDRESSES};
 use crate::value_in_list::{Location, are_two_hosts};
-use filter_meaning::{ARP, IP, RARP, protocol_number};
+use filter_meaning::protocol_number;
 use filter_tree::Transport::{Sctp, Tcp, Udp};
+use filter_tree::headers::{ETHERTYPE_ARP, ETHERTYPE_IP, ETHERTYPE_REVARP};
 use filter_tree::{Layer, Transport};
 use filtergen_facts::{Form, Group, PacketFacts, ValueRange};
 
@@ -47,9 +48,13 @@ impl Code {
         ensures { EmitsGroup number_cost (λ k. ether_type_test) group.now targets self.old self.new result }
     {
         let ranges = group.ranges.as_slice();
-        let other = self.emit_lookup(Location::At(Field::Half(12)), ranges, targets.other_exits())?;
+        let other = self.emit_lookup(
+            Location::At(Field::ETHER_TYPE),
+            ranges,
+            targets.other_exits(),
+        )?;
         self.room(4)?;
-        Ok(self.emit_ip_split(targets.for_answer(has_number(ranges, IP)), other))
+        Ok(self.emit_ip_split(targets.for_answer(has_number(ranges, ETHERTYPE_IP)), other))
     }
 
     fn emit_protocol_list(&mut self, group: &Group, context: Context) -> Result<Entry, Full>
@@ -59,7 +64,7 @@ impl Code {
     {
         let ranges = group.ranges.as_slice();
         let exits = context.targets.ip_exits();
-        let next = self.emit_lookup(Location::At(Field::Byte(23)), ranges, exits)?;
+        let next = self.emit_lookup(Location::At(Field::IP_P), ranges, exits)?;
         self.room(4)?;
         Ok(self.emit_ip_guard_given(next, context))
     }
@@ -148,12 +153,20 @@ impl Code {
         self.room(10)?;
         let exits = targets.other_exits();
         let arp = Exits { yes, ..exits };
-        self.emit_branch(Jump::Equal, Operand::Constant(RARP), arp);
+        self.emit_branch(Jump::Equal, Operand::Constant(ETHERTYPE_REVARP), arp);
         let no = self.len();
-        self.emit_branch(Jump::Equal, Operand::Constant(ARP), Exits { no, ..arp });
+        self.emit_branch(
+            Jump::Equal,
+            Operand::Constant(ETHERTYPE_ARP),
+            Exits { no, ..arp },
+        );
         let (yes, no) = (ip, self.len());
-        self.emit_branch(Jump::Equal, Operand::Constant(IP), Exits { yes, no });
-        self.emit(load_insn(Field::Half(12)));
+        self.emit_branch(
+            Jump::Equal,
+            Operand::Constant(ETHERTYPE_IP),
+            Exits { yes, no },
+        );
+        self.emit(load_insn(Field::ETHER_TYPE));
         let mut entry = Entry::at(ip);
         entry.any = self.len();
         entry.other = entry.any;
@@ -166,7 +179,7 @@ impl Code {
         requires targets { AreTargets self.old context.targets }
         ensures { EmitsGroupGiven any_net_cost (λ k. any_net_test (direction_of k.sides) k.mask) group.now context self.old self.new result }
     {
-        if context.known.has_type(IP) {
+        if context.known.has_type(ETHERTYPE_IP) {
             self.emit_ip_net_list(group, context)
         } else {
             self.emit_any_net_list(group, context.targets)
@@ -250,7 +263,7 @@ impl Code {
     }
 
     fn emit_ip_bytes_list(&mut self, group: &Group, context: Context) -> Result<Entry, Full>
-        requires layer { in_layer group.now.kind.bytes.layer ≡ is_type IP }
+        requires layer { in_layer group.now.kind.bytes.layer ≡ is_type ETHERTYPE_IP }
         requires some { 0 < length group.now.ranges.items }
         requires targets { AreTargets self.old context.targets }
         ensures { EmitsGroupGiven bytes_cost (λ k. bytes_test k.bytes) group.now context self.old self.new result }
@@ -297,8 +310,8 @@ impl Code {
         match group.kind.form {
             Form::Net => self.emit_net_list(group, context),
             Form::IpNet => self.emit_ip_net_list(group, context),
-            Form::ArpNet => self.emit_arp_list(ARP, group, context.targets),
-            Form::RarpNet => self.emit_arp_list(RARP, group, context.targets),
+            Form::ArpNet => self.emit_arp_list(ETHERTYPE_ARP, group, context.targets),
+            Form::RarpNet => self.emit_arp_list(ETHERTYPE_REVARP, group, context.targets),
             Form::Ports => self.emit_port_list(None, group, context),
             Form::TcpPorts => self.emit_port_list(Some(Tcp), group, context),
             Form::UdpPorts => self.emit_port_list(Some(Udp), group, context),

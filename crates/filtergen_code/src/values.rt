@@ -13,7 +13,9 @@ ghost use Rattle.filtergen_code.specs.Emission.{field_of, Loads, Applies, Comput
 
 use crate::code::{Code, Full};
 use crate::constants::constant;
-use crate::insns::{Field, Operand, absolute_code, calculation_code, constant_of, indirect_code};
+use crate::insns::{
+    Field, NETWORK, Operand, absolute_code, calculation_code, constant_of, indirect_code,
+};
 use bpfvm::code;
 use filter_tree::{Layer, Operator, Size, Value};
 
@@ -52,8 +54,8 @@ fn farthest(base: Base) -> u32
 {
     match base {
         Base::Frame => 0,
-        Base::Network => 14,
-        Base::Transport => 14 + 60,
+        Base::Network => NETWORK,
+        Base::Transport => NETWORK + 60,
     }
 }
 
@@ -102,7 +104,7 @@ fn field_at(base: Base, size: Size, index: u32) -> Option<Field>
 {
     let offset = match base {
         Base::Frame => index,
-        Base::Network => 14 + index,
+        Base::Network => NETWORK + index,
         Base::Transport => return None,
     };
     Some(match size {
@@ -180,11 +182,11 @@ impl Code {
     {
         match base {
             Base::Frame => self.emit_indirect_load(size, 0),
-            Base::Network => self.emit_indirect_load(size, 14),
+            Base::Network => self.emit_indirect_load(size, NETWORK),
             Base::Transport => {
-                self.emit_indirect_load(size, 14);
+                self.emit_indirect_load(size, NETWORK);
                 self.emit_plain(code::ADD_X, 0);
-                self.emit_plain(code::LDX_MSH, 14);
+                self.emit_plain(code::LDX_MSH, NETWORK);
             }
         }
     }
@@ -198,10 +200,10 @@ impl Code {
     {
         match base {
             Base::Frame => self.emit_plain(absolute_code(size), index),
-            Base::Network => self.emit_plain(absolute_code(size), 14 + index),
+            Base::Network => self.emit_plain(absolute_code(size), NETWORK + index),
             Base::Transport => {
-                self.emit_plain(indirect_code(size), 14 + index);
-                self.emit_plain(code::LDX_MSH, 14);
+                self.emit_plain(indirect_code(size), NETWORK + index);
+                self.emit_plain(code::LDX_MSH, NETWORK);
             }
         }
     }

@@ -1,5 +1,6 @@
 -- What passed tests have shown of a packet, read off the expression.
 use Rattle.std.specs.Prelude.{ℕ, ◌-◌, ◌==◌, Bool, true, false, Some, None, if◌then◌else◌}
+use Rattle.filter_tree.specs.declared.headers.TheConstants.{ETHERTYPE_IP, ETHERTYPE_ARP, ETHERTYPE_REVARP, IPPROTO_ICMP, IPPROTO_TCP, IPPROTO_UDP, IPPROTO_SCTP}
 use Rattle.filter_tree.specs.Trees.{Amount, Tree}
 use Rattle.filter_tree.specs.Trees as trees
 use Rattle.filter_tree.specs.declared.tree.Layer.{Layer}
@@ -18,8 +19,8 @@ use Rattle.filter_meaning.specs.Meaning.{protocol_number}
 abbrev pub has_type : PacketFacts → ℕ → Bool
 has_type known.Nothing n = false
 has_type (known.Type m) n = n == m
-has_type (known.Protocol m) n = n == 0x0800
-has_type (known.FirstFragment m) n = n == 0x0800
+has_type (known.Protocol m) n = n == ETHERTYPE_IP
+has_type (known.FirstFragment m) n = n == ETHERTYPE_IP
 
 -- IPv4 with this protocol number
 abbrev pub has_protocol : PacketFacts → ℕ → Bool
@@ -48,12 +49,12 @@ with_fact k fact = if implies k fact then k else fact
 -- what an accessor's layer shows
 abbrev pub of_layer : Layer → PacketFacts
 of_layer layers.Ether = known.Nothing
-of_layer layers.Ip = known.Type 0x0800
-of_layer layers.Arp = known.Type 0x0806
-of_layer layers.Rarp = known.Type 0x8035
-of_layer layers.Tcp = known.FirstFragment 6
-of_layer layers.Udp = known.FirstFragment 17
-of_layer layers.Icmp = known.FirstFragment 1
+of_layer layers.Ip = known.Type ETHERTYPE_IP
+of_layer layers.Arp = known.Type ETHERTYPE_ARP
+of_layer layers.Rarp = known.Type ETHERTYPE_REVARP
+of_layer layers.Tcp = known.FirstFragment IPPROTO_TCP
+of_layer layers.Udp = known.FirstFragment IPPROTO_UDP
+of_layer layers.Icmp = known.FirstFragment IPPROTO_ICMP
 
 -- the layer of a value's first accessor is IPv4, or a protocol in it
 abbrev pub begins_with_ip : Amount → Bool
@@ -61,7 +62,7 @@ begins_with_ip (trees.number n) = false
 begins_with_ip trees.wire_length = false
 begins_with_ip (trees.minus v) = begins_with_ip v
 begins_with_ip (trees.binary o v w) = begins_with_ip v
-begins_with_ip (trees.accessor layer v size) = has_type (of_layer layer) 0x0800
+begins_with_ip (trees.accessor layer v size) = has_type (of_layer layer) ETHERTYPE_IP
 
 -- what is known after the tests for the layers of a value
 abbrev pub after_layers : PacketFacts → Amount → PacketFacts
@@ -73,18 +74,18 @@ after_layers k (trees.accessor layer v size) = after_layers (with_fact k (of_lay
 
 -- what a primitive shows where it is passed
 abbrev pub of_plain : Plain → PacketFacts
-of_plain words.Ip = known.Type 0x0800
-of_plain words.Arp = known.Type 0x0806
-of_plain words.Rarp = known.Type 0x8035
-of_plain words.Icmp = known.Protocol 1
-of_plain words.Tcp = known.Protocol 6
-of_plain words.Udp = known.Protocol 17
-of_plain words.Sctp = known.Protocol 132
+of_plain words.Ip = known.Type ETHERTYPE_IP
+of_plain words.Arp = known.Type ETHERTYPE_ARP
+of_plain words.Rarp = known.Type ETHERTYPE_REVARP
+of_plain words.Icmp = known.Protocol IPPROTO_ICMP
+of_plain words.Tcp = known.Protocol IPPROTO_TCP
+of_plain words.Udp = known.Protocol IPPROTO_UDP
+of_plain words.Sctp = known.Protocol IPPROTO_SCTP
 
 abbrev pub of_network : Network → PacketFacts
-of_network networks.Ip = known.Type 0x0800
-of_network networks.Arp = known.Type 0x0806
-of_network networks.Rarp = known.Type 0x8035
+of_network networks.Ip = known.Type ETHERTYPE_IP
+of_network networks.Arp = known.Type ETHERTYPE_ARP
+of_network networks.Rarp = known.Type ETHERTYPE_REVARP
 
 abbrev pub of_primitive : Primitive → PacketFacts
 of_primitive (Protocol word) = of_plain word
@@ -97,7 +98,7 @@ of_primitive (IpProto n) = known.Protocol n
 of_primitive (EtherProto n) = known.Type n
 of_primitive EtherBroadcast = known.Nothing
 of_primitive EtherMulticast = known.Nothing
-of_primitive IpMulticast = known.Type 0x0800
+of_primitive IpMulticast = known.Type ETHERTYPE_IP
 of_primitive (Less n) = known.Nothing
 of_primitive (Greater n) = known.Nothing
 

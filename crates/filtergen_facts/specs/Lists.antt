@@ -2,6 +2,7 @@
 use Rattle.std.specs.Prelude.{◌≡◌, ℕ, ◌+◌, ◌*◌, ◌/◌, ◌%◌, ◌^◌, ◌≤◌, ◌<◌, ◌==◌, ◌&&◌, List, [], ◌∷◌, All, Contains, length, ◌⊎◌, Option, Some, None, MatchOption, bit_and}
 use Rattle.std.specs.List.{AllZip}
 use Rattle.bpfvm.specs.declared.program.TheConstants.{MAX_INSNS}
+use Rattle.filter_tree.specs.declared.headers.TheConstants.{ETHER_DST, ETHER_SRC, ETHER_TYPE, ETHERTYPE_IP, ETHERTYPE_ARP, ETHERTYPE_REVARP, IP_P, IP_SRC, IP_DST, ARP_SPA, ARP_TPA}
 use Rattle.filter_tree.specs.Trees.{Tree}
 use Rattle.filter_tree.specs.Trees as trees
 use Rattle.filter_tree.specs.declared.tree.Layer.TheVariants as layers
@@ -101,7 +102,7 @@ has_tail head x o p = check (λ n. (n / 2 ^ 32 == head) && within x.low x.high (
 
 -- IPv4 and one test, or ARP or RARP and another one
 abbrev pub of_any_type : Test → Test → Test
-of_any_type ip arp = or_test (or_test (and_test (is_type 0x0800) ip) (and_test (is_type 0x0806) arp)) (and_test (is_type 0x8035) arp)
+of_any_type ip arp = or_test (or_test (and_test (is_type ETHERTYPE_IP) ip) (and_test (is_type ETHERTYPE_ARP) arp)) (and_test (is_type ETHERTYPE_REVARP) arp)
 
 -- bytes of a packet that has their layer are in a range
 abbrev pub bytes_test : Bytes → ValueRange → Test
@@ -117,10 +118,10 @@ addresses_test d mask source destination x = by_direction d (in_range x mask sou
 
 -- those of IPv4, and those of ARP and RARP
 abbrev pub ip_addresses_test : Direction → ℕ → ValueRange → Test
-ip_addresses_test d mask = addresses_test d mask 26 30
+ip_addresses_test d mask = addresses_test d mask IP_SRC IP_DST
 
 abbrev pub arp_addresses_test : Direction → ℕ → ValueRange → Test
-arp_addresses_test d mask = addresses_test d mask 28 38
+arp_addresses_test d mask = addresses_test d mask ARP_SPA ARP_TPA
 
 -- the ports after an IPv4 header
 abbrev pub header_ports_test : Direction → ValueRange → Test
@@ -131,7 +132,7 @@ abbrev pub any_net_test : Direction → ℕ → ValueRange → Test
 any_net_test d mask x = of_any_type (ip_addresses_test d mask x) (arp_addresses_test d mask x)
 
 abbrev pub ip_net_test : Direction → ℕ → ValueRange → Test
-ip_net_test d mask x = and_test (is_type 0x0800) (ip_addresses_test d mask x)
+ip_net_test d mask x = and_test (is_type ETHERTYPE_IP) (ip_addresses_test d mask x)
 
 abbrev pub arp_net_test : ℕ → Direction → ℕ → ValueRange → Test
 arp_net_test number d mask x = and_test (is_type number) (arp_addresses_test d mask x)
@@ -143,19 +144,19 @@ abbrev pub tcp_or_udp_ports_test : Direction → ValueRange → Test
 tcp_or_udp_ports_test d x = or_test (ports_test (Some transports.Tcp) d x) (ports_test (Some transports.Udp) d x)
 
 abbrev pub ip_protocol_test : ValueRange → Test
-ip_protocol_test x = and_test (is_type 0x0800) (λ p. check (within x.low x.high) (byte 23 p))
+ip_protocol_test x = and_test (is_type ETHERTYPE_IP) (λ p. check (within x.low x.high) (byte IP_P p))
 
 abbrev pub ether_type_test : ValueRange → Test
-ether_type_test x p = check (within x.low x.high) (half 12 p)
+ether_type_test x p = check (within x.low x.high) (half ETHER_TYPE p)
 
 abbrev pub ether_host_test : Direction → ℕ → ValueRange → Test
-ether_host_test d head x = by_direction d (has_tail head x 6) (has_tail head x 0)
+ether_host_test d head x = by_direction d (has_tail head x ETHER_SRC) (has_tail head x ETHER_DST)
 
 abbrev pub form_test : Form → Direction → ℕ → ℕ → Bytes → ValueRange → Test
 form_test forms.Net d m h b x = any_net_test d m x
 form_test forms.IpNet d m h b x = ip_net_test d m x
-form_test forms.ArpNet d m h b x = arp_net_test 0x0806 d m x
-form_test forms.RarpNet d m h b x = arp_net_test 0x8035 d m x
+form_test forms.ArpNet d m h b x = arp_net_test ETHERTYPE_ARP d m x
+form_test forms.RarpNet d m h b x = arp_net_test ETHERTYPE_REVARP d m x
 form_test forms.Ports d m h b x = ports_test None d x
 form_test forms.TcpPorts d m h b x = ports_test (Some transports.Tcp) d x
 form_test forms.UdpPorts d m h b x = ports_test (Some transports.Udp) d x

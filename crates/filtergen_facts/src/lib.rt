@@ -11,7 +11,7 @@ mod value_lists;
 mod weights;
 
 pub use lists::{Bytes, Chain, Form, ListKind, Member, Sides, ValueRange};
-pub use packet_facts::{ICMP, PacketFacts, SCTP, TCP, UDP};
+pub use packet_facts::PacketFacts;
 pub use refusal::Refusal;
 pub use value_lists::{Group, OtherMembers, ValueLists};
 pub use weights::{MAX_NEED, MAX_WEIGHT, need, weight};

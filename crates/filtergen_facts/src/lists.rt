@@ -2,6 +2,7 @@
 
 ghost use Rattle.std.specs.Prelude.{◌≡◌, ◌≢◌, ◌+◌, ◌≤◌, IfSome, MatchOption, None};
 ghost use Rattle.filter_tree.specs.Trees.{amount_of, tree_of, number as literal, both};
+ghost use Rattle.filter_tree.specs.declared.headers.TheConstants.{ETHER_DST, ETHER_SRC};
 ghost use Rattle.filter_tree.specs.declared.tree.Comparison.TheVariants.{Equal};
 ghost use Rattle.filter_meaning.specs.Meaning.{Packet, and_then, by_direction, plain_test, in_any_net, has_any_ports, is_address, primitive_test, relation_test, meaning};
 ghost use Rattle.filtergen_facts.specs.Facts.{after_expr, LOOK_BACK};
@@ -10,8 +11,10 @@ ghost use Rattle.filtergen_facts.specs.declared.lists.Sides.TheVariants as sides
 ghost use Rattle.std.specs.Bool.{OnTrue, OnFalse};
 ghost use Rattle.filtergen_facts.specs.Weights.{value_weight, weight};
 
-use crate::packet_facts::{ICMP, PacketFacts, SCTP, TCP, UDP};
-use filter_meaning::{ARP, RARP};
+use crate::packet_facts::PacketFacts;
+use filter_tree::headers::{
+    ETHERTYPE_ARP, ETHERTYPE_REVARP, IPPROTO_ICMP, IPPROTO_SCTP, IPPROTO_TCP, IPPROTO_UDP,
+};
 use filter_tree::{
     Comparison, Direction, EthernetAddress, Expr, Layer, Network, Plain, Primitive, Size,
     Transport, Value,
@@ -451,7 +454,7 @@ impl Member {
 
     fn of_ethernet(direction: Direction, address: EthernetAddress) -> Option<Member>
         ensures same { IfSome result (λ m. (p : Packet)
-            → by_direction direction (is_address address.octets 6) (is_address address.octets 0) p ≡ member_test m p) }
+            → by_direction direction (is_address address.octets ETHER_SRC) (is_address address.octets ETHER_DST) p ≡ member_test m p) }
         ensures weighs { IfSome result (λ m. list_weight m.kind.form 1 ≡ 40) }
     {
         let [a, b, c, d, e, f] = address.octets;
@@ -468,12 +471,12 @@ impl Member {
     {
         match word {
             Plain::Ip => None,
-            Plain::Arp => Some(Member::numbered(Form::EtherProto, ARP)),
-            Plain::Rarp => Some(Member::numbered(Form::EtherProto, RARP)),
-            Plain::Icmp => Some(Member::numbered(Form::IpProto, ICMP)),
-            Plain::Tcp => Some(Member::numbered(Form::IpProto, TCP)),
-            Plain::Udp => Some(Member::numbered(Form::IpProto, UDP)),
-            Plain::Sctp => Some(Member::numbered(Form::IpProto, SCTP)),
+            Plain::Arp => Some(Member::numbered(Form::EtherProto, ETHERTYPE_ARP)),
+            Plain::Rarp => Some(Member::numbered(Form::EtherProto, ETHERTYPE_REVARP)),
+            Plain::Icmp => Some(Member::numbered(Form::IpProto, IPPROTO_ICMP)),
+            Plain::Tcp => Some(Member::numbered(Form::IpProto, IPPROTO_TCP)),
+            Plain::Udp => Some(Member::numbered(Form::IpProto, IPPROTO_UDP)),
+            Plain::Sctp => Some(Member::numbered(Form::IpProto, IPPROTO_SCTP)),
         }
     }
 

@@ -5,19 +5,12 @@ ghost use Rattle.filter_meaning.specs.Meaning.{protocol_number};
 ghost use Rattle.filter_tree.specs.Trees.{amount_of, tree_of};
 ghost use Rattle.filtergen_facts.specs.Facts.{has_type, has_protocol, has_first_fragment, implies, with_fact, of_layer, begins_with_ip, of_plain, of_network, of_primitive, after_layers, after_expr, LOOK_BACK};
 
-use filter_meaning::{ARP, IP, RARP, protocol_number};
+use filter_meaning::protocol_number;
+use filter_tree::headers::{
+    ETHERTYPE_ARP, ETHERTYPE_IP, ETHERTYPE_REVARP, IPPROTO_ICMP, IPPROTO_SCTP, IPPROTO_TCP,
+    IPPROTO_UDP,
+};
 use filter_tree::{Expr, Layer, Network, Plain, Primitive, Transport, Value};
-
-/// The protocol numbers of IPv4 that protocol words stand for.
-pub const ICMP: u32 = 1;
-
-pub const TCP: u32 = 6;
-
-pub const UDP: u32 = 17;
-
-pub const SCTP: u32 = 132;
-
-const _: () = prove!(ICMP == 1 && TCP == 6 && UDP == 17 && SCTP == 132);
 
 /// How many levels of `and` deep an operand is searched for what it shows. Each operand of a chain searches those to its left, so without a
 /// bound the time would grow with the square of the chain's length.
@@ -43,7 +36,7 @@ impl PacketFacts {
         match self {
             PacketFacts::Nothing => false,
             PacketFacts::Type(own) => number == own,
-            PacketFacts::Protocol(_) | PacketFacts::FirstFragment(_) => number == IP,
+            PacketFacts::Protocol(_) | PacketFacts::FirstFragment(_) => number == ETHERTYPE_IP,
         }
     }
 
@@ -92,12 +85,12 @@ impl PacketFacts {
     {
         match layer {
             Layer::Ether => PacketFacts::Nothing,
-            Layer::Ip => PacketFacts::Type(IP),
-            Layer::Arp => PacketFacts::Type(ARP),
-            Layer::Rarp => PacketFacts::Type(RARP),
-            Layer::Tcp => PacketFacts::FirstFragment(TCP),
-            Layer::Udp => PacketFacts::FirstFragment(UDP),
-            Layer::Icmp => PacketFacts::FirstFragment(ICMP),
+            Layer::Ip => PacketFacts::Type(ETHERTYPE_IP),
+            Layer::Arp => PacketFacts::Type(ETHERTYPE_ARP),
+            Layer::Rarp => PacketFacts::Type(ETHERTYPE_REVARP),
+            Layer::Tcp => PacketFacts::FirstFragment(IPPROTO_TCP),
+            Layer::Udp => PacketFacts::FirstFragment(IPPROTO_UDP),
+            Layer::Icmp => PacketFacts::FirstFragment(IPPROTO_ICMP),
         }
     }
 
@@ -105,13 +98,13 @@ impl PacketFacts {
         ensures { result ≡ of_plain word }
     {
         match word {
-            Plain::Ip => PacketFacts::Type(IP),
-            Plain::Arp => PacketFacts::Type(ARP),
-            Plain::Rarp => PacketFacts::Type(RARP),
-            Plain::Icmp => PacketFacts::Protocol(ICMP),
-            Plain::Tcp => PacketFacts::Protocol(TCP),
-            Plain::Udp => PacketFacts::Protocol(UDP),
-            Plain::Sctp => PacketFacts::Protocol(SCTP),
+            Plain::Ip => PacketFacts::Type(ETHERTYPE_IP),
+            Plain::Arp => PacketFacts::Type(ETHERTYPE_ARP),
+            Plain::Rarp => PacketFacts::Type(ETHERTYPE_REVARP),
+            Plain::Icmp => PacketFacts::Protocol(IPPROTO_ICMP),
+            Plain::Tcp => PacketFacts::Protocol(IPPROTO_TCP),
+            Plain::Udp => PacketFacts::Protocol(IPPROTO_UDP),
+            Plain::Sctp => PacketFacts::Protocol(IPPROTO_SCTP),
         }
     }
 
@@ -119,9 +112,9 @@ impl PacketFacts {
         ensures { result ≡ of_network network }
     {
         match network {
-            Network::Ip => PacketFacts::Type(IP),
-            Network::Arp => PacketFacts::Type(ARP),
-            Network::Rarp => PacketFacts::Type(RARP),
+            Network::Ip => PacketFacts::Type(ETHERTYPE_IP),
+            Network::Arp => PacketFacts::Type(ETHERTYPE_ARP),
+            Network::Rarp => PacketFacts::Type(ETHERTYPE_REVARP),
         }
     }
 
@@ -141,7 +134,7 @@ impl PacketFacts {
             },
             Primitive::IpProto(number) => PacketFacts::Protocol(u32::from(number)),
             Primitive::EtherProto(number) => PacketFacts::Type(u32::from(number)),
-            Primitive::IpMulticast => PacketFacts::Type(IP),
+            Primitive::IpMulticast => PacketFacts::Type(ETHERTYPE_IP),
             Primitive::EtherHost { .. } | Primitive::EtherBroadcast => PacketFacts::Nothing,
             Primitive::EtherMulticast | Primitive::Less(_) | Primitive::Greater(_) =>
                 PacketFacts::Nothing,
@@ -155,8 +148,8 @@ impl PacketFacts {
     {
         let transport = match asked {
             Some(transport) => transport,
-            None if self.has_protocol(TCP) => Transport::Tcp,
-            None if self.has_protocol(UDP) => Transport::Udp,
+            None if self.has_protocol(IPPROTO_TCP) => Transport::Tcp,
+            None if self.has_protocol(IPPROTO_UDP) => Transport::Udp,
             None => Transport::Sctp,
         };
         if self.has_protocol(protocol_number(transport)) {
@@ -189,7 +182,7 @@ impl PacketFacts {
             Value::Number(_) | Value::Length => false,
             Value::Negation(operand) => PacketFacts::begins_with_ip(operand),
             Value::Binary(_, left, _) => PacketFacts::begins_with_ip(left),
-            Value::Accessor(layer, _, _) => PacketFacts::of_layer(*layer).has_type(IP),
+            Value::Accessor(layer, _, _) => PacketFacts::of_layer(*layer).has_type(ETHERTYPE_IP),
         }
     }
 

@@ -1,5 +1,6 @@
 -- Which qualifiers go together, and which identifiers they take.
 use Rattle.std.specs.Prelude.{ℕ, ◌-◌, ◌*◌, ◌^◌, ◌&&◌, ◌==◌, nat_le, if◌then◌else◌, Option, Some, None, option_map, unwrap_or, bit_and}
+use Rattle.filter_tree.specs.declared.headers.TheConstants.{ETHERTYPE_IP, ETHERTYPE_ARP, ETHERTYPE_REVARP, IPPROTO_ICMP, IPPROTO_TCP, IPPROTO_UDP}
 use Rattle.filterlang.specs.Types.{Protocol, TypeWord, Parts, Two, Three, Four, Direction, SrcOrDst, Network, Transport, Primitive, Phrase, Qualifiers, Host, Net, EtherHost, Port, IpProto, EtherProto, Identifier}
 use Rattle.filterlang.specs.Types.protocols
 use Rattle.filterlang.specs.Types.type_word
@@ -73,11 +74,11 @@ identified (Net network direction) (ids.Masked address mask Four) = net_of netwo
 identified (EtherHost direction) (ids.Ethernet address) = Some (primitives.EtherHost direction address)
 identified (Port transport direction) (ids.Number n) = option_map (λ port. primitives.Ports transport direction port port) (port_of n)
 identified IpProto (ids.Number n) = option_map primitives.IpProto (between 0 255 n)
-identified IpProto (ids.Name protocols.Icmp) = Some (primitives.IpProto 1)
-identified IpProto (ids.Name protocols.Tcp) = Some (primitives.IpProto 6)
-identified IpProto (ids.Name protocols.Udp) = Some (primitives.IpProto 17)
+identified IpProto (ids.Name protocols.Icmp) = Some (primitives.IpProto IPPROTO_ICMP)
+identified IpProto (ids.Name protocols.Tcp) = Some (primitives.IpProto IPPROTO_TCP)
+identified IpProto (ids.Name protocols.Udp) = Some (primitives.IpProto IPPROTO_UDP)
 identified EtherProto (ids.Number n) = option_map primitives.EtherProto (between 1501 65535 n)
-identified EtherProto (ids.Name protocols.Ip) = Some (primitives.EtherProto 0x0800)
-identified EtherProto (ids.Name protocols.Arp) = Some (primitives.EtherProto 0x0806)
-identified EtherProto (ids.Name protocols.Rarp) = Some (primitives.EtherProto 0x8035)
+identified EtherProto (ids.Name protocols.Ip) = Some (primitives.EtherProto ETHERTYPE_IP)
+identified EtherProto (ids.Name protocols.Arp) = Some (primitives.EtherProto ETHERTYPE_ARP)
+identified EtherProto (ids.Name protocols.Rarp) = Some (primitives.EtherProto ETHERTYPE_REVARP)
 identified _ _ = None

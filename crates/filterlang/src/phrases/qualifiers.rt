@@ -6,6 +6,9 @@ ghost use Rattle.filterlang.specs.Qualifiers.{network_of, transport_of, qualifie
 ghost use Rattle.filterlang.specs.declared.phrases.qualifiers.Qualifiers.TheVariants.{Net, IpProto, EtherProto};
 
 use crate::token::{Parts, Protocol, TypeWord};
+use filter_tree::headers::{
+    ETHERTYPE_ARP, ETHERTYPE_IP, ETHERTYPE_REVARP, IPPROTO_ICMP, IPPROTO_TCP, IPPROTO_UDP,
+};
 use filter_tree::{Direction, EthernetAddress, Network, Primitive, Transport};
 
 /// The qualifiers before an identifier, as they are written.
@@ -229,13 +232,13 @@ fn ip_proto_of(id: Identifier) -> Result<Primitive, Misfit>
     ensures { result_ok result ≡ identified IpProto id }
 {
     let number = match id {
-        Identifier::Number(n) => between(0, 255, n)? as u8,
-        Identifier::Name(Protocol::Icmp) => 1,
-        Identifier::Name(Protocol::Tcp) => 6,
-        Identifier::Name(Protocol::Udp) => 17,
+        Identifier::Number(n) => between(0, 255, n)?,
+        Identifier::Name(Protocol::Icmp) => IPPROTO_ICMP,
+        Identifier::Name(Protocol::Tcp) => IPPROTO_TCP,
+        Identifier::Name(Protocol::Udp) => IPPROTO_UDP,
         _ => return Err(Misfit::Identifier),
     };
-    Ok(Primitive::IpProto(number))
+    Ok(Primitive::IpProto(number as u8))
 }
 
 /// The Ethernet type that an identifier names.
@@ -243,13 +246,13 @@ fn ether_proto_of(id: Identifier) -> Result<Primitive, Misfit>
     ensures { result_ok result ≡ identified EtherProto id }
 {
     let number = match id {
-        Identifier::Number(n) => between(1501, 65535, n)? as u16,
-        Identifier::Name(Protocol::Ip) => 0x0800,
-        Identifier::Name(Protocol::Arp) => 0x0806,
-        Identifier::Name(Protocol::Rarp) => 0x8035,
+        Identifier::Number(n) => between(1501, 65535, n)?,
+        Identifier::Name(Protocol::Ip) => ETHERTYPE_IP,
+        Identifier::Name(Protocol::Arp) => ETHERTYPE_ARP,
+        Identifier::Name(Protocol::Rarp) => ETHERTYPE_REVARP,
         _ => return Err(Misfit::Identifier),
     };
-    Ok(Primitive::EtherProto(number))
+    Ok(Primitive::EtherProto(number as u16))
 }
 
 /// The test that an identifier gives under its qualifiers.
