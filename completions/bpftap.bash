@@ -9,7 +9,7 @@ _bpftap_value() {
     cut,-o | split,-o) mapfile -t COMPREPLY < <(compgen -W 'little big' -- "$3") ;;
     cut,-u | split,-u) mapfile -t COMPREPLY < <(compgen -W 'micro nano' -- "$3") ;;
     check,-f | explain,-f | compare,-f | compare,-w | cut,-f | cut,-w | steps,-p) compopt -o default ;;
-    check,-s | check,-e | explain,-s | explain,-e | explain,-p | explain,--exactly | explain,--at-* | compare,-s | cut,-s | cut,-e | cut,--bytes) ;;
+    check,-s | check,-e | check,-p | explain,-s | explain,-e | explain,-p | explain,--exactly | explain,--at-* | compare,-s | cut,-s | cut,-e | cut,--bytes) ;;
     *) return 1 ;;
   esac
 }
@@ -18,7 +18,7 @@ _bpftap_value() {
 _bpftap_options() {
   case $1 in
     '') echo '--hints -h --help -V --version' ;;
-    check) echo '-d -x --json -s -e -f -h --help' ;;
+    check) echo '-d -x --json --dot -p -s -e -f -h --help' ;;
     explain) echo '-s -e -f -p -c -l -q --exactly --at-least --at-most --json -h --help' ;;
     compare) echo '-s -f -q -w -h --help' ;;
     info | run | parts) echo '--json -h --help' ;;
@@ -49,7 +49,7 @@ _bpftap() {
   case $command in
     '') mapfile -t COMPREPLY < <(compgen -W "$_bpftap_commands" -- "$word") ;;
     help) mapfile -t COMPREPLY < <(compgen -W "$_bpftap_topics" -- "$word") ;;
-    # The word of `check` is an expression.
+    # The first word of `check` is an expression.
     explain | compare | info | cut | split | parts | join | steps | run) compopt -o default ;;
   esac
 }

@@ -21,6 +21,8 @@ complete -c bpftap -n '__fish_seen_subcommand_from help' -a 'check explain compa
 complete -c bpftap -n '__fish_seen_subcommand_from check; and not __fish_seen_subcommand_from help' -s d -d 'Print instructions by name'
 complete -c bpftap -n '__fish_seen_subcommand_from check; and not __fish_seen_subcommand_from help' -s x -d 'Print the expression as it was read'
 complete -c bpftap -n '__fish_seen_subcommand_from check; and not __fish_seen_subcommand_from help' -l json -d 'Print an object of JSON'
+complete -c bpftap -n '__fish_seen_subcommand_from check; and not __fish_seen_subcommand_from help' -l dot -d 'Print the program as a graph for Graphviz'
+complete -c bpftap -n '__fish_seen_subcommand_from check; and not __fish_seen_subcommand_from help' -s p -x -d 'With --dot, mark the way of this packet of IN'
 complete -c bpftap -n '__fish_seen_subcommand_from check; and not __fish_seen_subcommand_from help' -s s -x -d 'Snapshot length that the program returns'
 complete -c bpftap -n '__fish_seen_subcommand_from check; and not __fish_seen_subcommand_from help' -s e -x -d 'Filter expression'
 complete -c bpftap -n '__fish_seen_subcommand_from check; and not __fish_seen_subcommand_from help' -s f -r -F -d 'Filter program'

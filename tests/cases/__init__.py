@@ -1,6 +1,6 @@
 """The cases of `tests/program.py`. Each of these modules is a group, and they run in this order."""
 from . import (
-    memory, hints, words, check, language, readings, compiled, machine, image, assembly, explain, counted, compare, sameness, cut, jsonlines, countlines, captures, info, watched,
+    memory, hints, words, check, language, readings, compiled, machine, image, graph, graph, assembly, explain, counted, compare, sameness, cut, jsonlines, countlines, captures, info, watched,
     frames, split, parts, live, steps, steplines, stepping, replays, picture, run, running, streams, tcpdump, examples, manual, completions, release, install, build, targets,
     debian, scale, faults, pages, sources, library, linking, bindings, machines, page)
 

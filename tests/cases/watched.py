@@ -41,15 +41,21 @@ def last_line(seen):
 
 @case
 def frames_are_counted(scene):
-    """Below what `explain`, `compare`, `split` and `cut -c` print is how many frames no filter looks into."""
+    """Below what `explain`, `compare`, `split` and `cut -c` print is how many frames no filter looks into, with hints or without; with `--json`
+    an object."""
     scene.start({"in.pcap": MIXED, "two.pcap": HEADER + record(0x88a8), "lines.txt": "0 all.pcap \n0 ip.pcap ip\n"})
     scene.expect("--hints cut -c -s 0 -e ip in.pcap out.pcap", 0, "2 of 5 packets\n" + line(2, 5))
     scene.expect("--hints cut -c -s 0 -e ip -w out.pcap in.pcap two.pcap in.pcap", 0, "4 of 11 packets\n" + line(5, 11))
     scene.expect("--hints split lines.txt in.pcap two.pcap", 0, line(3, 6), "all.pcap 6 of 6\nip.pcap 2 of 6\n")
-    for words in ["explain -e ip", "compare ip tcp", "compare '' tcp", "compare ip ''"]:
-        seen = scene.run(f"--hints {words} in.pcap two.pcap")
+    for words in ["explain -e ip", "explain -c -e ip", "compare ip tcp", "compare '' tcp", "compare ip ''", "split lines.txt"]:
+        seen, plain = scene.run(f"--hints {words} in.pcap two.pcap"), scene.run(f"{words} in.pcap two.pcap")
         scene.check(words, (seen.err.decode(), seen.status), (line(3, 6), 0))
-        scene.check(f"{words}, printed", seen.out, scene.run(f"{words} in.pcap two.pcap").out)
+        scene.check(f"{words} without hints", plain, seen)
+    for words in ["explain --json -e ip", "explain --json -c -e ip", "split --json lines.txt"]:
+        scene.check(words, scene.run(f"{words} in.pcap two.pcap").err, b'{"frames":6,"unseen":3}\n')
+    scene.expect("cut -c -s 0 -e ip in.pcap out.pcap", 0, "2 of 5 packets\n" + line(2, 5))
+    scene.expect("cut --json -c -s 0 -e ip in.pcap out.pcap", 0, '{"kept":2,"packets":5}\n{"frames":5,"unseen":2}\n')
+    scene.expect("explain -c -e ip two.pcap", 0, line(1, 1), "two.pcap 1 packets: 0 Yes, 1 No, 0 Abort\n")
 
 
 @case
@@ -64,19 +70,19 @@ def types_of_frames(scene):
 
 @case
 def no_frames_are_counted(scene):
-    """Nothing is said without hints, without such a frame, with `--json`, `-q` or `-p`, without an expression, or if the command failed."""
+    """Nothing is said without such a frame, with `-q`, `-l` or `-p`, by `cut` without `-c`, without an expression, or if the command failed."""
     scene.start({"in.pcap": MIXED, "plain.pcap": HEADER + IP_RECORD + TCP_RECORD, "ip.bpf": IP, "lines.txt": "0 ip.pcap ip\n",
                  "empty.txt": "0 all.pcap \n", "none": "", "lost.txt": "0 no/such.pcap ip\n"})
-    for words in ["explain -e ip in.pcap", "compare ip tcp in.pcap", "cut -c -s 0 -e ip in.pcap out.pcap", "split lines.txt in.pcap",
-                  "--hints explain -e ip plain.pcap", "--hints compare ip tcp plain.pcap", "--hints cut -c -s 0 -e ip plain.pcap out.pcap",
-                  "--hints split lines.txt plain.pcap", "--hints explain --json -e ip in.pcap",
-                  "--hints cut --json -c -s 0 -e ip in.pcap out.pcap", "--hints explain -q -e ip in.pcap", "--hints compare -q ip ip in.pcap",
+    for words in ["cut -s 0 -e ip in.pcap out.pcap", "explain -q -e ip in.pcap", "explain -l -e ip in.pcap", "explain -e ip plain.pcap",
+                  "explain --json -e ip plain.pcap", "--hints explain -e ip plain.pcap", "--hints compare ip tcp plain.pcap", "--hints cut -c -s 0 -e ip plain.pcap out.pcap",
+                  "--hints split lines.txt plain.pcap", "--hints explain -q -e ip in.pcap", "--hints compare -q ip ip in.pcap",
                   "--hints explain -p 1 -e ip in.pcap", "--hints cut -s 0 -e ip in.pcap out.pcap", "--hints explain -f ip.bpf in.pcap",
                   "--hints compare -f ip.bpf ip in.pcap", "--hints cut -c -s 0 -f ip.bpf in.pcap out.pcap",
                   "--hints cut -c -s 0 in.pcap out.pcap", "--hints explain -e '' in.pcap", "--hints compare '' ' ' in.pcap",
                   "--hints split empty.txt in.pcap", "--hints explain -e ip none", "--hints cut -c -s 0 -e ip in.pcap no/such.pcap",
                   "--hints split lost.txt in.pcap"]:
-        scene.check(words, b"IPv6" in scene.run(words).err, False)
+        seen = scene.run(words)
+        scene.check(words, b"IPv6" in seen.err or b"unseen" in seen.err, False)
     scene.check("nobody reads", scene.run_unread("--hints explain -e ip in.pcap").err, b"")
 
 

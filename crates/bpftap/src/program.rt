@@ -3,7 +3,7 @@
 use clap::Error;
 use clap::error::ErrorKind;
 use cli_args::command_line::{Request, read_words};
-use cli_args::refusal::printed_error;
+use cli_args::refusal::{printed_error, with_way};
 use cli_args::report::{print_page, report_words_fault};
 use cli_compare::command::compare_command;
 use cli_count::command::count_command;
@@ -12,11 +12,12 @@ use cli_cut::part::cut_part_command;
 use cli_explain::command::explain_command;
 use cli_files::late::reserve_std_fd;
 use cli_filter_hints::quotes::{hint_listing_word, hint_unquoted};
+use cli_graph::command::graph_command;
 use cli_info::command::info_command;
 use cli_parts::join::join_command;
 use cli_parts::parts::parts_command;
 use cli_report::commands::{
-    hint_command, hint_dash_output, hint_failed_words, hint_missing, hint_option,
+    command_way, hint_dash_output, hint_failed_words, hint_missing, hint_option,
 };
 use cli_report::stream::give_hint;
 use cli_report::{ErrorStream, HintSink};
@@ -65,6 +66,7 @@ fn dispatch<
             err.set_form(LineForm::asked(words.json));
             check_command(rt, &words, out, err)
         }
+        Ok(Request::Graph(words)) => graph_command(rt, &words, out, err),
         Ok(Request::Explain(asked)) => {
             err.set_form(LineForm::asked(asked.json));
             let status = explain_command(rt, &asked, out, err);
@@ -128,6 +130,15 @@ fn hint_several<S: AsStr, E: HintSink>(
     status
 }
 
+/// The error of arguments as it is printed: of a command of other tools it has the way to do the same here.
+fn usage_error<S: AsStr>(alloc: Global, words: &[S], error: Error) -> Error {
+    let error = printed_error(alloc, words, error);
+    match command_way(words) {
+        Some(way) if error.kind() == ErrorKind::InvalidSubcommand => with_way(alloc, &error, way),
+        _ => error,
+    }
+}
+
 /// Reports what is wrong with the words, or prints help, and answers the exit status.
 fn report_usage<S: AsStr, O: Write, E: HintSink>(
     alloc: Global,
@@ -136,7 +147,7 @@ fn report_usage<S: AsStr, O: Write, E: HintSink>(
     out: &mut O,
     err: &mut E,
 ) -> Status {
-    let error = printed_error(alloc, words, error);
+    let error = usage_error(alloc, words, error);
     let status = report_words_fault(&error, out, err);
     match error.kind() {
         ErrorKind::UnknownArgument => {
@@ -149,16 +160,15 @@ fn report_usage<S: AsStr, O: Write, E: HintSink>(
             hint_failed_words(words, err);
             hint_unquoted(alloc, words, err)
         }
-        ErrorKind::InvalidSubcommand => hint_unknown_command(words, err),
+        ErrorKind::InvalidSubcommand => hint_expression_for_command(words, err),
         ErrorKind::MissingRequiredArgument => hint_missing_word(alloc, words, err),
         _ => {}
     }
     status
 }
 
-/// Hints on a command that there is not: on one of another name, and on an expression.
-fn hint_unknown_command<S: AsStr, E: HintSink>(words: &[S], err: &mut E) {
-    hint_command(words, err);
+/// A hint on an expression in the place of a command.
+fn hint_expression_for_command<S: AsStr, E: HintSink>(words: &[S], err: &mut E) {
     if let Some(name) = words.get(1) {
         if is_word(name.as_str()) {
             give_hint(

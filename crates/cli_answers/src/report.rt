@@ -6,6 +6,8 @@ ghost use Rattle.cli_text.specs.Telling.{fault_status};
 ghost use Rattle.cli_answers.specs.Telling.{printed_status, stop_status};
 
 use crate::printing::Unprinted;
+use cli_report::HintSink;
+use cli_report::failures::name_source;
 use cli_text::Status;
 use cli_text::report::fault_status;
 use cli_walk::Stop;
@@ -36,8 +38,8 @@ fn fault_of<'a>(paths: &[&'a str], number: usize, fault: Fault) -> Report<'a> {
 }
 
 /// Reports the fault of the capture of this number, of those at these paths: a failed device by its path; any other fault by its name, after
-/// the capture's number if there are several captures. It answers the exit status.
-pub fn report_capture<E: FaultSink>(
+/// the capture's number if there are several captures, and then its path below that. It answers the exit status.
+pub fn report_capture<E: HintSink>(
     paths: &[&str],
     number: usize,
     fault: Fault,
@@ -45,11 +47,15 @@ pub fn report_capture<E: FaultSink>(
 ) -> Status
     ensures { result ≡ fault_status fault }
 {
-    report_fault(&fault_of(paths, number, fault), fault_status(fault), err)
+    let status = report_fault(&fault_of(paths, number, fault), fault_status(fault), err);
+    if fault != Fault::Device {
+        let _ = name_source(paths, number, err);
+    }
+    status
 }
 
 /// Reports the capture that ended the reading, if one did, and answers the exit status.
-pub fn report_stop<E: FaultSink>(read: Result<(), Stop>, paths: &[&str], err: &mut E) -> Status
+pub fn report_stop<E: HintSink>(read: Result<(), Stop>, paths: &[&str], err: &mut E) -> Status
     ensures { result ≡ stop_status read }
 {
     match read {
@@ -60,7 +66,7 @@ pub fn report_stop<E: FaultSink>(read: Result<(), Stop>, paths: &[&str], err: &m
 
 /// Reports what was not printed of several captures and then the one that ended the reading, if there are these, and answers the greatest
 /// exit status that applies.
-pub fn report_captures<E: FaultSink>(
+pub fn report_captures<E: HintSink>(
     printed: &Result<(), Unprinted>,
     read: Result<(), Stop>,
     paths: &[&str],

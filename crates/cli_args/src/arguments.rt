@@ -8,6 +8,8 @@ use std::alloc::{AllocError, Global};
 pub(crate) enum Argument {
     /// An option without a value.
     Flag(&'static str, char, &'static str),
+    /// An option of a name without a letter, and without a value.
+    LongFlag(&'static str, &'static str),
     /// An option without a value that may be repeated.
     Count(&'static str, char, &'static str),
     /// An option with a value.
@@ -53,6 +55,7 @@ impl Argument {
     pub fn to_arg<'a>(self, alloc: Global) -> Result<Arg<'a>, AllocError> {
         match self {
             Argument::Flag(name, short, help) => Ok(flag(alloc, name, short, help)),
+            Argument::LongFlag(name, help) => Ok(long_flag(alloc, name, help)),
             Argument::Count(name, short, help) => Ok(count(alloc, name, short, help)),
             Argument::Text(name, short, value, help) => Ok(option(alloc, name, short, value, help)),
             Argument::Number(name, short, value, help) => Ok(number(
@@ -108,6 +111,14 @@ fn long_number<'a>(alloc: Global, name: &'a str, value: &'a str, help: &'a str) 
 fn flag<'a>(alloc: Global, name: &'a str, short: char, help: &'a str) -> Arg<'a> {
     Arg::new(alloc, name)
         .short(short)
+        .action(ArgAction::SetTrue)
+        .help(help)
+}
+
+/// An option of a name without a letter, and without a value.
+fn long_flag<'a>(alloc: Global, name: &'a str, help: &'a str) -> Arg<'a> {
+    Arg::new(alloc, name)
+        .long(name)
         .action(ArgAction::SetTrue)
         .help(help)
 }
@@ -198,10 +209,11 @@ fn quiet<'a>(alloc: Global, help: &'a str) -> Arg<'a> {
 
 /// Whether JSON Lines are printed.
 fn json<'a>(alloc: Global) -> Arg<'a> {
-    Arg::new(alloc, "json")
-        .long("json")
-        .action(ArgAction::SetTrue)
-        .help("Print JSON Lines: one object for each line; faults too")
+    long_flag(
+        alloc,
+        "json",
+        "Print JSON Lines: one object for each line; faults too",
+    )
 }
 
 /// An expression, as a word of its own, where no other filter is given.

@@ -1,5 +1,7 @@
 //! The words of the command line, by `clap`.
-use crate::check::{CheckWords, bad_check_words, check_usage, check_words};
+use crate::check::{
+    CheckWords, GraphWords, asks_graph, bad_check_words, check_usage, check_words, graph_words,
+};
 use crate::compare::{CompareWords, bad_compare_words, compare_usage, compare_words};
 use crate::counting::{CountWords, asks_counts, count_words};
 use crate::cut::{CutWords, bad_cut_words, cut_usage, cut_words};
@@ -22,6 +24,8 @@ use std::convert::AsStr;
 #[derive(Drop)]
 pub enum Request<'a> {
     Check(CheckWords<'a>),
+    /// `check` with `--dot`.
+    Graph(GraphWords<'a>),
     Explain(ExplainWords<'a>),
     /// `explain` with `-c`, `-l`, or a bound.
     Count(CountWords<'a>),
@@ -59,9 +63,9 @@ const EXAMPLES: &str = "Examples:
 The folder examples is that of a clone; an installation has it in share/doc/bpftap of its prefix.
 
 Exit status: 0 clean; 1 bad usage, invalid input, or out of memory; 2 a torn or bad record, after
-the packets before it; 3 a file or device failed; 4 an answer, no fault: explain -q accepts no
-packet, compare -q or without IN finds one that is treated differently, join wants a range to be
-cut again; 5 compare without IN has not decided it.";
+the packets before it; 3 a file or device failed; 4 an answer, no fault: explain -q or -l accepts
+no packet, or with a bound another number of them, compare -q or without IN finds one that is
+treated differently, join wants a range to be cut again; 5 compare without IN has not decided it.";
 
 /// The subcommands, in the order of the help.
 static SUBCOMMANDS: [&str; 10] = [
@@ -102,7 +106,8 @@ pub(crate) fn subcommand_of<'a>(alloc: Global, name: &str) -> Result<Command<'a>
     }
 }
 
-fn program<'a>(alloc: Global) -> Result<Command<'a>, AllocError> {
+/// The program with its subcommands.
+pub(crate) fn program<'a>(alloc: Global) -> Result<Command<'a>, AllocError> {
     let mut program = bare_program(alloc).arg(hints_arg(alloc))?;
     for name in SUBCOMMANDS.iter() {
         let subcommand = subcommand_of(alloc, *name)?;
@@ -127,7 +132,11 @@ pub(crate) fn unit_of(matches: &ArgMatches<'_>) -> Unit {
 
 /// What the words of `check` ask for; nothing if one is missing or invalid.
 fn check_request_of<'a>(words: &ArgMatches<'a>) -> Option<Request<'a>> {
-    Some(Request::Check(check_words(words)?))
+    if asks_graph(words) {
+        Some(Request::Graph(graph_words(words)?))
+    } else {
+        Some(Request::Check(check_words(words)?))
+    }
 }
 
 /// What the words of `cut` ask for; nothing if one is missing or invalid.
@@ -221,8 +230,9 @@ fn request_of<'a>(
     }
 }
 
-/// The error of words that `clap` took and a subcommand refuses. For `check` it is the snapshot length, for `cut` that, OUT or a
-/// range, for `parts` the number, for `explain` that, the place or a bound, for `compare` that or a missing IN. For the others a word is missing, which `clap` has reported.
+/// The error of words that `clap` took and a subcommand refuses. For `check` it is the snapshot length or the packet, for `cut` that, OUT or a
+/// range, for `parts` the number, for `explain` that, the place or a bound, for `compare` that or a missing IN. For the others a word is missing, which
+/// `clap` has reported.
 fn bad_words(
     alloc: Global,
     name: &str,
@@ -230,7 +240,7 @@ fn bad_words(
     program: &mut Command<'_>,
 ) -> Result<Error, AllocError> {
     match name {
-        "check" => bad_check_words(alloc),
+        "check" => bad_check_words(alloc, words),
         "cut" => bad_cut_words(alloc, words),
         "explain" => bad_explain_words(alloc, words),
         "compare" => bad_compare_words(alloc, words),

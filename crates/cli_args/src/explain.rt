@@ -46,15 +46,16 @@ IN; tcpdump and Wireshark count packets from 1. Several IN are read in order, up
 fault, and the counts are of all; -p explains the packet at PLACE of each. With -q the first packet
 that is accepted ends the reading, as with grep -q:
   if bpftap explain -q -e 'tcp port 8080' examples/veth.pcap; then echo seen; fi
--c prints only the counts, after the path of each IN, and -l the paths of those IN that have an
-accepted packet. --exactly, --at-least and --at-most ask how many packets of all IN are accepted;
-then all IN are read.
+-c prints only the counts: of each IN after its path, and of several IN, not of one, their sum last.
+-l prints the paths of those IN that have an accepted packet. --exactly, --at-least and --at-most
+ask how many packets of all IN are accepted; then all IN are read.
 With --json each packet is an object on a line of its own, and so are the counts; -p has no JSON:
   bpftap explain --json -e 'tcp port 8080' examples/veth.pcap | jq -r '.answer // empty' | sort | uniq -c
 
-Exit status: 0 clean, with -q and -l: a packet is accepted; 1 bad usage, invalid input, no packet
-at PLACE, or out of memory; 2 a torn or bad record, after the packets before it; 3 a file or device
-failed; 4 with -q and -l: no packet is accepted; with a bound: not that many are.";
+Exit status: 0 clean, with -q and -l: a packet is accepted, with a bound: as many as it asks for; 1
+bad usage, invalid input, no packet at PLACE, or out of memory; 2 a torn or bad record, after the
+packets before it; 3 a file or device failed; 4 with -q and -l: no packet is accepted; with a bound,
+whatever else is given: another number of them.";
 
 /// A filter is wanted: an expression, a listing, or both.
 fn filter_group<'a>(alloc: Global) -> Result<ArgGroup<'a>, AllocError> {
@@ -90,7 +91,9 @@ static ARGUMENTS: [Argument; 12] = [
         'l',
         "Print only the path of each IN that has an accepted packet, as grep -l does",
     ),
-    Argument::Quiet("Print nothing, and end with status 0 if a packet is accepted, else with 4"),
+    Argument::Quiet(
+        "Print nothing; end with status 0 if a packet is accepted, or as a bound says; else 4",
+    ),
     Argument::LongNumber(
         "exactly",
         "N",

@@ -1,7 +1,7 @@
 //! The error of arguments that are refused, as it is printed.
 
 use crate::check::check_usage;
-use crate::command_line::{read_words, subcommand_of};
+use crate::command_line::{program, read_words, subcommand_of};
 use crate::compare::compare_usage;
 use crate::cut::cut_usage;
 use crate::explain::explain_usage;
@@ -128,6 +128,32 @@ pub fn refusal_of<S: AsStr>(alloc: Global, words: &[S], error: Error) -> Error {
         return error;
     }
     match unknown_argument(alloc, words, error) {
+        Ok(error) => error,
+        Err(refused) => Error::from(refused),
+    }
+}
+
+/// The text of an error up to its first empty line.
+fn first_lines(text: &str) -> &str {
+    let what = match text.split_once("\n\n") {
+        Some((what, _)) => what,
+        None => text,
+    };
+    what.strip_prefix(ERROR).unwrap_or(what)
+}
+
+/// [`with_way`], if there is memory for its text.
+fn error_with_way(alloc: Global, error: &Error, way: &str) -> Result<Error, AllocError> {
+    let text = format!(in alloc; "{error}")?;
+    let what = first_lines(text.as_str());
+    let told = format!(in alloc; "{what}\n\n  tip: {way}")?;
+    program(alloc)?.error(ErrorKind::InvalidSubcommand, told.as_str())
+}
+
+/// The error of a command that there is not, with the way to do what its name stands for elsewhere in place of the advice of `clap`, which
+/// names a command that is spelt alike.
+pub fn with_way(alloc: Global, error: &Error, way: &str) -> Error {
+    match error_with_way(alloc, error, way) {
         Ok(error) => error,
         Err(refused) => Error::from(refused),
     }

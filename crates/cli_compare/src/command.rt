@@ -16,8 +16,7 @@ use cli_report::failures::hint_output;
 use cli_report::probe::ProbedInput;
 use cli_text::Status;
 use cli_watch::captures::watched_inputs;
-use cli_watch::frames::FrameCounts;
-use cli_watch::hints::{hint_unseen, is_asked};
+use cli_watch::hints::{is_asked, report_unseen};
 use cli_watch::output::WatchedOutput;
 use cli_watch::{Screen, Watch};
 use fault_report::reporting::report_memory;
@@ -56,16 +55,11 @@ fn compare_all<F: Screen, R: Read + Drop, O: Write, E: HintSink>(
     status
 }
 
-/// Hints on the frames of the captures that the expressions do not look into. A listing's program may.
-fn hint_frames<E: HintSink>(
-    words: &CompareWords<'_>,
-    frames: FrameCounts,
-    status: Status,
-    err: &mut E,
-) {
-    if words.listing.is_none() && (is_asked(words.first) || words.second.is_some_and(is_asked)) {
-        hint_unseen(frames, status, err);
-    }
+/// Whether it is reported into how many frames the expressions do not look. A listing's program may.
+fn counts_frames(words: &CompareWords<'_>) -> bool {
+    words.listing.is_none()
+        && !words.quiet
+        && (is_asked(words.first) || words.second.is_some_and(is_asked))
 }
 
 /// [`compare_all`], with a buffer in front of the output.
@@ -82,7 +76,9 @@ fn compare_and_report<F: Screen, R: Read + Drop, O: Write, E: HintSink>(
     };
     let status = compare_all(job, captures, &mut out, err);
     hint_output(out.get_ref(), err);
-    hint_frames(job.words, job.watch.frames(), status, err);
+    if counts_frames(job.words) {
+        let _ = report_unseen(job.watch.frames(), status, err);
+    }
     status
 }
 
@@ -136,7 +132,9 @@ fn compare_files<R: Files + AllocGlobal + Screen, O: Write, E: HintSink>(
         alloc: rt.alloc(),
         words,
         pair,
-        watch: Watch::new(rt, words.inputs.as_slice(), err.takes_hints()),
+        watch: Watch::new(rt, words.inputs.as_slice(), err.takes_hints()).counting(counts_frames(
+            words,
+        )),
     };
     Ok(compare_job(rt, &job, out, err))
 }

@@ -6,6 +6,7 @@ ghost use Rattle.cli_compare.specs.Telling.{sameness_status};
 
 use cli_answers::printing::Unprinted;
 use cli_answers::report::report_capture;
+use cli_report::HintSink;
 use cli_text::Status;
 use cli_walk::Stop;
 use fault_report::FaultSink;
@@ -14,7 +15,7 @@ use filter_same::Sameness;
 
 /// Reports the capture that ended the reading, if one did, and answers the exit status of looking for a packet that is treated differently:
 /// [`Status::Negative`] if one was found, [`Status::Clean`] if all captures were read and none was.
-pub fn report_sameness<E: FaultSink>(
+pub fn report_sameness<E: HintSink>(
     found: Result<bool, Stop>,
     paths: &[&str],
     err: &mut E,

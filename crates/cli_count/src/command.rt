@@ -17,7 +17,7 @@ use cli_report::failures::hint_output;
 use cli_report::probe::ProbedInput;
 use cli_text::Status;
 use cli_watch::captures::watched_inputs;
-use cli_watch::hints::{hint_unseen, is_asked};
+use cli_watch::hints::{is_asked, report_unseen};
 use cli_watch::output::WatchedOutput;
 use cli_watch::{Screen, Watch};
 use fault_report::reporting::report_memory;
@@ -35,6 +35,11 @@ struct Job<'w, 'a, 'r, R> {
     watch: Watch<'r, R>,
 }
 
+/// Whether it is reported into how many frames the expression does not look: where counts are printed.
+fn counts_frames(words: &CountWords<'_>) -> bool {
+    words.shown == CountShown::Counts && words.expr.is_some_and(is_asked)
+}
+
 /// Accepts the filter and compares the paths, in this order.
 fn prepare<'w, 'a, 'r, R: Files + AllocGlobal + Screen, E: HintSink>(
     rt: &'r R,
@@ -47,7 +52,9 @@ fn prepare<'w, 'a, 'r, R: Files + AllocGlobal + Screen, E: HintSink>(
         alloc: rt.alloc(),
         words,
         filter,
-        watch: Watch::new(rt, words.inputs.as_slice(), err.takes_hints()),
+        watch: Watch::new(rt, words.inputs.as_slice(), err.takes_hints()).counting(counts_frames(
+            words,
+        )),
     })
 }
 
@@ -150,8 +157,8 @@ fn count_and_report<F: Screen, R: Read + Drop, O: Write, E: HintSink>(
         CountShown::Counts | CountShown::Nothing => count_all(job, captures, &mut out, err),
     };
     hint_output(out.get_ref(), err);
-    if job.words.shown == CountShown::Counts && job.words.expr.is_some_and(is_asked) {
-        hint_unseen(job.watch.frames(), status, err);
+    if counts_frames(job.words) {
+        let _ = report_unseen(job.watch.frames(), status, err);
     }
     status
 }

@@ -8,9 +8,9 @@ ghost use Rattle.cli_count.specs.Telling.{bounds_status, listed_status};
 use cli_answers::printing::Unprinted;
 use cli_answers::report::report_captures;
 use cli_args::counting::CountBounds;
+use cli_report::HintSink;
 use cli_text::Status;
 use cli_walk::Stop;
-use fault_report::FaultSink;
 
 /// The exit status of captures of which N packets are accepted; without bounds it is [`Status::Clean`].
 fn bounds_status(bounds: Option<CountBounds>, accepted: u64) -> Status
@@ -35,7 +35,7 @@ fn listed_status(found: bool) -> Status
 
 /// Reports what was not printed and then the capture that ended the reading, if there are these, and returns the greatest exit status that
 /// applies: [`Status::Negative`] if the number of accepted packets is not within the bounds.
-pub fn report_counts<E: FaultSink>(
+pub fn report_counts<E: HintSink>(
     printed: &Result<(), Unprinted>,
     read: Result<(), Stop>,
     accepted: u64,
@@ -51,7 +51,7 @@ pub fn report_counts<E: FaultSink>(
 
 /// Reports what was not printed and then the capture that ended the reading, if there are these, and returns the greatest exit status that
 /// applies: [`Status::Negative`] if no capture has an accepted packet.
-pub fn report_listed<E: FaultSink>(
+pub fn report_listed<E: HintSink>(
     printed: &Result<(), Unprinted>,
     read: Result<(), Stop>,
     found: bool,

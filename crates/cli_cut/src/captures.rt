@@ -4,7 +4,7 @@ ghost use Rattle.std.specs.Prelude.{◌≡◌, slice_get};
 ghost use Rattle.line_text.specs.Sending.{Takes};
 ghost use Rattle.cli_cut.specs.Captures.{first_told, part_told, total_told};
 
-use crate::hints::hint_frames;
+use crate::hints::counts_frames;
 use crate::paths::{LateOutput, check_paths, is_standard_output, late_output};
 use crate::plan::read_filter;
 use crate::report::report_tally;
@@ -20,6 +20,7 @@ use cli_split::report::{SplitFiles, report_faults, was_begun};
 use cli_split::split::SplitEnd;
 use cli_text::Status;
 use cli_watch::captures::{WatchedInput, watched_inputs};
+use cli_watch::hints::report_unseen;
 use cli_watch::{Screen, Watch};
 use fault_report::reporting::report_memory;
 use line_text::LineForm;
@@ -137,7 +138,9 @@ pub(crate) fn cut_several<'r, R: Files + AllocGlobal + Screen, E: HintSink>(
     let status = report_captures(rt, words, &end, err);
     if words.counted {
         let _ = report_total(&end, LineForm::asked(words.json), err);
-        hint_frames(words, watch.frames(), status, err);
+    }
+    if counts_frames(words) {
+        let _ = report_unseen(watch.frames(), status, err);
     }
     Ok(status)
 }

@@ -1,7 +1,7 @@
 //! `bpftap cut` and `bpftap check`, over files.
 
 use crate::captures::cut_several;
-use crate::hints::{hint_cut, hint_frames, hint_print};
+use crate::hints::{counts_frames, hint_cut, hint_print};
 use crate::object::{check_object, show_object};
 use crate::paths::{is_standard_output, late_output, open_apart};
 use crate::plan::{read_filter, read_program};
@@ -13,6 +13,7 @@ use cli_args::cut::CutWords;
 use cli_report::HintSink;
 use cli_report::probe::{ProbedInput, ProbedOutput};
 use cli_text::Status;
+use cli_watch::hints::report_unseen;
 use cli_watch::{Screen, Watch};
 use line_text::LineForm;
 use pcap_cut::cut::{CutEnd, End, cut};
@@ -98,7 +99,9 @@ fn cut_and_report<F: Files + AllocGlobal + Screen, R: Read + Drop, W: Write + Dr
     let status = report_end(rt, &end, words, from, err);
     if words.counted {
         let _ = report_count(&end, LineForm::asked(words.json), err);
-        hint_frames(words, watch.frames(), status, err);
+    }
+    if counts_frames(words) {
+        let _ = report_unseen(watch.frames(), status, err);
     }
     status
 }
@@ -128,7 +131,9 @@ pub fn cut_command<R: Files + AllocGlobal + Screen, E: HintSink>(
     words: &CutWords<'_>,
     err: &mut E,
 ) -> Status {
-    let watch = Watch::new(rt, words.inputs.as_slice(), err.takes_hints());
+    let watch = Watch::new(rt, words.inputs.as_slice(), err.takes_hints()).counting(counts_frames(
+        words,
+    ));
     let ended = match words.inputs.as_slice() {
         [input] => cut_one(rt, words, *input, &watch, err),
         _ => cut_several(rt, words, &watch, err),

@@ -6,9 +6,7 @@ use cli_filter::hint_expression;
 use cli_report::HintSink;
 use cli_report::failures::{hint_failure, hint_input, hint_unprinted};
 use cli_report::probe::{ProbedInput, ProbedOutput};
-use cli_text::Status;
-use cli_watch::frames::FrameCounts;
-use cli_watch::hints::{hint_unseen, is_asked};
+use cli_watch::hints::is_asked;
 use pcap_cut::cut::{CutEnd, End};
 use std::alloc::Global;
 use std::io::Write;
@@ -25,16 +23,9 @@ pub(crate) fn hint_cut<R, W: Write + Drop, E: HintSink>(
     }
 }
 
-/// Hints on the frames of the captures that the expression does not look into, if there is one.
-pub(crate) fn hint_frames<E: HintSink>(
-    words: &CutWords<'_>,
-    frames: FrameCounts,
-    status: Status,
-    err: &mut E,
-) {
-    if words.expr.is_some_and(is_asked) {
-        hint_unseen(frames, status, err);
-    }
+/// Whether it is reported into how many frames the expression does not look: where packets are counted.
+pub(crate) fn counts_frames(words: &CutWords<'_>) -> bool {
+    words.counted && words.expr.is_some_and(is_asked)
 }
 
 /// Hints on why the program of an expression was not printed.

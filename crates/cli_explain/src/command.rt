@@ -20,7 +20,7 @@ use cli_report::failures::hint_output;
 use cli_report::probe::ProbedInput;
 use cli_text::Status;
 use cli_watch::captures::watched_inputs;
-use cli_watch::hints::{hint_unseen, is_asked};
+use cli_watch::hints::{is_asked, report_unseen};
 use cli_watch::output::WatchedOutput;
 use cli_watch::{Screen, Watch};
 use fault_report::reporting::report_memory;
@@ -38,6 +38,11 @@ struct Job<'w, 'a, 'r, R> {
     watch: Watch<'r, R>,
 }
 
+/// Whether it is reported into how many frames the expression does not look: where a line is printed for each packet.
+fn counts_frames(words: &ExplainWords<'_>) -> bool {
+    words.places.is_none() && !words.quiet && words.expr.is_some_and(is_asked)
+}
+
 /// Accepts the filter and compares the paths, in this order.
 fn prepare<'w, 'a, 'r, R: Files + AllocGlobal + Screen, E: HintSink>(
     rt: &'r R,
@@ -50,7 +55,9 @@ fn prepare<'w, 'a, 'r, R: Files + AllocGlobal + Screen, E: HintSink>(
         alloc: rt.alloc(),
         words,
         filter,
-        watch: Watch::new(rt, words.inputs.as_slice(), err.takes_hints()),
+        watch: Watch::new(rt, words.inputs.as_slice(), err.takes_hints()).counting(counts_frames(
+            words,
+        )),
     })
 }
 
@@ -206,8 +213,8 @@ fn explain_and_report<F: Screen, R: Read + Drop, O: Write, E: HintSink>(
         None => explain_all(job, captures, &mut out, err),
     };
     hint_output(out.get_ref(), err);
-    if job.words.places.is_none() && job.words.expr.is_some_and(is_asked) {
-        hint_unseen(job.watch.frames(), status, err);
+    if counts_frames(job.words) {
+        let _ = report_unseen(job.watch.frames(), status, err);
     }
     status
 }

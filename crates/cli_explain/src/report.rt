@@ -8,6 +8,7 @@ ghost use Rattle.cli_explain.specs.Telling.{read_status, found_status, sought_st
 use crate::each::Explained;
 use crate::one::Found;
 use cli_answers::report::{report_capture, report_printed};
+use cli_report::HintSink;
 use cli_text::Status;
 use cli_walk::Stop;
 use fault_report::reporting::{report_capture as report_only, report_fault};
@@ -30,7 +31,7 @@ pub fn report_each<R: Drop, E: FaultSink>(
 
 /// Reports why a packet of the capture of this number was not printed, that its place has none, and then the capture's fault, and answers
 /// the greatest exit status that applies.
-pub fn report_one<R, E: FaultSink>(
+pub fn report_one<R, E: HintSink>(
     found: &Found<R>,
     place: u64,
     paths: &[&str],
@@ -53,7 +54,7 @@ pub fn report_one<R, E: FaultSink>(
 
 /// Reports the capture that ended the reading, if one did, and answers the exit status of looking for a packet: [`Status::Clean`] if one was
 /// found, [`Status::Negative`] if all captures were read and none was.
-pub fn report_sought<E: FaultSink>(found: Result<bool, Stop>, paths: &[&str], err: &mut E) -> Status
+pub fn report_sought<E: HintSink>(found: Result<bool, Stop>, paths: &[&str], err: &mut E) -> Status
     ensures { result ≡ sought_status found }
 {
     match found {

@@ -9,6 +9,7 @@ use filter_meaning::{Look, Verdict, looks_of};
 use filter_print::Canonical;
 use filtergen::Refusal;
 use filterlang::Expr;
+use frame_fields::{FieldPart, Notation, Written, layers_of, part_of_frame};
 use savefile::PacketRef;
 use std::alloc::{AllocError, Global};
 
@@ -25,6 +26,21 @@ fn number_at(packet: &[u8], offset: usize, size: usize) -> Option<u64> {
     Some(number)
 }
 
+/// Appends the field that bytes belong to, and its number in words if it has some.
+fn put_field(
+    text: &mut String,
+    part: Option<FieldPart>,
+    number: Option<u64>,
+) -> Result<(), AllocError> {
+    let Some(part) = part else {
+        return Ok(());
+    };
+    match (part.notation(), number) {
+        (Notation::Hex, _) | (_, None) => write!(text, " ({part})"),
+        (notation, Some(number)) => write!(text, " ({part}: {})", Written { number, notation }),
+    }
+}
+
 /// Appends bytes that a test looked at.
 fn put_bytes(
     text: &mut String,
@@ -38,13 +54,14 @@ fn put_bytes(
         write!(text, "           ether[{offset}:{size}] ")?;
     }
     match number {
-        Some(number) => write!(text, "= {number:#x}\n"),
-        None => text.push_str("is not captured\n"),
+        Some(number) => write!(text, "= {number:#x}"),
+        None => text.push_str("is not captured"),
     }
 }
 
-/// Appends what a test looked at, each once.
+/// Appends what a test looked at, each once: bytes with the field that they belong to.
 fn put_looks(text: &mut String, looks: &[Look], packet: &PacketRef<'_>) -> Result<(), AllocError> {
+    let layers = layers_of(packet.bytes);
     for (at, look) in looks.iter().enumerate() {
         if looks[..at].contains(look) {
             continue;
@@ -52,7 +69,10 @@ fn put_looks(text: &mut String, looks: &[Look], packet: &PacketRef<'_>) -> Resul
         match *look {
             Look::Length => write!(text, "           len = {}\n", packet.len)?,
             Look::Bytes { offset, size } => {
-                put_bytes(text, offset, size, number_at(packet.bytes, offset, size))?
+                let number = number_at(packet.bytes, offset, size);
+                put_bytes(text, offset, size, number)?;
+                put_field(text, part_of_frame(layers, offset, size), number)?;
+                text.push('\n')?
             }
         }
     }

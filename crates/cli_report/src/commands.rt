@@ -7,10 +7,7 @@ use std::convert::AsStr;
 
 /// How to do what commands of other tools do, by the name that one may try.
 static WAYS: [(&str, &str); 23] = [
-    (
-        "count",
-        "to count packets: bpftap cut -c -s 0 -e EXPR IN /dev/null",
-    ),
+    ("count", COUNTS),
     (
         "filter",
         "to keep what a filter accepts: bpftap cut -s 0 -e EXPR IN OUT",
@@ -56,6 +53,9 @@ static WAYS: [(&str, &str); 23] = [
     ("count-packets", CONTENTS),
 ];
 
+/// How to count packets.
+const COUNTS: &str = "to count packets: bpftap explain -c -e EXPR IN";
+
 /// How to print what captures have.
 const CONTENTS: &str = "what captures have: bpftap info IN";
 
@@ -86,13 +86,10 @@ static OPTION_WAYS: [(&str, &str); 13] = [
     ),
     ("-i", "to capture: tcpdump -i INTERFACE -w OUT"),
     ("-y", "captures are of Ethernet here: leave this option out"),
-    (
-        "-c",
-        "to count packets: bpftap cut -c -s 0 -e EXPR IN /dev/null; explain prints the counts last",
-    ),
+    ("-c", COUNTS),
     (
         "-l",
-        "to name the captures that have such a packet: bpftap explain -q of each, as in RECIPES",
+        "to name the captures that have such a packet: bpftap explain -l -e EXPR IN",
     ),
     (
         "-v",
@@ -130,22 +127,16 @@ fn command_of<S: AsStr>(words: &[S]) -> Option<&str> {
     Some(words.get(1)?.as_str())
 }
 
-/// Hints on the name of a command that there is not, among the arguments with the program's name first.
-pub fn hint_command<S: AsStr, E: HintSink>(words: &[S], err: &mut E)
-    ensures quiet { E.takes_hints err.old ≡ false → err.new ≡ err.old }
-{
-    if let Some(name) = command_of(words) {
-        if let Some(way) = way_of(&WAYS, name) {
-            give_hint(way, err);
-        }
-    }
+/// How to do what the name of a command that there is not stands for in other tools, if that is known; the program's name comes first.
+pub fn command_way<S: AsStr>(words: &[S]) -> Option<&'static str> {
+    way_of(&WAYS, command_of(words)?)
 }
 
 /// Whether these are arguments of a command that has this option itself.
 fn takes_option<S: AsStr>(words: &[S], option: &str) -> bool {
     matches!(
         (command_of(words), option),
-        (Some("compare" | "cut"), "-w") | (Some("cut"), "-c")
+        (Some("compare" | "cut"), "-w") | (Some("cut" | "explain"), "-c") | (Some("explain"), "-l")
     )
 }
 
@@ -196,7 +187,10 @@ fn hint_missing_of_cut<S: AsStr, E: HintSink>(words: &[S], err: &mut E)
     if !words.iter().any(|word| word.as_str().starts_with("-s")) {
         give_hint("-s 0 keeps packets whole", err)
     } else if has_word(words, "-c") {
-        give_hint("to count only, give /dev/null as OUT", err)
+        give_hint(
+            "to count only: bpftap explain -c -e EXPR IN, or give /dev/null as OUT",
+            err,
+        )
     }
 }
 
@@ -207,7 +201,18 @@ pub fn hint_missing<S: AsStr, E: HintSink>(words: &[S], err: &mut E)
     if is_cut(words) {
         hint_missing_of_cut(words, err)
     } else if lacks_filter(words) {
-        give_hint("of every packet: bpftap explain -e '' IN", err)
+        give_hint(every_packet(words), err)
+    }
+}
+
+/// How `explain` is called with these arguments for every packet.
+fn every_packet<S: AsStr>(words: &[S]) -> &'static str {
+    if has_word(words, "-c") {
+        "of every packet: bpftap explain -c -e '' IN"
+    } else if has_word(words, "-l") {
+        "of every packet: bpftap explain -l -e '' IN"
+    } else {
+        "of every packet: bpftap explain -e '' IN"
     }
 }
 

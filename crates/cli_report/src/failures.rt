@@ -1,11 +1,12 @@
 //! Hints on the failures that readers and writers noted.
 
-ghost use Rattle.std.specs.Prelude.{◌≡◌, false};
+ghost use Rattle.std.specs.Prelude.{◌≡◌, ◌≤◌, false, length, None, slice_get, true};
+ghost use Rattle.line_text.specs.declared.form.LineForm.TheVariants.{Json};
 
 use crate::captures::hint_capture_fault;
 use crate::files::hint_reason;
 use crate::probe::{FailureProbe, ProbedInput};
-use crate::stream::{HintSink, give_hint};
+use crate::stream::{HintSink, give_hint, print_below};
 use cli_text::report::EscapedPath;
 use savefile::Fault;
 use std::io;
@@ -69,6 +70,22 @@ pub fn hint_input<R, E: HintSink>(source: &ProbedInput<R>, fault: Fault, err: &m
     match fault {
         Fault::Device => hint_device(&source.inner, err),
         _ => hint_capture_fault(source.inner.first(), fault, err),
+    }
+}
+
+/// Prints below the line of a fault the path of the n-th of several captures, from 0, which has it. Of a single capture it prints nothing,
+/// nor where hints are wanted: [`hint_source`] begins with the path.
+pub fn name_source<E: HintSink>(paths: &[&str], n: usize, err: &mut E) -> io::Result<()>
+    ensures single { length paths.now ≤ 1 → err.new ≡ err.old }
+    ensures none { slice_get paths.now n ≡ None → err.new ≡ err.old }
+    ensures hinted { E.takes_hints err.old ≡ true → err.new ≡ err.old }
+    ensures object { E.fault_form err.old ≡ Json → err.new ≡ err.old }
+{
+    match paths.get(n) {
+        Some(path) if paths.len() > 1 && !err.takes_hints() => {
+            print_below(EscapedPath(*path), err)
+        }
+        _ => Ok(()),
     }
 }
 

@@ -1,6 +1,6 @@
 //! `bpftap split`, over files.
 
-use crate::hints::{hint_frames, hint_split};
+use crate::hints::{counts_frames, hint_split};
 use crate::line::line_for;
 use crate::part::{Part, PartEnd};
 use crate::paths::{SplitOutput, check_paths, parts};
@@ -19,6 +19,7 @@ use cli_report::files::{LINES, hint_returns};
 use cli_report::stream::give_hint;
 use cli_text::Status;
 use cli_watch::captures::watched_inputs;
+use cli_watch::hints::report_unseen;
 use cli_watch::{Screen, Watch};
 use fault_report::reporting::{report_fault, report_memory};
 use line_text::LineForm;
@@ -115,7 +116,9 @@ fn split_plan<'r, R: Files + AllocGlobal + Screen, O: Write, E: HintSink>(
     let status = report_split(form, files, &end, &mut line, &mut out, err);
     hint_split(paths, lines.as_slice(), &end, err);
     hint_printed(out.get_ref(), err);
-    hint_frames(lines.as_slice(), watch.frames(), status, err);
+    if counts_frames(lines.as_slice()) {
+        let _ = report_unseen(watch.frames(), status, err);
+    }
     Ok(status)
 }
 
@@ -128,7 +131,9 @@ fn split_apart<R: Files + AllocGlobal + Screen, O: Write, E: HintSink>(
     err: &mut E,
 ) -> Result<Status, Status> {
     check_paths(rt, words, plan.lines.as_slice(), err)?;
-    let watch = Watch::new(rt, words.inputs.as_slice(), err.takes_hints());
+    let watch = Watch::new(rt, words.inputs.as_slice(), err.takes_hints()).counting(counts_frames(
+        plan.lines.as_slice(),
+    ));
     split_plan(rt, words, plan, &watch, out, err)
 }
 

@@ -7,10 +7,8 @@ use cli_report::HintSink;
 use cli_report::failures::{hint_failure, hint_source};
 use cli_report::probe::{ProbedInput, ProbedOutput};
 use cli_report::stream::give_hint;
-use cli_text::Status;
 use cli_text::report::EscapedPath;
-use cli_watch::frames::FrameCounts;
-use cli_watch::hints::{hint_unseen, is_asked};
+use cli_watch::hints::is_asked;
 use std::io::Write;
 
 /// Hints on a capture that was not written.
@@ -25,16 +23,9 @@ fn hint_part<W: Write + Drop, E: HintSink>(
     }
 }
 
-/// Hints on the frames of the captures that the expressions of the lines do not look into.
-pub(crate) fn hint_frames<E: HintSink>(
-    lines: &[SplitLine<'_>],
-    frames: FrameCounts,
-    status: Status,
-    err: &mut E,
-) {
-    if lines.iter().any(|line| is_asked(line.expression)) {
-        hint_unseen(frames, status, err);
-    }
+/// Whether it is reported into how many frames the expressions of the lines do not look.
+pub(crate) fn counts_frames(lines: &[SplitLine<'_>]) -> bool {
+    lines.iter().any(|line| is_asked(line.expression))
 }
 
 /// Hints on the captures that were not written, and on the one that ended the reading.

@@ -11,13 +11,15 @@ use crate::line::put_count;
 use crate::part::PartEnd;
 use crate::plan::SplitLine;
 use crate::split::{SplitEnd, Stop};
+use cli_report::HintSink;
+use cli_report::failures::name_source;
 use cli_text::Status;
 use cli_text::report::fault_status;
 use fault_report::FaultSink;
 use fault_report::captures::output_fault;
 use fault_report::reporting::{report_fault, report_nth_capture, report_output};
-use line_text::LineForm;
 use line_text::sending::send;
+use line_text::{LineForm, LineForm};
 use std::io;
 use std::io::Write;
 
@@ -123,21 +125,23 @@ fn report_parts<W, E: FaultSink>(
     status
 }
 
-/// Reports what ended the reading, if something did, and returns the exit status.
-fn report_stop<E: FaultSink>(end: Result<(), Stop>, paths: &[&str], err: &mut E) -> Status
+/// Reports what ended the reading, if something did, and of several captures which one, and returns the exit status.
+fn report_stop<E: HintSink>(end: Result<(), Stop>, paths: &[&str], err: &mut E) -> Status
     ensures { result ≡ stop_status end }
 {
     match end {
         Ok(()) => Status::Clean,
         Err(Stop::AtHeader(n, fault) | Stop::AtRecord(n, fault)) => {
-            report_nth_capture(fault, n, paths, err)
+            let status = report_nth_capture(fault, n, paths, err);
+            let _ = name_source(paths, n, err);
+            status
         }
     }
 }
 
 /// Reports the OUT of each part that was not written whole, and what ended the reading, and returns the greatest of their statuses, as
 /// [`report_split`] does.
-pub fn report_faults<R, W, E: FaultSink>(
+pub fn report_faults<R, W, E: HintSink>(
     files: SplitFiles<'_, '_, '_, '_>,
     end: &SplitEnd<R, W>,
     err: &mut E,
@@ -159,7 +163,7 @@ pub fn report_faults<R, W, E: FaultSink>(
 /// `out` took exactly these lines, or a prefix of them if it failed; then the status is [`Status::Failed`]. The status of a part is that of
 /// its fault, [`Status::Failed`] if its sink failed. So is that of a capture: [`Status::Failed`] if its source failed, and
 /// [`Status::Damaged`] for the fault of a record.
-pub fn report_split<R, W, O: Write, E: FaultSink>(
+pub fn report_split<R, W, O: Write, E: HintSink>(
     form: LineForm,
     files: SplitFiles<'_, '_, '_, '_>,
     end: &SplitEnd<R, W>,

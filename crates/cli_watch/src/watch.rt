@@ -36,6 +36,14 @@ impl<'r, R: Files + Screen> Watch<'r, R> {
             progress,
         }
     }
+
+    /// The same, whose frames are counted too if that is wanted, whether hints are or not.
+    pub fn counting(self, is_wanted: bool) -> Watch<'r, R> {
+        Watch {
+            is_wanted: self.is_wanted || is_wanted,
+            ..self
+        }
+    }
 }
 
 impl<'r, R: Screen> Watch<'r, R> {

@@ -11,12 +11,13 @@ use crate::addresses::{
 };
 use crate::colons::{Endpoint, of_colon_range, of_endpoint};
 use crate::display_filters::{of_dots, of_flag, of_service, of_text};
-use crate::left_sides::of_left_side;
+use crate::left_sides::of_sign;
 use crate::nearest::in_small_letters;
 use crate::other_words::{
     of_every_packet, of_ip_broadcast, of_left_out, of_other_word, of_sctp, of_value,
 };
 use crate::spots::{PROTO, Spot, first_word, without_blanks, without_last_word};
+use crate::values::of_comparison;
 use filtergen_facts::Refusal;
 use filterlang::Fault;
 use std::alloc::{AllocError, Global};
@@ -36,6 +37,9 @@ const ETHERNET_TYPE: &str =
 
 /// The word that two ports follow.
 pub(crate) const PORTRANGE: &[u8] = b"portrange";
+
+/// What is said of one number after `portrange`.
+const TWO_PORTS: &str = "a portrange is two numbers with `-` between: `portrange 20-30`";
 
 /// What is said of an expression whose program is too long.
 const LONG_PROGRAM: &str =
@@ -72,6 +76,10 @@ pub enum Advice<'a> {
     Range(&'a [u8], &'a [u8]),
     /// The left side that a comparison lacks, its sign, and the comparison from there on.
     LeftSide(&'a [u8], &'a [u8], &'a [u8]),
+    /// A value between two comparisons, and the second of these.
+    Chain(&'a [u8], &'a [u8]),
+    /// What is written for a word, after an `and` that lacks before it.
+    Joined(&'static str, &'a [u8]),
     /// An expression whose program is too long; libpcap's compiler may find a shorter one.
     LongProgram,
 }
@@ -177,6 +185,15 @@ impl Display for Advice<'_> {
                 Shown(*value),
                 Shown(*comparison)
             ),
+            Advice::Chain(value, comparison) => write!(
+                f,
+                "a comparison has two sides: write `and {} {}`",
+                Shown(*value),
+                Shown(*comparison)
+            ),
+            Advice::Joined(written, word) => {
+                write!(f, "write `and {written}` for `{}`", Shown(*word))
+            }
             Advice::Service(written, word) => write!(
                 f,
                 "`{}` is no word of the language: its usual port is `{written}`",
@@ -340,6 +357,8 @@ fn operand_at(spot: Spot<'_>) -> Option<&'static str> {
         Some("write an address after `net`, as in `net 192.0.2.0/24`")
     } else if last == PROTO && spot.second_last() == ETHER {
         Some(ETHERNET_TYPE)
+    } else if spot.second_last() == PORTRANGE && !last.contains(&b'-') {
+        Some(TWO_PORTS)
     } else if last == PROTO {
         Some(
             "write a number after `proto`, as in `proto 17`, or a name with a backslash, as in `proto \\udp`",
@@ -375,16 +394,6 @@ fn of_joint<'a>(alloc: Global, spot: Spot<'a>) -> Found<'a> {
     }
 }
 
-/// What helps at the end of a value that nothing compares, as `ip[6] & 0x20`, if the text is an expression with this comparison there.
-fn of_comparison<'a>(alloc: Global, spot: Spot<'a>, comparison: &str) -> Found<'a> {
-    match spot.before_word() {
-        Some(gap) if gap.is_whole_with(alloc, comparison)? => Ok(Some(Advice::Said(
-            "a value has to be compared: write `!= 0` after it, or what it is to be",
-        ))),
-        _ => Ok(None),
-    }
-}
-
 /// What helps at a token after which, or before which, something is written otherwise here.
 fn of_other_form<'a>(alloc: Global, spot: Spot<'a>) -> Found<'a> {
     if let Some(advice) = of_comparison(alloc, spot, "!= 0 ")? {
@@ -413,7 +422,7 @@ fn of_missing_part<'a>(alloc: Global, spot: Spot<'a>) -> Found<'a> {
     if let Some(advice) = of_colon_range(alloc, spot)? {
         return Ok(Some(advice));
     }
-    of_left_side(alloc, spot)
+    of_sign(alloc, spot)
 }
 
 /// What helps at a token with which no expression can go on.
@@ -443,13 +452,9 @@ fn of_syntax<'a>(alloc: Global, spot: Spot<'a>) -> Result<Advice<'a>, AllocError
 
 /// What is said of an expression that ends too early.
 fn said_at_end(spot: Spot<'_>) -> &'static str {
-    if spot.second_last() == PORTRANGE {
-        "a portrange is two numbers with `-` between: `portrange 20-30`"
-    } else {
-        operand_at(spot).unwrap_or(
-            "the expression ends too early: `and`, `or` and `not` need a term, and each `(` a `)`",
-        )
-    }
+    operand_at(spot).unwrap_or(
+        "the expression ends too early: `and`, `or` and `not` need a term, and each `(` a `)`",
+    )
 }
 
 /// What helps at an identifier that has no qualifier.

@@ -414,11 +414,32 @@ pub(crate) fn of_text<'a>(spot: Spot<'a>) -> Option<Advice<'a>> {
     }
 }
 
+/// The flag that a word names, in small letters or in capitals.
+fn flag_named(word: &[u8]) -> Option<&'static Flag> {
+    FLAGS.iter().find(|flag| flag
+        .words
+        .iter()
+        .any(|name| name.eq_ignore_ascii_case(word)))
+}
+
 /// What helps at the name of a flag of TCP.
 pub(crate) fn of_flag<'a>(alloc: Global, spot: Spot<'a>) -> Found<'a> {
-    let word = spot.word();
-    match FLAGS.iter().find(|flag| flag.words.contains(&word)) {
-        Some(flag) if !spot.has_backslash() => of_written(alloc, spot, flag.written),
+    match flag_named(spot.word()) {
+        Some(flag) if !spot.has_backslash() => of_named_flag(alloc, spot, flag.written),
+        _ => Ok(None),
+    }
+}
+
+/// What helps at the name of a flag that is asked for so: that, or that after an `and`.
+fn of_named_flag<'a>(alloc: Global, spot: Spot<'a>, written: &'static str) -> Found<'a> {
+    if let Some(advice) = of_written(alloc, spot, written)? {
+        return Ok(Some(advice));
+    }
+    let joined = format!(in alloc; "and {written}")?;
+    match spot.without_name() {
+        Some(gap) if gap.takes(alloc, joined.as_str())? => {
+            Ok(Some(Advice::Joined(written, spot.word())))
+        }
         _ => Ok(None),
     }
 }

@@ -1,26 +1,13 @@
-//! What helps at a comparison that lacks its left side, as `len > 60 and <100`.
+//! What helps at a comparison that lacks its left side, as `len > 60 and <100` and `60 < len < 100`.
 
 use crate::advice::{Advice, Found};
-use crate::spots::{Spot, after_blanks, first_word, last_word, without_blanks};
+use crate::spots::{Spot, after_blanks, first_word, without_blanks};
+use crate::terms::{is_constant, is_of_comparison, last_value, without_joint};
 use std::alloc::Global;
 use visible_text::Shown;
 
 /// A longer value is not written out.
 const MAX_VALUE: usize = 40;
-
-/// Words that join two terms.
-static JOINING_WORDS: [&[u8]; 2] = [b"and", b"or"];
-
-/// Signs that join two terms.
-static JOINING_SIGNS: [&[u8]; 2] = [b"&&", b"||"];
-
-/// What comes right before a term.
-static BEFORE_TERMS: [&[u8]; 5] = [b" and ", b" or ", b"&&", b"||", b"("];
-
-/// Whether a byte is one of a sign that compares.
-fn is_of_comparison(byte: &u8) -> bool {
-    matches!(*byte, b'<' | b'>' | b'=' | b'!')
-}
 
 /// The sign at the front of a text that compares; nothing if none is there.
 fn sign_at(text: &[u8]) -> &[u8] {
@@ -31,37 +18,13 @@ fn sign_at(text: &[u8]) -> &[u8] {
     &text[..end]
 }
 
-/// A text without what joins it to a next term; nothing if nothing does.
-fn without_joint(text: &[u8]) -> Option<&[u8]> {
-    let text = without_blanks(text);
-    let word = last_word(text);
-    if JOINING_WORDS.contains(&word) {
-        return text.strip_suffix(word);
+/// A value that can be written again: it differs from packet to packet, and is not long.
+fn written_again(value: &[u8]) -> Option<&[u8]> {
+    if value.is_empty() || value.len() > MAX_VALUE || is_constant(value) {
+        None
+    } else {
+        Some(value)
     }
-    for sign in JOINING_SIGNS.iter() {
-        if let Some(before) = text.strip_suffix(*sign) {
-            return Some(before);
-        }
-    }
-    None
-}
-
-/// How many bytes at the front of a text come before a term there; nothing if no term begins after them.
-fn joint_len(text: &[u8]) -> Option<usize> {
-    let joint = BEFORE_TERMS.iter().find(|joint| text.starts_with(**joint))?;
-    Some(joint.len())
-}
-
-/// The last term in a text, up to its end.
-fn last_term(text: &[u8]) -> &[u8] {
-    let mut term = text;
-    for at in 0..text.len() {
-        let rest = &text[at..];
-        if let Some(len) = joint_len(rest) {
-            term = rest.get(len..).unwrap_or(&[]);
-        }
-    }
-    term
 }
 
 /// The left side of the last comparison in a text.
@@ -69,12 +32,13 @@ fn last_left_side(text: &[u8]) -> Option<&[u8]> {
     let sign = text.iter().rposition(is_of_comparison)?;
     let before = text.get(..sign)?;
     let end = before.iter().rposition(|byte| !is_of_comparison(byte))?;
-    let value = after_blanks(without_blanks(last_term(before.get(..end + 1)?)));
-    if value.is_empty() || value.len() > MAX_VALUE {
-        None
-    } else {
-        Some(value)
-    }
+    written_again(last_value(before.get(..end + 1)?))
+}
+
+/// The right side of the last comparison in a text, which ends with it.
+fn last_right_side(text: &[u8]) -> Option<&[u8]> {
+    let sign = text.iter().rposition(is_of_comparison)?;
+    written_again(after_blanks(without_blanks(text.get(sign + 1..)?)))
 }
 
 /// A comparison at the front of a text, up to the number or the word after its sign.
@@ -90,19 +54,42 @@ fn comparison_at<'a>(text: &'a [u8], sign: &[u8]) -> &'a [u8] {
 }
 
 /// What helps at the sign of a comparison right after what joins two terms: the left side of the comparison before it, written again.
-pub(crate) fn of_left_side<'a>(alloc: Global, spot: Spot<'a>) -> Found<'a> {
-    let sign = sign_at(spot.rest());
+fn of_left_side<'a>(alloc: Global, spot: Spot<'a>, sign: &'a [u8]) -> Found<'a> {
     let Some(value) = without_joint(spot.before()).and_then(last_left_side) else {
         return Ok(None);
     };
-    let Some(gap) = spot.before_word() else {
+    let written = format!(in alloc; "{} ", Shown(value))?;
+    match spot.before_word() {
+        Some(gap) if gap.takes(alloc, written.as_str())? => {
+            let comparison = comparison_at(spot.rest(), sign);
+            Ok(Some(Advice::LeftSide(value, sign, comparison)))
+        }
+        _ => Ok(None),
+    }
+}
+
+/// What helps at the second sign of a value between two, as `60 < len < 100`: `and`, and the value written again.
+fn of_chain<'a>(alloc: Global, spot: Spot<'a>, sign: &'a [u8]) -> Found<'a> {
+    let Some(value) = last_right_side(spot.before()) else {
         return Ok(None);
     };
-    let written = format!(in alloc; "{} ", Shown(value))?;
-    if !sign.is_empty() && gap.takes(alloc, written.as_str())? {
-        let comparison = comparison_at(spot.rest(), sign);
-        Ok(Some(Advice::LeftSide(value, sign, comparison)))
-    } else {
-        Ok(None)
+    let written = format!(in alloc; " and {} ", Shown(value))?;
+    match spot.before_word() {
+        Some(gap) if gap.takes(alloc, written.as_str())? => {
+            Ok(Some(Advice::Chain(value, comparison_at(spot.rest(), sign))))
+        }
+        _ => Ok(None),
+    }
+}
+
+/// What helps at the sign of a comparison that lacks its left side.
+pub(crate) fn of_sign<'a>(alloc: Global, spot: Spot<'a>) -> Found<'a> {
+    let sign = sign_at(spot.rest());
+    if sign.is_empty() {
+        return Ok(None);
+    }
+    match of_left_side(alloc, spot, sign)? {
+        Some(advice) => Ok(Some(advice)),
+        None => of_chain(alloc, spot, sign),
     }
 }

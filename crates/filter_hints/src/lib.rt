@@ -11,6 +11,8 @@ mod nearest;
 mod other_words;
 mod spots;
 mod suggestions;
+mod terms;
+mod values;
 
 pub use advice::{Advice, ByLibpcap, advise, advise_refusal};
 pub use colons::Endpoint;

@@ -116,10 +116,18 @@ struct OtherWord {
     written: &'static str,
 }
 
-static OTHER_WORDS: [OtherWord; 4] = [
+static OTHER_WORDS: [OtherWord; 6] = [
     OtherWord {
         word: b"length",
         written: "len",
+    },
+    OtherWord {
+        word: b"dport",
+        written: "dst port",
+    },
+    OtherWord {
+        word: b"sport",
+        written: "src port",
     },
     OtherWord {
         word: b"ttl",
