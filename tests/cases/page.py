@@ -476,7 +476,7 @@ PAIRS = [
     ("ip", "ip and greater 14", "same as captured", "Same as captured: both accept the same packets, unless a packet has more bytes captured than it had on the wire."),
     ("port 80 or 8080", "port 8080 or 80", "differ only where one aborts", "Short: one accepts this packet, and the other one aborts; the lines below say why."),
     ("tcp", "tcp portrange 0-65535", "differ", "Differ: one accepts this packet, and the other one does not."),
-    ("ip[8] < ip[9]", "ip[9] > ip[8]", "not decided: a relation", "Not decided. A relation, as ip[8] < 5, is not decided."),
+    ("ip[8] < ip[9]", "ip[9] > ip[8]", "same", "Same: both accept the same packets, of all that there can be."),
 ]
 
 

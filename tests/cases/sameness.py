@@ -212,13 +212,14 @@ def a_listing_of_another_expression_differs(scene):
 
 @case
 def what_is_not_decided_is_status_5(scene):
-    """A program that calculates is not decided, nor arithmetic; -q prints nothing; a fault goes before the answer."""
-    scene.start({"ip.bpf": IP, "sum.bpf": "4\n128 0 0 0\n4 0 0 1\n21 0 0 5\n6 0 0 1\n"})
+    """A product of two addresses is too much; -q prints nothing; a fault goes before the answer."""
+    product = "5\n32 0 0 26\n7 0 0 0\n32 0 0 30\n44 0 0 0\n22 0 0 0\n"
+    scene.start({"ip.bpf": IP, "product.bpf": product})
     before = scene.files()
-    scene.expect("compare -f sum.bpf ip", 5, out="not decided: a relation\n")
-    scene.expect("compare -q -f sum.bpf ip", 5)
-    scene.expect("compare -w out.pcap -f sum.bpf ip", 5, out="not decided: a relation\n")
-    scene.expect("compare 'len - 14 = 100' 'len = 114'", 5, out="not decided: a relation\n")
+    much = "not decided: it takes more than 2000000 nodes\n"
+    scene.expect("compare -f product.bpf 'ether[26:4] * ether[30:4] != 0'", 5, out=much)
+    scene.expect("compare -q -f product.bpf 'ether[26:4] * ether[30:4] != 0'", 5)
+    scene.expect("compare -w out.pcap -f product.bpf 'ether[26:4] * ether[30:4] != 0'", 5, out=much)
     scene.check("no packet", scene.files(), before)
     scene.expect("compare ip arp", 3, fault_lines("Device standard output"), streams=">/dev/full")
     scene.expect("compare -f ip.bpf ip", 3, fault_lines("Device standard output"), streams=">/dev/full")

@@ -20,7 +20,7 @@ pub struct BpftapComparison {
     pub number: u32,
     /// 0 Same, 1 SameAsCaptured, 2 Short, 3 Differ, 4 NotDecided.
     pub answer: u32,
-    /// Why nothing is claimed: 1 Graphs, 2 Budget, 3 Relation; 0 with any other answer.
+    /// Why nothing is claimed: 1 Graphs, 2 Budget, also for an expression of too many levels; 0 with any other answer. Earlier versions had 3.
     pub cause: u32,
     /// The length on the wire of the packet that shows the answer.
     pub wire: u32,
@@ -57,7 +57,7 @@ fn cause_code(sameness: &Sameness) -> u32
     match sameness {
         Sameness::NotDecided(Cause::Graphs) => 1,
         Sameness::NotDecided(Cause::Budget) => 2,
-        Sameness::NotDecided(Cause::Relation) => 3,
+        Sameness::NotDecided(Cause::Levels) => 2,
         _ => 0,
     }
 }

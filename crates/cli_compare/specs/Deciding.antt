@@ -7,7 +7,7 @@ use Rattle.filterlang.specs.Trees.{tree_of}
 use Rattle.filter_meaning.specs.Meaning.{Packet as Frame, Test, accepts, meaning}
 use Rattle.filter_explain.specs.Deciding.{verdict_text}
 use Rattle.filter_same.specs.declared.sameness.Cause.{Cause}
-use Rattle.filter_same.specs.declared.sameness.Cause.TheVariants.{Graphs, Budget, Relation}
+use Rattle.filter_same.specs.declared.sameness.Cause.TheVariants.{Graphs, Budget, Levels}
 use Rattle.filter_same.specs.declared.sameness.Sameness.{Sameness}
 use Rattle.filter_same.specs.declared.sameness.Sameness.TheVariants.{Same, SameAsCaptured, Short, Differ, NotDecided}
 use Rattle.filter_same.specs.declared.witness.Witness.{Witness}
@@ -30,7 +30,7 @@ use Rattle.cli_compare.specs.Pairs.{Difference}
 abbrev pub cause_text : ℕ → Cause → List ℕ
 cause_text budget Graphs = codes "no packet was found that shows a difference"
 cause_text budget Budget = codes "it takes more than " ++ decimal budget ++ codes " nodes"
-cause_text budget Relation = codes "a relation"
+cause_text budget Levels = codes "an expression has too many levels"
 
 -- the line of the answer
 abbrev pub answer_line : ℕ → Sameness → List ℕ

@@ -25,7 +25,7 @@ fn put_cause(text: &mut String, budget: usize, cause: Cause) -> Result<(), Alloc
     match cause {
         Cause::Graphs => text.push_str("no packet was found that shows a difference"),
         Cause::Budget => write!(text, "it takes more than {budget} nodes"),
-        Cause::Relation => text.push_str("a relation"),
+        Cause::Levels => text.push_str("an expression has too many levels"),
     }
 }
 
