@@ -10,37 +10,39 @@ use cli_files::paths::{Opening, STANDARD_OUTPUT, refuse_shared_files};
 use cli_parts::input::{OpenPart, open_part};
 use cli_parts::line::print_part;
 use cli_report::HintSink;
+use cli_report::probe::{ProbedInput, ProbedOutput};
 use cli_text::Status;
 use cli_watch::{Screen, Watch};
 use fault_report::reporting::report_output;
 use line_text::LineForm;
 use pcap_parts::part::PartCut;
 use std::fs::Files;
-use std::io::Write;
+use std::io::{Read, Write};
+
+/// What a cut of a part needs: the range, how many bytes the whole capture has, and what a cut needs.
+struct PartJob<I, O> {
+    bytes: ByteRange,
+    size: u64,
+    job: Job<I, O>,
+}
 
 /// Cuts a part, prints its line if the part was read to its end or to a torn or bad record and all was written, and reports how that ended.
-fn cut_part<'r, R: Files + AllocGlobal + Screen, O: Write, E: HintSink>(
-    rt: &'r R,
+fn cut_and_print<
+    F: Files + AllocGlobal + Screen,
+    R: Read + Drop,
+    W: Write + Drop,
+    O: Write,
+    E: HintSink,
+>(
+    rt: &F,
     words: &CutWords<'_>,
     path: &str,
-    bytes: ByteRange,
-    watch: &Watch<'r, R>,
+    part: PartJob<ProbedInput<R>, ProbedOutput<W>>,
     out: &mut O,
     err: &mut E,
-) -> Result<Status, Status> {
-    let program = read_filter(rt, words, err)?;
-    let read = [words.listing.unwrap_or(path), path];
-    let printed = Some(STANDARD_OUTPUT);
-    refuse_shared_files(rt, Opening::First, printed, &read, &[words.output], err)?;
-    let OpenPart { input, size } = open_part(rt, path, bytes, watch, err)?;
-    let output = late_output(rt, words.output, err)?;
-    let job = Job {
-        program,
-        input,
-        output,
-    };
+) -> Status {
+    let PartJob { bytes, size, job } = part;
     let end = cut_job(rt.alloc(), words, job);
-    watch.erase();
     let part = PartCut::of(bytes.first, bytes.end, size, words.output, &end);
     let printed = match &part {
         Some(part) => report_output(&print_part(rt.alloc(), part, out), err),
@@ -50,7 +52,32 @@ fn cut_part<'r, R: Files + AllocGlobal + Screen, O: Write, E: HintSink>(
     if words.counted {
         let _ = report_count(&end, LineForm::asked(words.json), err);
     }
-    Ok(status.max(printed))
+    status.max(printed)
+}
+
+/// Accepts the filter, compares the paths, and opens the part, in this order; then cuts it.
+fn cut_part<'r, R: Files + AllocGlobal + Screen, O: Write, E: HintSink>(
+    rt: &'r R,
+    words: &CutWords<'_>,
+    path: &str,
+    bytes: ByteRange,
+    out: &mut O,
+    err: &mut E,
+) -> Result<Status, Status> {
+    let watch = Watch::new(rt, &[], err.takes_hints());
+    let program = read_filter(rt, words, err)?;
+    let read = [words.listing.unwrap_or(path), path];
+    let printed = Some(STANDARD_OUTPUT);
+    refuse_shared_files(rt, Opening::First, printed, &read, &[words.output], err)?;
+    let OpenPart { input, size } = open_part(rt, path, bytes, &watch, err)?;
+    let output = late_output(rt, words.output, err)?;
+    let job = Job {
+        program,
+        input,
+        output,
+    };
+    let part = PartJob { bytes, size, job };
+    Ok(cut_and_print(rt, words, path, part, out, err))
 }
 
 /// `bpftap cut --bytes`: the filter is accepted, and the paths are compared, before IN is opened, which is a regular file. OUT is made at its
@@ -62,11 +89,10 @@ pub fn cut_part_command<R: Files + AllocGlobal + Screen, O: Write, E: HintSink>(
     out: &mut O,
     err: &mut E,
 ) -> Status {
-    let watch = Watch::new(rt, &[], err.takes_hints());
     let Some(path) = words.inputs.first() else {
         return Status::Refused;
     };
-    match cut_part(rt, words, *path, bytes, &watch, out, err) {
+    match cut_part(rt, words, *path, bytes, out, err) {
         Ok(status) | Err(status) => status,
     }
 }
