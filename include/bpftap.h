@@ -281,8 +281,8 @@ enum bpftap_sameness {
 /* Why nothing is claimed. */
 enum bpftap_cause {
     BPFTAP_GRAPHS = 1,  /* their decision graphs differ, and no packet was found that shows how they do */
-    BPFTAP_BUDGET = 2,  /* the budget is spent, or an expression has more than 1,000 levels */
-    BPFTAP_RELATION = 3 /* one of them has a relation of a kind that is not decided, as `ip[8] < len` */
+    BPFTAP_BUDGET = 2,  /* the budget is spent, or an expression has more than 1,000 levels, or a value of it more than 64 */
+    BPFTAP_RELATION = 3 /* no call gives it since 2.3.0: versions before did not decide some kinds of relations */
 };
 
 struct bpftap_comparison {

@@ -32,9 +32,9 @@ type Cause int
 const (
 	// Graphs: the decision graphs differ, and no packet was found that shows how the expressions do.
 	Graphs Cause = C.BPFTAP_GRAPHS
-	// Budget: the budget is spent.
+	// Budget: the budget is spent, or an expression has too many levels.
 	Budget Cause = C.BPFTAP_BUDGET
-	// Relation: one of the expressions has a relation.
+	// Relation: no call returns it since 2.3.0.
 	Relation Cause = C.BPFTAP_RELATION
 )
 

@@ -20,7 +20,7 @@ const ANSWERS = [
   "Differ: one accepts this packet, and the other one does not.",
   "Not decided.",
 ];
-const CAUSES = ["", "No packet was found that shows a difference.", "It would take too much memory.", "A relation, as ip[8] < 5, is not decided."];
+const CAUSES = ["", "No packet was found that shows a difference.", "It would take too much memory."];
 
 export class ComparisonView {
   /**

@@ -25,8 +25,8 @@ class Sameness(enum.IntEnum):
 
 
 class Cause(enum.IntEnum):
-    """Why nothing is claimed: the decision graphs differ, and no packet was found that shows how the expressions do; the budget is spent;
-    one of the expressions has a relation."""
+    """Why nothing is claimed: the decision graphs differ, and no packet was found that shows how the expressions do; the budget is spent, or
+    an expression has too many levels. RELATION is not given since 2.3.0."""
     GRAPHS = 1
     BUDGET = 2
     RELATION = 3

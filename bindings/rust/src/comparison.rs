@@ -8,9 +8,9 @@ use crate::{ffi, Error, Fault};
 pub enum Cause {
     /// The decision graphs differ, and no packet was found that shows how the expressions do.
     Graphs,
-    /// The budget is spent.
+    /// The budget is spent, or an expression has too many levels.
     Budget,
-    /// One of the expressions has a relation.
+    /// No call returns it since 2.3.0.
     Relation,
 }
 
