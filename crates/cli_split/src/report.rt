@@ -18,8 +18,8 @@ use cli_text::report::fault_status;
 use fault_report::FaultSink;
 use fault_report::captures::output_fault;
 use fault_report::reporting::{report_fault, report_nth_capture, report_output};
+use line_text::LineForm;
 use line_text::sending::send;
-use line_text::{LineForm, LineForm};
 use std::io;
 use std::io::Write;
 
