@@ -1,5 +1,8 @@
 //! The run whose way is marked.
 
+ghost use Rattle.std.specs.Prelude.{◌≡◌, true};
+ghost use Rattle.savefile.specs.Reader.{Lends};
+
 use bpfvm::{Executed, Program, trace};
 use cli_args::check::PacketWords;
 use cli_report::HintSink;
@@ -17,7 +20,9 @@ use std::fs::Files;
 use std::io::Read;
 
 /// Goes on to the packet at a place: `Ok(false)` if there is none.
-fn go_to<R: Source>(reader: &mut Reader<R>, place: u64) -> Result<bool, Fault> {
+fn go_to<R: Source>(reader: &mut Reader<R>, place: u64) -> Result<bool, Fault>
+    ensures { result ≡ Ok true → Lends reader.new }
+{
     for _ in 0..place {
         if !reader.advance()? {
             return Ok(false);
