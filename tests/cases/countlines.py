@@ -51,8 +51,9 @@ def both(scene, command, words):
     written = outputs(scene)
     objects = scene.run([command, "--json", *words])
     lines = [facts_of(line) for line in text.out.decode().splitlines()]
-    faults = [fault_of(line) for line in text.err.decode().splitlines()]
-    seen = [(one["fault"], one["numbers"]) for one in parsed(objects.err)]
+    faults = [fault_of(line) for line in text.err.decode().splitlines() if line.startswith("bpftap: ")]
+    # Beside the faults an object may say how many frames no filter looks into.
+    seen = [(one["fault"], one["numbers"]) for one in parsed(objects.err) if "fault" in one]
     return (lines, faults, text.status, written), (parsed(objects.out), seen, objects.status, outputs(scene))
 
 
