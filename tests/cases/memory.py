@@ -94,10 +94,10 @@ def sweep(scene, commands, which):
             yield words, one.result()
 
 
-# Out of memory, for printing and for a capture; of an expression of `compare` with a line that names it. With `--json` it is an object; that of a
+# Out of memory, for printing and for a capture; of an expression of `compare`, and of one of several captures, with a line that names it. With `--json` it is an object; that of a
 # capture is a line if there is no memory for an object.
 WANTING = rb'bpftap: NoMemory\n(?:  EXPR[12]:\n)?|{"fault":"NoMemory","numbers":\[\]}\n'
-WANTING_CAPTURE = rb'bpftap: Capture \d+ NoMemory\n|{"fault":"Capture NoMemory","numbers":\[\d+\],"file":"in.pcap"}\n'
+WANTING_CAPTURE = rb'bpftap: Capture \d+ NoMemory\n(?:  in.pcap\n)?|{"fault":"Capture NoMemory","numbers":\[\d+\],"file":"in.pcap"}\n'
 
 
 def is_wanting(seen):
