@@ -249,7 +249,7 @@ def look_at_packet(visit):
     visit.check_has("all counted", "counts", "253 packets: 120 Yes, 133 No, 0 Abort")
     visit.check("how it was read", "tcp port 8080 or tcp port 443" in visit.text("canonical"), True)
     explained = visit.scene.run(["explain", "-p", "123", "-e", "tcp port 8080 or 443", VETH]).out.decode()
-    wanted = {tuple(found.groups()) for found in re.finditer(r"^ +(ether\[[\d:]+\]) = (0x[0-9a-f]+)$", explained, re.M)}
+    wanted = {tuple(found.groups()) for found in re.finditer(r"^ +(ether\[[\d:]+\]) = (0x[0-9a-f]+)(?: \(.*\))?$", explained, re.M)}
     rows = visit.run("return [...document.querySelectorAll('#looks tr')].map((row) => [...row.cells].map((cell) => cell.textContent))")
     visit.check("bytes that the filter looked at", {tuple(row[:2]) for row in rows}, wanted)
     visit.check("a port's name", ["ether[36:2]", "0x1f90", "destination port: 8080"] in rows, True)
