@@ -1,6 +1,6 @@
 //! What a savefile is read from and written to.
 
-ghost use Rattle.std.specs.Prelude.{◌≡◌, ℕ, List, Option, None, Some, ◌<◌, ◌≤◌, length, IfOk};
+ghost use Rattle.std.specs.Prelude.{◌≡◌, ℕ, List, [], Option, None, Some, ◌<◌, ◌≤◌, length, IfOk};
 ghost use Rattle.std.specs.Io.KnownBytes.{Keeps, ReadConsumes, WriteAppends};
 ghost use Rattle.savefile.specs.Device.{CountsFailure};
 
@@ -32,6 +32,9 @@ pub trait Sink {
     /// The bytes taken so far, if the type knows them.
     ghost taken: { Self → Option (List ℕ) } = { λ _. None };
 
+    /// Which of several sinks it is. No call changes that.
+    ghost name: { Self → List ℕ } = { λ _. [] };
+
     /// How often it failed so far, modulo 2^64.
     ghost failures: { Self → ℕ };
 
@@ -41,6 +44,7 @@ pub trait Sink {
         ensures count { IfOk result (λ n. n ≤ length from.now) }
         ensures progress { IfOk result (λ n. 0 < length from.now → 0 < n) }
         ensures bytes { WriteAppends (taken self.old) (taken self.new) result from.now }
+        ensures named { name self.new ≡ name self.old }
         ensures failures { CountsFailure (failures self.old) (failures self.new) result };
 
     /// Hands on what a sink that gathers has gathered; another sink does nothing. What can't be handed on stays
@@ -49,6 +53,7 @@ pub trait Sink {
     fn flush(&mut self)
         ensures bytes { Keeps (taken self.old) (taken self.new) }
         ensures failures { failures self.new ≡ failures self.old }
+        ensures named { name self.new ≡ name self.old }
     {}
 }
 

@@ -131,6 +131,7 @@ impl<W: Sink> Writer<W> {
         ensures err { OnErr result.1 (HasWrittenPart W.taken (W.taken sink) order unit snap [] result.0) }
         ensures device { (result.1 ≡ Err Fault.Device) ↔ (W.failures result.0.sink ≢ W.failures sink) }
         ensures only { IfErr result.1 (λ fault. fault ≡ Fault.Device) }
+        ensures named { W.name result.0.sink ≡ W.name sink }
     {
         let mut writer = Writer {
             sink,
@@ -151,6 +152,7 @@ impl<W: Sink> Writer<W> {
         ensures err { OnErr result (SendsPart W.taken self.old self.new bytes.now) }
         ensures only { IfErr result (λ fault. fault ≡ Fault.Device) }
         ensures failures { CountsFailure (W.failures self.old.sink) (W.failures self.new.sink) result }
+        ensures named { W.name self.new.sink ≡ W.name self.old.sink }
     {
         if bytes.is_empty() {
             return Ok(());
@@ -179,6 +181,7 @@ impl<W: Sink> Writer<W> {
         ensures err { OnErr result (SendsPart W.taken self.old self.new bytes.now) }
         ensures only { IfErr result (λ fault. fault ≡ Fault.Device) }
         ensures failures { CountsFailure (W.failures self.old.sink) (W.failures self.new.sink) result }
+        ensures named { W.name self.new.sink ≡ W.name self.old.sink }
     {
         let mut rest = bytes;
         while !rest.is_empty() {
@@ -204,6 +207,7 @@ impl<W: Sink> Writer<W> {
         ensures err { OnErr result (SendsPart W.taken self.old self.new (header.now ++ bytes.now)) }
         ensures only { IfErr result (λ fault. fault ≡ Fault.Device) }
         ensures failures { CountsFailure (W.failures self.old.sink) (W.failures self.new.sink) result }
+        ensures named { W.name self.new.sink ≡ W.name self.old.sink }
     {
         self.send(header)?;
         self.send(bytes)
@@ -232,6 +236,7 @@ impl<W: Sink> Writer<W> {
 
         // What the sink took before stays.
         ensures grows { self.old.sent ≤ self.new.sent }
+        ensures named { W.name self.new.sink ≡ W.name self.old.sink }
 
         // When each error comes, and no other.
         ensures device { (result ≡ Err Fault.Device) ↔ (W.failures self.new.sink ≢ W.failures self.old.sink) }
@@ -263,6 +268,7 @@ impl<W: Sink> Writer<W> {
         ensures same { (self.new.order ≡ self.old.order) × (self.new.unit ≡ self.old.unit) × (self.new.sent ≡ self.old.sent) × (self.new.failed ≡ self.old.failed) }
         ensures bytes { Keeps (W.taken self.old.sink) (W.taken self.new.sink) }
         ensures failures { W.failures self.new.sink ≡ W.failures self.old.sink }
+        ensures named { W.name self.new.sink ≡ W.name self.old.sink }
     {
         self.sink.flush();
     }

@@ -15,6 +15,7 @@ loop-rest-preserved g c =
           (record { bytes = told.bytes; count = omega (arith, told.count, length-take c.in-Ok.taken c.loop-rest.rest.now); in_order = refl; in_unit = refl });
       failed = c.loop-rest.invariant.failed;
       failures = told.failures ∙ c.loop-rest.invariant.failures;
+      named = told.named ∙ c.loop-rest.invariant.named;
     }
 
 pub returns-in-Err-clause-err : goal.returns-in-Err-clause-err

@@ -9,6 +9,7 @@ invariant-loop-rest g l = let w = l.self-inside in record {
   sent : (front : List _) × (l.bytes ≡ front ++ l.rest) × Sends g.W.Sink.taken l.fn.self (writing w.sink w.order w.unit w.sent w.failed) front;
   failed : w.failed ≡ l.fn.self.failed;
   failures : g.W.Sink.failures w.sink ≡ g.W.Sink.failures l.fn.self.sink;
+  named : g.W.Sink.name w.sink ≡ g.W.Sink.name l.fn.self.sink;
 }
 
 abbrev pub decreases-loop-rest : goal.decreases-loop-rest
