@@ -110,7 +110,7 @@ fn out_has_the_packets_of_the_listing(rt: HostRuntime) {
 fn out_has_what_comes_before_a_torn_record(rt: HostRuntime) {
     let mut files = files_of(&rt);
     let words = words_of(&rt, None, None, "torn.pcap", "out.pcap");
-    let wanted = (Status::Damaged, "TornRecord 1\n", 4);
+    let wanted = (Status::Damaged, "bpftap: TornRecord 1\n", 4);
     cuts(&rt, &mut files, &words, "torn.pcap", wanted);
     has(&rt, &mut files, "out.pcap", &[HEADER, ARP_RECORD]);
 }
@@ -135,10 +135,16 @@ fn an_out_that_is_read_is_refused(rt: HostRuntime) {
         &words,
         "in.pcap",
         Status::Refused,
-        "SameFile in.pcap\n",
+        "bpftap: SameFile in.pcap\n",
     );
     let words = words_of(&rt, None, Some("ip.bpf"), "in.pcap", "ip.bpf");
-    is_refused(&rt, &words, "in.pcap", Status::Refused, "SameFile ip.bpf\n");
+    is_refused(
+        &rt,
+        &words,
+        "in.pcap",
+        Status::Refused,
+        "bpftap: SameFile ip.bpf\n",
+    );
 }
 
 #[test]
@@ -149,26 +155,44 @@ fn what_is_not_there_is_refused(rt: HostRuntime) {
         &words,
         "none.pcap",
         Status::Failed,
-        "Device none.pcap\n",
+        "bpftap: Device none.pcap\n",
     );
     let words = words_of(&rt, None, Some("none.bpf"), "in.pcap", "out.pcap");
-    is_refused(&rt, &words, "in.pcap", Status::Failed, "Device none.bpf\n");
+    is_refused(
+        &rt,
+        &words,
+        "in.pcap",
+        Status::Failed,
+        "bpftap: Device none.bpf\n",
+    );
 }
 
 #[test]
 fn a_filter_that_is_none_is_refused(rt: HostRuntime) {
     let words = words_of(&rt, Some("ip and"), None, "in.pcap", "out.pcap");
-    is_refused(&rt, &words, "in.pcap", Status::Refused, "Syntax 6\n");
+    is_refused(
+        &rt,
+        &words,
+        "in.pcap",
+        Status::Refused,
+        "bpftap: Syntax 6\n",
+    );
     let words = words_of(&rt, None, Some("in.pcap"), "in.pcap", "out.pcap");
     is_refused(
         &rt,
         &words,
         "in.pcap",
         Status::Refused,
-        "Listing BadLine 1\n",
+        "bpftap: BadByte 1\n",
     );
     let words = words_of(&rt, Some("ip"), Some("ip.bpf"), "in.pcap", "out.pcap");
-    is_refused(&rt, &words, "in.pcap", Status::Refused, "FilterTwice\n");
+    is_refused(
+        &rt,
+        &words,
+        "in.pcap",
+        Status::Refused,
+        "bpftap: FilterTwice\n",
+    );
 }
 
 #[test]
