@@ -17,6 +17,9 @@ use Rattle.cli_answers.specs.Printed.{packet_text}
 use Rattle.line_text.proofs.Taking.{TakesPart-then}
 use Rattle.cli_answers.specs.declared.printing.Unprinted.{Unprinted}
 use Rattle.cli_answers.specs.declared.printing.Unprinted.TheVariants.{NoMemory, Output}
+use Rattle.cli_watch.specs.Frames.{is_unseen}
+use Rattle.cli_answers.specs.Counts.{more_if}
+use Rattle.cli_answers.proofs.Counting.{more-if, one-more}
 use Rattle.cli_answers.proofs.Reading.{all-more}
 use Rattle.cli_compare.specs.declared.each.DifferenceCounts.{DifferenceCounts}
 use Rattle.cli_compare.specs.declared.pair.Agreement.{Agreement}
@@ -84,46 +87,59 @@ count-same : (f : Packet → Bool) (ps : List Packet) (p : Packet) → f p ≡ f
 count-same f ps p is =
     ap length (filter-append f ps (p ∷ []) ∙ ap (λ (xs : List Packet). filter f ps ++ xs) (none-passes f p is) ∙ append-nil (filter f ps))
 
+unseen-by : (ps : List Packet) (p : Packet) (n : ℕ) → n ≡ length (filter (λ (q : Packet). is_unseen q.bytes) ps) →
+    more_if (is_unseen p.bytes) n ≡ length (filter (λ (q : Packet). is_unseen q.bytes) (ps ++ p ∷ []))
+unseen-by ps p n is =
+    ap (more_if (is_unseen p.bytes)) is ∙ sym (one-more (λ (q : Packet). is_unseen q.bytes) ps p (is_unseen p.bytes) refl)
+
 counts-by : (pair : FilterPair) (ps : List Packet) (p : Packet) (c : DifferenceCounts) (a : Agreement) → agreement pair p ≡ a →
-    AreCounts pair c ps → AreCounts pair (counted a c) (ps ++ p ∷ [])
+    AreCounts pair c ps → AreCounts pair (counted a (is_unseen p.bytes) c) (ps ++ p ∷ [])
 counts-by pair ps p c FirstOnly is are = record {
   packets = ap (λ n. n + 1) are.packets ∙ sym (length-append ps (p ∷ []));
   first = ap (λ n. n + 1) are.first ∙ sym (count-more (λ (q : Packet). is_first (agreement pair q)) ps p (ap is_first is));
   second = are.second ∙ sym (count-same (λ (q : Packet). is_second (agreement pair q)) ps p (ap is_second is));
+  unseen = unseen-by ps p c.unseen are.unseen;
 }
 counts-by pair ps p c SecondOnly is are = record {
   packets = ap (λ n. n + 1) are.packets ∙ sym (length-append ps (p ∷ []));
   first = are.first ∙ sym (count-same (λ (q : Packet). is_first (agreement pair q)) ps p (ap is_first is));
   second = ap (λ n. n + 1) are.second ∙ sym (count-more (λ (q : Packet). is_second (agreement pair q)) ps p (ap is_second is));
+  unseen = unseen-by ps p c.unseen are.unseen;
 }
 counts-by pair ps p c Same is are = record {
   packets = ap (λ n. n + 1) are.packets ∙ sym (length-append ps (p ∷ []));
   first = are.first ∙ sym (count-same (λ (q : Packet). is_first (agreement pair q)) ps p (ap is_first is));
   second = are.second ∙ sym (count-same (λ (q : Packet). is_second (agreement pair q)) ps p (ap is_second is));
+  unseen = unseen-by ps p c.unseen are.unseen;
 }
 
 -- no count is above that of the packets
-pub counted-packets : (a : Agreement) (c : DifferenceCounts) (before given : ℕ) → c.packets ≤ before → given ≡ before + 1 → (counted a c).packets ≤ given
-counted-packets Same c before given few more = omega (arith, few, more)
-counted-packets FirstOnly c before given few more = omega (arith, few, more)
-counted-packets SecondOnly c before given few more = omega (arith, few, more)
+pub counted-packets : (a : Agreement) (u : Bool) (c : DifferenceCounts) (before given : ℕ) → c.packets ≤ before → given ≡ before + 1 → (counted a u c).packets ≤ given
+counted-packets Same u c before given few more = omega (arith, few, more)
+counted-packets FirstOnly u c before given few more = omega (arith, few, more)
+counted-packets SecondOnly u c before given few more = omega (arith, few, more)
 
-pub counted-first : (a : Agreement) (c : DifferenceCounts) → c.first ≤ c.packets → (counted a c).first ≤ (counted a c).packets
-counted-first Same c few = omega (arith, few)
-counted-first FirstOnly c few = omega (arith, few)
-counted-first SecondOnly c few = omega (arith, few)
+pub counted-first : (a : Agreement) (u : Bool) (c : DifferenceCounts) → c.first ≤ c.packets → (counted a u c).first ≤ (counted a u c).packets
+counted-first Same u c few = omega (arith, few)
+counted-first FirstOnly u c few = omega (arith, few)
+counted-first SecondOnly u c few = omega (arith, few)
 
-pub counted-second : (a : Agreement) (c : DifferenceCounts) → c.second ≤ c.packets → (counted a c).second ≤ (counted a c).packets
-counted-second Same c few = omega (arith, few)
-counted-second FirstOnly c few = omega (arith, few)
-counted-second SecondOnly c few = omega (arith, few)
+pub counted-second : (a : Agreement) (u : Bool) (c : DifferenceCounts) → c.second ≤ c.packets → (counted a u c).second ≤ (counted a u c).packets
+counted-second Same u c few = omega (arith, few)
+counted-second FirstOnly u c few = omega (arith, few)
+counted-second SecondOnly u c few = omega (arith, few)
+
+pub counted-unseen : (a : Agreement) (u : Bool) (c : DifferenceCounts) → c.unseen ≤ c.packets → (counted a u c).unseen ≤ (counted a u c).packets
+counted-unseen Same u c few = more-if u c.unseen c.packets few
+counted-unseen FirstOnly u c few = more-if u c.unseen c.packets few
+counted-unseen SecondOnly u c few = more-if u c.unseen c.packets few
 
 -- ---- What is printed
 
 -- one packet more was compared, and counted
 pub goes-on : (pair : FilterPair) (old mid new : Option (List ℕ)) (ps : List Packet) (ds : List Difference) (c after : DifferenceCounts) (p : Packet) (a : Agreement) →
     AreDifferences pair ps ds → Appends old mid (difference_lines ds) → AreCounts pair c ps →
-    a ≡ agreement pair p → PrintsOne pair c.packets p mid new → after ≡ counted a c →
+    a ≡ agreement pair p → PrintsOne pair c.packets p mid new → after ≡ counted a (is_unseen p.bytes) c →
     (more : List Difference) × AreDifferences pair (ps ++ p ∷ []) more × Appends old new (difference_lines more) × AreCounts pair after (ps ++ p ∷ [])
 goes-on pair old mid new ps ds c after p a are lines counts is (inl (alike, kept)) now = (
   ds,

@@ -14,10 +14,15 @@ use Rattle.cli_compare.specs.Compared.{Compares}
 
 -- the counts of no packets
 abbrev pub no_counts : DifferenceCounts
-no_counts = record { packets = 0; first = 0; second = 0 }
+no_counts = record { packets = 0; first = 0; second = 0; unseen = 0 }
 
 abbrev pub plus : DifferenceCounts → DifferenceCounts → DifferenceCounts
-plus a b = record { packets = sum_of a.packets b.packets; first = sum_of a.first b.first; second = sum_of a.second b.second }
+plus a b = record {
+    packets = sum_of a.packets b.packets;
+    first = sum_of a.first b.first;
+    second = sum_of a.second b.second;
+    unseen = sum_of a.unseen b.unseen;
+  }
 
 -- nothing was printed so far
 abbrev pub no_totals : ComparedTotals

@@ -3,6 +3,8 @@ use Rattle.std.specs.Prelude.{◌≡◌, ℕ, suc, ◌+◌, Bool, true, false, L
 use Rattle.std.specs.List.{AllByRecursion}
 use Rattle.savefile.specs.declared.packet.Packet.{Packet}
 use Rattle.cli_answers.specs.Answers.{Answer, IsAnswer}
+use Rattle.cli_watch.specs.Frames.{is_unseen}
+use Rattle.cli_answers.specs.Counts.{more_if}
 use Rattle.cli_answers.specs.Seeking.{accepts}
 use Rattle.cli_compare.specs.declared.each.DifferenceCounts.{DifferenceCounts}
 use Rattle.cli_compare.specs.declared.pair.Agreement.{Agreement}
@@ -42,17 +44,18 @@ differs pair p = is_different (agreement pair p)
 
 -- ---- The counts
 
--- how many packets there are, and how many of them only the first filter accepts, and only the second
+-- how many packets there are, how many of them only the first filter accepts, and only the second; and into how many frames no filter looks
 pub record AreCounts (pair : FilterPair) (counts : DifferenceCounts) (all : List Packet) : Type 0 where
   pub packets : counts.packets ≡ length all
   pub first : counts.first ≡ length (filter (λ p. is_first (agreement pair p)) all)
   pub second : counts.second ≡ length (filter (λ p. is_second (agreement pair p)) all)
+  pub unseen : counts.unseen ≡ length (filter (λ p. is_unseen p.bytes) all)
 
--- one packet more was treated so
-abbrev pub counted : Agreement → DifferenceCounts → DifferenceCounts
-counted FirstOnly c = record { packets = c.packets + 1; first = c.first + 1; second = c.second }
-counted SecondOnly c = record { packets = c.packets + 1; first = c.first; second = c.second + 1 }
-counted Same c = record { packets = c.packets + 1; first = c.first; second = c.second }
+-- one packet more was treated so, whose frame is unseen or not
+abbrev pub counted : Agreement → Bool → DifferenceCounts → DifferenceCounts
+counted FirstOnly unseen c = record { packets = c.packets + 1; first = c.first + 1; second = c.second; unseen = more_if unseen c.unseen }
+counted SecondOnly unseen c = record { packets = c.packets + 1; first = c.first; second = c.second + 1; unseen = more_if unseen c.unseen }
+counted Same unseen c = record { packets = c.packets + 1; first = c.first; second = c.second; unseen = more_if unseen c.unseen }
 
 -- ---- The packets that are treated differently
 

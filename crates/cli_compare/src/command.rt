@@ -47,10 +47,14 @@ fn compare_all<F: Screen, R: Read + Drop, O: Write, E: HintSink>(
         read,
     } = compare_captures(job.alloc, captures, &job.pair, out);
     job.watch.erase();
+    let frames = totals.counts.frames();
     let printed = print_totals(job.alloc, totals, out);
     let status = report_captures(&printed, read, paths, err);
     if let Err(stop) = read {
         hint_stop(paths, stop, sources.as_slice(), err);
+    }
+    if counts_frames(job.words) {
+        let _ = report_unseen(frames, status, err);
     }
     status
 }
@@ -76,9 +80,6 @@ fn compare_and_report<F: Screen, R: Read + Drop, O: Write, E: HintSink>(
     };
     let status = compare_all(job, captures, &mut out, err);
     hint_output(out.get_ref(), err);
-    if counts_frames(job.words) {
-        let _ = report_unseen(job.watch.frames(), status, err);
-    }
     status
 }
 
@@ -132,9 +133,7 @@ fn compare_files<R: Files + AllocGlobal + Screen, O: Write, E: HintSink>(
         alloc: rt.alloc(),
         words,
         pair,
-        watch: Watch::new(rt, words.inputs.as_slice(), err.takes_hints()).counting(counts_frames(
-            words,
-        )),
+        watch: Watch::new(rt, words.inputs.as_slice(), err.takes_hints()),
     };
     Ok(compare_job(rt, &job, out, err))
 }

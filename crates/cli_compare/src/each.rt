@@ -12,13 +12,14 @@ ghost use Rattle.cli_compare.specs.Printed.{counts_text};
 use crate::line::{put_counts, put_difference};
 use crate::pair::{Agreement, FilterPair};
 use cli_answers::printing::{Unprinted, send_last};
+use cli_watch::frames::{FrameCounts, is_unseen};
 use line_text::sending::send;
 use savefile::laws::given_so_far;
 use savefile::{Fault, PacketRef, Reader, Source};
 use std::alloc::Global;
 use std::io::Write;
 
-/// How many packets two filters were asked, and how many of these only one accepts.
+/// How many packets two filters were asked, and how many of these only one accepts; and into how many frames no filter looks.
 #[derive(Clone, Copy, Debug, PartialEq, Eq)]
 pub struct DifferenceCounts {
     pub packets: u64,
@@ -26,6 +27,8 @@ pub struct DifferenceCounts {
     pub first: u64,
     /// How many only the second filter accepts.
     pub second: u64,
+    /// How many are IPv6 or have a VLAN tag.
+    pub unseen: u64,
 }
 
 /// What comparing two filters by a capture came to.
@@ -48,6 +51,7 @@ impl DifferenceCounts {
         packets: 0,
         first: 0,
         second: 0,
+        unseen: 0,
     };
 
     /// How many packets one filter accepts and the other does not.
@@ -62,21 +66,38 @@ impl DifferenceCounts {
         ensures packets { result.packets ≡ min (self.packets + other.packets) (2 ^ 64 - 1) }
         ensures first { result.first ≡ min (self.first + other.first) (2 ^ 64 - 1) }
         ensures second { result.second ≡ min (self.second + other.second) (2 ^ 64 - 1) }
+        ensures unseen { result.unseen ≡ min (self.unseen + other.unseen) (2 ^ 64 - 1) }
     {
         DifferenceCounts {
             packets: self.packets.saturating_add(other.packets),
             first: self.first.saturating_add(other.first),
             second: self.second.saturating_add(other.second),
+            unseen: self.unseen.saturating_add(other.unseen),
         }
     }
 
-    /// Counts one packet more.
-    fn count(&mut self, agreement: Agreement)
+    /// The frames, and into how many of them no filter looks.
+    pub fn frames(self) -> FrameCounts
+        ensures frames { result.frames ≡ self.packets }
+        ensures unseen { result.unseen ≡ self.unseen }
+    {
+        FrameCounts {
+            frames: self.packets,
+            unseen: self.unseen,
+        }
+    }
+
+    /// Counts one packet more, whose frame is unseen or not.
+    fn count(&mut self, agreement: Agreement, is_unseen: bool)
         requires room { self.now.packets + 1 < 2 ^ 64 }
         requires first { self.now.first ≤ self.now.packets }
         requires second { self.now.second ≤ self.now.packets }
-        ensures { self.new ≡ counted agreement self.old }
+        requires unseen { self.now.unseen ≤ self.now.packets }
+        ensures { self.new ≡ counted agreement is_unseen self.old }
     {
+        if is_unseen {
+            self.unseen += 1;
+        }
         self.packets += 1;
         match agreement {
             Agreement::Same => {}
@@ -170,8 +191,9 @@ fn print_differences<R: Source, O: Write>(
             Ok(true) => {
                 // Where the printing breaks off, what was read so far begins what the capture holds.
                 given_so_far(reader);
-                match print_one(pair, counts.packets, &reader.packet(), &mut line, out) {
-                    Ok(agreement) => counts.count(agreement),
+                let packet = reader.packet();
+                match print_one(pair, counts.packets, &packet, &mut line, out) {
+                    Ok(agreement) => counts.count(agreement, is_unseen(packet.bytes)),
                     Err(unprinted) => return outcome(counts, Ok(()), Err(unprinted)),
                 }
             }
@@ -215,6 +237,7 @@ pub fn print_counts<O: Write>(
         packets,
         first,
         second,
+        ..
     } = counts;
     put_counts(&mut line, packets, counts.differ(), first, second)?;
     send_last(line.as_bytes(), out)?;

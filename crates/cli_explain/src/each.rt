@@ -12,6 +12,7 @@ use crate::line::put_line;
 use cli_answers::counts::VerdictCounts;
 use cli_answers::printing::Unprinted;
 use cli_answers::{AskedFilter, PacketForm};
+use cli_watch::frames::is_unseen;
 use filter_meaning::Verdict;
 use line_text::sending::send;
 use savefile::laws::given_so_far;
@@ -158,8 +159,9 @@ fn print_lines<R: Source, O: Write>(
             Ok(true) => {
                 // Where the printing breaks off, what was read so far begins what the capture holds.
                 given_so_far(reader);
-                match print_line(asking, counts.packets, &reader.packet(), buffer, out) {
-                    Ok(verdict) => counts.count(verdict),
+                let packet = reader.packet();
+                match print_line(asking, counts.packets, &packet, buffer, out) {
+                    Ok(verdict) => counts.count(verdict, is_unseen(packet.bytes)),
                     Err(unprinted) => return outcome(counts, Ok(()), Err(unprinted)),
                 }
             }

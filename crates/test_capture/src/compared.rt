@@ -42,6 +42,7 @@ fn a_cut_frame_differs(rt: HostRuntime) {
         packets: 2,
         first: 0,
         second: 1,
+        unseen: 0,
     };
     same(&rt, (told.as_slice(), counts), (TOLD.as_bytes(), wanted));
 }

@@ -5,16 +5,17 @@ use Rattle.savefile.specs.Reader.{HasGiven, WasBegun}
 use Rattle.cli_answers.proofs.Reading.{still-works, works-on, gave-more, room-for-one}
 use Rattle.cli_compare.specs.declared.each.DifferenceCounts.{DifferenceCounts}
 use Rattle.cli_compare.specs.Pairs.{AreCounts, AreDifferences}
-use Rattle.cli_compare.proofs.Differences.{goes-on, breaks-off, counted-packets, counted-first, counted-second}
+use Rattle.cli_compare.proofs.Differences.{goes-on, breaks-off, counted-packets, counted-first, counted-second, counted-unseen}
 use Rattle.cli_compare.proofs.Ending.{broken-off, read-whole, read-part}
 use Rattle.cli_compare.proofs.each.print_differences.Goals as goal
 
 pub loop-reader-init : goal.loop-reader-init
 loop-reader-init g c = record {
-  prints = λ from header given. ([], [], given, record { those = refl; answered = tt }, Appends-nil _, record { packets = refl; first = refl; second = refl });
+  prints = λ from header given. ([], [], given, record { those = refl; answered = tt }, Appends-nil _, record { packets = refl; first = refl; second = refl; unseen = refl });
   packets = omega arith;
   first = omega arith;
   second = omega arith;
+  unseen = omega arith;
   taken = ([], Consumes-nil _);
   source_works = refl;
 }
@@ -34,9 +35,10 @@ loop-reader-preserved g c = record {
         counted,
       );
   packets = subst (λ (k : DifferenceCounts). k.packets ≤ c.advance.new.self.given) (sym c.count.ensures)
-      (counted-packets c.in-Ok.agreement c.loop-reader.counts _ _ c.loop-reader.invariant.packets (gave-more _ _ _ c.advance.ensures.leaves (c.in-Ok-true.is ∙ ap Ok c.in-Ok-true.field-0-test)).0);
-  first = subst (λ (k : DifferenceCounts). k.first ≤ k.packets) (sym c.count.ensures) (counted-first c.in-Ok.agreement c.loop-reader.counts c.loop-reader.invariant.first);
-  second = subst (λ (k : DifferenceCounts). k.second ≤ k.packets) (sym c.count.ensures) (counted-second c.in-Ok.agreement c.loop-reader.counts c.loop-reader.invariant.second);
+      (counted-packets c.in-Ok.agreement c.is_unseen.result c.loop-reader.counts _ _ c.loop-reader.invariant.packets (gave-more _ _ _ c.advance.ensures.leaves (c.in-Ok-true.is ∙ ap Ok c.in-Ok-true.field-0-test)).0);
+  first = subst (λ (k : DifferenceCounts). k.first ≤ k.packets) (sym c.count.ensures) (counted-first c.in-Ok.agreement c.is_unseen.result c.loop-reader.counts c.loop-reader.invariant.first);
+  second = subst (λ (k : DifferenceCounts). k.second ≤ k.packets) (sym c.count.ensures) (counted-second c.in-Ok.agreement c.is_unseen.result c.loop-reader.counts c.loop-reader.invariant.second);
+  unseen = subst (λ (k : DifferenceCounts). k.unseen ≤ k.packets) (sym c.count.ensures) (counted-unseen c.in-Ok.agreement c.is_unseen.result c.loop-reader.counts c.loop-reader.invariant.unseen);
   taken =
       let (before, took) = c.loop-reader.invariant.taken in
       let (further, goes) = c.in-Ok-true.ensures.taken in

@@ -18,6 +18,7 @@ invariant-loop-reader g l =
       packets : l.counts.packets ≤ l.reader.given;
       first : l.counts.first ≤ l.counts.packets;
       second : l.counts.second ≤ l.counts.packets;
+      unseen : l.counts.unseen ≤ l.counts.packets;
       taken : (bytes : List ℕ) × Consumes (g.R.Source.left l.fn.reader.source) (g.R.Source.left l.reader.source) bytes;
       source_works : g.R.Source.failures l.reader.source ≡ g.R.Source.failures l.fn.reader.source;
     }

@@ -6,7 +6,7 @@ use Rattle.cli_answers.specs.declared.counts.VerdictCounts.{VerdictCounts}
 use Rattle.cli_count.specs.Filter.{Answers}
 use Rattle.cli_answers.specs.Answers.{answer}
 use Rattle.cli_answers.specs.Counts.{AreCounts}
-use Rattle.cli_answers.proofs.Counting.{counts-by, counted-packets, counted-yes, counted-no, counted-abort}
+use Rattle.cli_answers.proofs.Counting.{counts-by, counted-packets, counted-yes, counted-no, counted-abort, counted-unseen}
 use Rattle.cli_count.specs.Counting.{IsAnswered, packets_of}
 use Rattle.pcap_info.proofs.Opening.{same-unless-different}
 use Rattle.cli_count.proofs.Counting.{all-more, packets-last, gave-more}
@@ -27,10 +27,11 @@ loop-reader-preserved g c = record {
         subst (λ (k : VerdictCounts). AreCounts k (answers ++ a ∷ [])) (sym c.count.ensures) (counts-by v answers p [] c.loop-reader.counts are),
       );
   packets = subst (λ (k : VerdictCounts). k.packets ≤ c.advance.new.self.given) (sym c.count.ensures)
-      (counted-packets c.judge-likely.result c.loop-reader.counts _ _ c.loop-reader.invariant.packets (gave-more _ _ _ c.advance.ensures.leaves (c.in-Ok-true.is ∙ ap Ok c.in-Ok-true.field-0-test)).0);
-  yes = subst (λ (k : VerdictCounts). k.yes ≤ k.packets) (sym c.count.ensures) (counted-yes c.judge-likely.result c.loop-reader.counts c.loop-reader.invariant.yes);
-  no = subst (λ (k : VerdictCounts). k.no ≤ k.packets) (sym c.count.ensures) (counted-no c.judge-likely.result c.loop-reader.counts c.loop-reader.invariant.no);
-  abort = subst (λ (k : VerdictCounts). k.abort ≤ k.packets) (sym c.count.ensures) (counted-abort c.judge-likely.result c.loop-reader.counts c.loop-reader.invariant.abort);
+      (counted-packets c.judge-likely.result c.is_unseen.result c.loop-reader.counts _ _ c.loop-reader.invariant.packets (gave-more _ _ _ c.advance.ensures.leaves (c.in-Ok-true.is ∙ ap Ok c.in-Ok-true.field-0-test)).0);
+  yes = subst (λ (k : VerdictCounts). k.yes ≤ k.packets) (sym c.count.ensures) (counted-yes c.judge-likely.result c.is_unseen.result c.loop-reader.counts c.loop-reader.invariant.yes);
+  no = subst (λ (k : VerdictCounts). k.no ≤ k.packets) (sym c.count.ensures) (counted-no c.judge-likely.result c.is_unseen.result c.loop-reader.counts c.loop-reader.invariant.no);
+  abort = subst (λ (k : VerdictCounts). k.abort ≤ k.packets) (sym c.count.ensures) (counted-abort c.judge-likely.result c.is_unseen.result c.loop-reader.counts c.loop-reader.invariant.abort);
+  unseen = subst (λ (k : VerdictCounts). k.unseen ≤ k.packets) (sym c.count.ensures) (counted-unseen c.judge-likely.result c.is_unseen.result c.loop-reader.counts c.loop-reader.invariant.unseen);
   taken =
       let (before, took) = c.loop-reader.invariant.taken in
       let (more, goes) = c.in-Ok-true.ensures.taken in

@@ -7,17 +7,18 @@ use Rattle.cli_answers.specs.Counts.{AreCounts}
 use Rattle.cli_explain.specs.Explained.{packets_of}
 use Rattle.cli_answers.proofs.Reading.{still-works, works-on, gave-more, room-for-one}
 use Rattle.cli_explain.proofs.Printing.{broken-off, read-whole, read-part}
-use Rattle.cli_answers.proofs.Counting.{counted-packets, counted-yes, counted-no, counted-abort}
+use Rattle.cli_answers.proofs.Counting.{counted-packets, counted-yes, counted-no, counted-abort, counted-unseen}
 use Rattle.cli_explain.proofs.Answered.{goes-on, breaks-off, packets-last}
 use Rattle.cli_explain.proofs.each.print_lines.Goals as goal
 
 pub loop-reader-init : goal.loop-reader-init
 loop-reader-init g c = record {
-  prints = λ from header given. ([], given, tt, Appends-nil _, record { packets = refl; yes = refl; no = refl; abort = refl });
+  prints = λ from header given. ([], given, tt, Appends-nil _, record { packets = refl; yes = refl; no = refl; abort = refl; unseen = refl });
   packets = omega arith;
   yes = omega arith;
   no = omega arith;
   abort = omega arith;
+  unseen = omega arith;
   taken = ([], Consumes-nil _);
   source_works = refl;
 }
@@ -37,10 +38,11 @@ loop-reader-preserved g c = record {
         counted,
       );
   packets = subst (λ (k : VerdictCounts). k.packets ≤ c.advance.new.self.given) (sym c.count.ensures)
-      (counted-packets c.in-Ok.verdict c.loop-reader.counts _ _ c.loop-reader.invariant.packets (gave-more _ _ _ c.advance.ensures.leaves (c.in-Ok-true.is ∙ ap Ok c.in-Ok-true.field-0-test)).0);
-  yes = subst (λ (k : VerdictCounts). k.yes ≤ k.packets) (sym c.count.ensures) (counted-yes c.in-Ok.verdict c.loop-reader.counts c.loop-reader.invariant.yes);
-  no = subst (λ (k : VerdictCounts). k.no ≤ k.packets) (sym c.count.ensures) (counted-no c.in-Ok.verdict c.loop-reader.counts c.loop-reader.invariant.no);
-  abort = subst (λ (k : VerdictCounts). k.abort ≤ k.packets) (sym c.count.ensures) (counted-abort c.in-Ok.verdict c.loop-reader.counts c.loop-reader.invariant.abort);
+      (counted-packets c.in-Ok.verdict c.is_unseen.result c.loop-reader.counts _ _ c.loop-reader.invariant.packets (gave-more _ _ _ c.advance.ensures.leaves (c.in-Ok-true.is ∙ ap Ok c.in-Ok-true.field-0-test)).0);
+  yes = subst (λ (k : VerdictCounts). k.yes ≤ k.packets) (sym c.count.ensures) (counted-yes c.in-Ok.verdict c.is_unseen.result c.loop-reader.counts c.loop-reader.invariant.yes);
+  no = subst (λ (k : VerdictCounts). k.no ≤ k.packets) (sym c.count.ensures) (counted-no c.in-Ok.verdict c.is_unseen.result c.loop-reader.counts c.loop-reader.invariant.no);
+  abort = subst (λ (k : VerdictCounts). k.abort ≤ k.packets) (sym c.count.ensures) (counted-abort c.in-Ok.verdict c.is_unseen.result c.loop-reader.counts c.loop-reader.invariant.abort);
+  unseen = subst (λ (k : VerdictCounts). k.unseen ≤ k.packets) (sym c.count.ensures) (counted-unseen c.in-Ok.verdict c.is_unseen.result c.loop-reader.counts c.loop-reader.invariant.unseen);
   taken =
       let (before, took) = c.loop-reader.invariant.taken in
       let (further, goes) = c.in-Ok-true.ensures.taken in
