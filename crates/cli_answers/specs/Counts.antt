@@ -72,6 +72,11 @@ abbrev pub counts_in : PacketForm → (packets accepted rejected aborted : ℕ) 
 counts_in Text packets accepted rejected aborted = counts_text packets accepted rejected aborted
 counts_in (Json capture) packets accepted rejected aborted = counts_json packets accepted rejected aborted
 
+-- the form that is asked for, of capture 0
+abbrev pub asked_form : Bool → PacketForm
+asked_form true = Json 0
+asked_form false = Text
+
 -- the form of the lines of the capture of this number
 abbrev pub of_capture : PacketForm → ℕ → PacketForm
 of_capture Text number = Text

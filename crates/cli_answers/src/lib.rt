@@ -7,6 +7,7 @@ pub mod dump;
 pub mod filter;
 pub mod form;
 pub mod hints;
+pub mod json;
 pub mod line;
 pub mod plan;
 pub mod printing;

@@ -2,7 +2,9 @@
 use Rattle.std.specs.Prelude.{◌≡◌, ℕ, suc, ◌+◌, Bool, true, false, List, [], ◌∷◌, ◌++◌, length, map, filter}
 use Rattle.std.specs.List.{AllByRecursion}
 use Rattle.savefile.specs.declared.packet.Packet.{Packet}
-use Rattle.cli_answers.specs.Answers.{Answer, IsAnswer}
+use Rattle.cli_answers.specs.declared.form.PacketForm.{PacketForm}
+use Rattle.cli_answers.specs.Answers.{Answer}
+use Rattle.cli_answers.specs.Objects.{IsAnswerIn}
 use Rattle.cli_watch.specs.Frames.{is_unseen}
 use Rattle.cli_answers.specs.Counts.{more_if}
 use Rattle.cli_answers.specs.Seeking.{accepts}
@@ -78,15 +80,15 @@ pub record Difference : Type 0 where
   pub first : Answer
   pub second : Answer
 
--- each filter answers so, to the same packet
-abbrev pub IsDifference : FilterPair → Difference → Type 0
-IsDifference pair d = IsAnswer pair.first d.first × IsAnswer pair.second d.second × (d.second.packet ≡ d.first.packet)
+-- each filter answers so, to the same packet, with the reasons in this form
+abbrev pub IsDifference : PacketForm → FilterPair → Difference → Type 0
+IsDifference form pair d = IsAnswerIn form pair.first d.first × IsAnswerIn form pair.second d.second × (d.second.packet ≡ d.first.packet)
 
 -- the packets, each at its place, that are treated differently
 abbrev pub differing : FilterPair → List Packet → List Placed
 differing pair packets = filter (λ x. differs pair x.packet) (placed 0 packets)
 
 -- these are exactly the packets that are treated differently, in order, with their answers
-pub record AreDifferences (pair : FilterPair) (packets : List Packet) (differences : List Difference) : Type 0 where
+pub record AreDifferences (form : PacketForm) (pair : FilterPair) (packets : List Packet) (differences : List Difference) : Type 0 where
   pub those : map (λ d. at_place d.place d.first.packet) differences ≡ differing pair packets
-  pub answered : AllByRecursion (IsDifference pair) differences
+  pub answered : AllByRecursion (IsDifference form pair) differences

@@ -66,11 +66,7 @@ fn finish_counts<O: Write>(
     totals.printed?;
     let is_summed = words.inputs.len() > 1 && words.shown == CountShown::Counts;
     if totals.opened && is_summed {
-        let form = if words.json {
-            PacketForm::Json(0)
-        } else {
-            PacketForm::Text
-        };
+        let form = PacketForm::asked(words.json);
         return print_counts(totals.counts, form, &mut String::new(alloc), out);
     }
     Ok(out.flush()?)

@@ -17,7 +17,8 @@ use Rattle.cli_answers.specs.declared.printing.Unprinted.TheVariants.{NoMemory, 
 use Rattle.cli_answers.specs.declared.filter.AskedFilter.{AskedFilter}
 use Rattle.cli_answers.specs.declared.form.PacketForm.{PacketForm}
 use Rattle.cli_answers.specs.Answers.{Answer, answer}
-use Rattle.cli_explain.specs.Forms.{IsAnswerIn, line_in}
+use Rattle.cli_answers.specs.Objects.{IsAnswerIn}
+use Rattle.cli_explain.specs.Forms.{line_in}
 use Rattle.cli_answers.proofs.Counting.{counts-by}
 use Rattle.cli_answers.proofs.Reading.{all-more}
 use Rattle.cli_answers.specs.Verdicts.{is_yes, is_no, is_abort}

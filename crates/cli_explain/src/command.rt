@@ -146,15 +146,6 @@ fn explain_places<F: Screen, R: Read + Drop, O: Write, E: HintSink>(
     }
 }
 
-/// The form of the lines that the arguments ask for.
-fn form_of(words: &ExplainWords<'_>) -> PacketForm {
-    if words.json {
-        PacketForm::Json(0)
-    } else {
-        PacketForm::Text
-    }
-}
-
 /// Prints a line for each packet, and the counts if a header was read; and reports how that ended.
 fn explain_all<F: Screen, R: Read + Drop, O: Write, E: HintSink>(
     job: &Job<'_, '_, '_, F>,
@@ -163,7 +154,7 @@ fn explain_all<F: Screen, R: Read + Drop, O: Write, E: HintSink>(
     err: &mut E,
 ) -> Status {
     let paths = job.words.inputs.as_slice();
-    let form = form_of(job.words);
+    let form = PacketForm::asked(job.words.json);
     let ExplainedCaptures {
         sources,
         totals,

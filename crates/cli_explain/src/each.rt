@@ -7,9 +7,10 @@ ghost use Rattle.savefile.specs.Reader.{HasGiven};
 ghost use Rattle.cli_explain.specs.Explained.{Explains, ExplainsLines, PrintsLines, PrintsLine, IsLineBroken};
 
 use crate::captures::{ExplainedTotals, print_totals};
-use crate::form::{Asking, LineBuffer};
+use crate::form::Asking;
 use crate::line::put_line;
 use cli_answers::counts::VerdictCounts;
+use cli_answers::form::LineBuffer;
 use cli_answers::printing::Unprinted;
 use cli_answers::{AskedFilter, PacketForm};
 use cli_watch::frames::is_unseen;

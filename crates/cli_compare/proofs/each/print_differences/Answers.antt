@@ -25,7 +25,7 @@ loop-reader-preserved g c = record {
   prints = λ from header given.
       let (packets, differences, gives, are, lines, counts) = c.loop-reader.invariant.prints from header given in
       let p = c.packet.result in
-      let (more, now, printed, counted) = goes-on c.args.pair.now _ _ _ packets differences c.loop-reader.counts c.count.new.self p c.in-Ok.agreement are lines counts c.in-Ok.ensures.is c.in-Ok.ensures.ok c.count.ensures in (
+      let (more, now, printed, counted) = goes-on c.args.comparing.now.form c.args.comparing.now.pair.now _ _ _ packets differences c.loop-reader.counts c.count.new.self p c.in-Ok.agreement are lines counts c.in-Ok.ensures.is c.in-Ok.ensures.ok c.count.ensures in (
         packets ++ p ∷ [],
         more,
         subst (λ (q : Packet). HasGiven g.R.Source.left from header (packets ++ q ∷ []) c.advance.new.self) (sym c.packet.ensures)
@@ -77,11 +77,11 @@ pub returns-in-Err-print_one-clause-prints : goal.returns-in-Err-print_one-claus
 returns-in-Err-print_one-clause-prints g c = λ from header given.
     let (packets, differences, gives, are, lines, counts) = c.loop-reader.invariant.prints from header given in
     let p = c.packet.result in
-    let pair = c.args.pair.now in
+    let pair = c.args.comparing.now.pair.now in
     let begun = c.in-Ok-true.ensures.so_far from header packets gives in
     let further = c.given_so_far.ensures from header (packets ++ c.advance.new.self.lent ∷ []) (c.in-Ok-true.ensures.packet from header packets gives (ap Ok c.in-Ok-true.field-0-test)) in
-    let (told, more, every, which, part) = breaks-off pair _ _ _ packets differences c.loop-reader.counts p c.in-Err-print_one.unprinted are lines counts c.in-Err-print_one.ensures.fault in
-    broken-off pair from _ header _ _ _ _ _ _ _ told more c.outcome.ensures.read c.outcome.ensures.printed every
+    let (told, more, every, which, part) = breaks-off c.args.comparing.now.form pair _ _ _ packets differences c.loop-reader.counts p c.in-Err-print_one.unprinted are lines counts c.in-Err-print_one.ensures.fault in
+    broken-off c.args.comparing.now.form pair from _ header _ _ _ _ _ _ _ told more c.outcome.ensures.read c.outcome.ensures.printed every
     (elim which [
       | inl same ↦ subst (WasBegun from header) (sym same) begun
       | inr one ↦ subst (WasBegun from header) (sym (one ∙ ap (λ (q : Packet). packets ++ q ∷ []) c.packet.ensures)) further
@@ -92,14 +92,14 @@ pub returns-in-Ok-false-clause-prints : goal.returns-in-Ok-false-clause-prints
 returns-in-Ok-false-clause-prints g c = λ from header given.
     let (packets, differences, gives, are, lines, counts) = c.loop-reader.invariant.prints from header given in
     let told = c.outcome-in-Ok-false.ensures in
-    read-whole c.args.pair.now from _ header _ _ _ _ _ _ _ packets differences told.read told.printed are
+    read-whole c.args.comparing.now.form c.args.comparing.now.pair.now from _ header _ _ _ _ _ _ _ packets differences told.read told.printed are
     (c.in-Ok-false.ensures.end from header packets gives (ap Ok c.in-Ok-false.field-0-test)) lines
-    (subst (λ (k : DifferenceCounts). AreCounts c.args.pair.now k packets) (sym told.counts) counts)
+    (subst (λ (k : DifferenceCounts). AreCounts c.args.comparing.now.pair.now k packets) (sym told.counts) counts)
 
 pub returns-in-Err-clause-prints : goal.returns-in-Err-clause-prints
 returns-in-Err-clause-prints g c = λ from header given.
     let (packets, differences, gives, are, lines, counts) = c.loop-reader.invariant.prints from header given in
     let told = c.outcome-in-Err.ensures in
-    read-part c.args.pair.now from _ header _ _ _ _ _ _ _ packets differences told.read told.printed are lines
-    (subst (λ (k : DifferenceCounts). AreCounts c.args.pair.now k packets) (sym told.counts) counts)
+    read-part c.args.comparing.now.form c.args.comparing.now.pair.now from _ header _ _ _ _ _ _ _ packets differences told.read told.printed are lines
+    (subst (λ (k : DifferenceCounts). AreCounts c.args.comparing.now.pair.now k packets) (sym told.counts) counts)
     (c.in-Err.ensures.so_far from header packets gives) (c.in-Err.ensures.cause from header packets gives)

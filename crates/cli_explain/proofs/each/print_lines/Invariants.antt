@@ -4,7 +4,7 @@ use Rattle.std.specs.Io.KnownBytes.{Appends, Consumes}
 use Rattle.savefile.specs.declared.header.Header.{Header}
 use Rattle.savefile.specs.Reader.{HasGiven}
 use Rattle.cli_answers.specs.Answers.{Answer}
-use Rattle.cli_explain.specs.Forms.{IsAnswerIn}
+use Rattle.cli_answers.specs.Objects.{IsAnswerIn}
 use Rattle.cli_answers.specs.Counts.{AreCounts}
 use Rattle.cli_explain.specs.Explained.{answer_lines, packets_of}
 use Rattle.cli_explain.proofs.each.print_lines.Given as goal

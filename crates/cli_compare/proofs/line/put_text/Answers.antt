@@ -1,5 +1,5 @@
 use Rattle.cli_compare.proofs.Differences.{line-of}
-use Rattle.cli_compare.proofs.line.put_difference.Goals as goal
+use Rattle.cli_compare.proofs.line.put_text.Goals as goal
 
 pub returns : goal.returns
 returns c =
