@@ -1,6 +1,7 @@
 //! What a filter answers to packets, and why: what the commands that ask filters share.
 #![tactic(auto)]
 
+pub mod ahead;
 pub mod captures;
 pub mod counts;
 pub mod dump;

@@ -12,6 +12,7 @@ ghost use Rattle.cli_compare.specs.Printed.{counts_in};
 use crate::line::{Comparing, put_counts, put_difference};
 use crate::pair::{Agreement, FilterPair};
 use cli_answers::PacketForm;
+use cli_answers::ahead::advance_flushed;
 use cli_answers::form::LineBuffer;
 use cli_answers::printing::{Unprinted, send_last};
 use cli_watch::frames::{FrameCounts, is_unseen};
@@ -116,7 +117,7 @@ impl DifferenceCounts {
 /// why, as `bpftap explain` prints it; or an object of JSON with the same. No and Abort are the same here, since both reject the packet.
 /// `counts` are of all packets; [`print_counts`] prints them.
 ///
-/// Each line is sent before the next packet is read. `read` has the header's fault, and then nothing is printed; with
+/// Each line is sent before the next packet is read, and the writer is flushed whenever the source has to be asked for that. `read` has the header's fault, and then nothing is printed; with
 /// [`Fault::NoMemory`] the source is as it was too. It has the fault of the first torn or bad record, after the lines of the packets before
 /// it. It is [`Fault::Device`] exactly if the source failed. If `printed` has a fault, `out` took a prefix of the lines, and `read` is `Ok`,
 /// since no further packet was read.
@@ -190,7 +191,7 @@ fn print_differences<R: Source, O: Write>(
     let mut buffer = LineBuffer::new(alloc);
     let mut counts = DifferenceCounts::NONE;
     loop {
-        match reader.advance() {
+        match advance_flushed(reader, out) {
             Ok(true) => {
                 // Where the printing breaks off, what was read so far begins what the capture holds.
                 given_so_far(reader);

@@ -9,6 +9,7 @@ ghost use Rattle.cli_explain.specs.Explained.{Explains, ExplainsLines, PrintsLin
 use crate::captures::{ExplainedTotals, print_totals};
 use crate::form::Asking;
 use crate::line::put_line;
+use cli_answers::ahead::advance_flushed;
 use cli_answers::counts::VerdictCounts;
 use cli_answers::form::LineBuffer;
 use cli_answers::printing::Unprinted;
@@ -156,7 +157,7 @@ fn print_lines<R: Source, O: Write>(
 {
     let mut counts = VerdictCounts::NONE;
     loop {
-        match reader.advance() {
+        match advance_flushed(reader, out) {
             Ok(true) => {
                 // Where the printing breaks off, what was read so far begins what the capture holds.
                 given_so_far(reader);
