@@ -25,7 +25,7 @@ pub fn hint_capture<R, E: HintSink>(
             give_hint(format_args!("{}:", EscapedPath(*path)), err);
         }
     }
-    hint_input(source, fault, err);
+    hint_input(&source.inner, fault, err);
 }
 
 /// Hints on the capture that ended the reading of several; `sources` are those of the captures at these paths.

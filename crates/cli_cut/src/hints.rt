@@ -18,7 +18,7 @@ pub(crate) fn hint_cut<R, W: Write + Drop, E: HintSink>(
 ) {
     match end.end {
         End::Clean => {}
-        End::Input(fault) => hint_input(&end.source, fault, err),
+        End::Input(fault) => hint_input(&end.source.inner, fault, err),
         End::Output(_) => hint_failure(end.sink.inner.get_ref(), err),
     }
 }

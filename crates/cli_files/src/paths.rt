@@ -1,6 +1,10 @@
 //! Which paths are one file. This is checked before a file is opened for writing, so that no file that is read is lost and no two
 //! captures go into one file.
 
+ghost use Rattle.std.specs.Prelude.{◌≡◌};
+ghost use Rattle.cli_text.specs.declared.status.Status.TheVariants.{Refused};
+ghost use Rattle.cli_files.specs.Paths.{IsPathStatus};
+
 use crate::reading::report_io;
 use cli_report::HintSink;
 use cli_report::stream::give_hint;
@@ -54,7 +58,7 @@ pub enum Opening {
 
 /// What a command uses a file for.
 #[derive(Clone, Copy, Debug, PartialEq, Eq)]
-enum Use {
+pub enum Use {
     Read,
     Written,
     StandardInput,
@@ -76,8 +80,8 @@ impl Use {
 }
 
 /// Why the files of a command are refused.
-#[derive(Drop)]
-enum PathFault<'a> {
+#[derive(Debug, Drop)]
+pub enum PathFault<'a> {
     /// This path is no OUT, since its file has this use too.
     Same(&'a str, Use),
     /// This path is read, and standard output goes to its file.
@@ -308,7 +312,9 @@ impl<'a> Taken<'a> {
 }
 
 /// Reports that a path is the file of something else, and why that is refused.
-fn report_same<E: HintSink>(path: &str, objection: &str, err: &mut E) -> Status {
+fn report_same<E: HintSink>(path: &str, objection: &str, err: &mut E) -> Status
+    ensures { result ≡ Refused }
+{
     let fault = Report::named("SameFile").about(Subject::File(path));
     let status = report_fault(&fault, Status::Refused, err);
     give_hint(objection, err);
@@ -316,7 +322,9 @@ fn report_same<E: HintSink>(path: &str, objection: &str, err: &mut E) -> Status 
 }
 
 /// Reports why files are refused, and returns the exit status.
-fn report_path<E: HintSink>(fault: &PathFault<'_>, err: &mut E) -> Status {
+pub fn report_path<E: HintSink>(fault: &PathFault<'_>, err: &mut E) -> Status
+    ensures { IsPathStatus fault.now result }
+{
     match fault {
         PathFault::Same(path, taken_for) => report_same(*path, taken_for.objection(), err),
         PathFault::Printed(path) => report_same(
@@ -330,12 +338,24 @@ fn report_path<E: HintSink>(fault: &PathFault<'_>, err: &mut E) -> Status {
 }
 
 /// Checks that no file that is written is one that is read, the file of an earlier path that is written, the one that standard input
-/// comes from, or the one that standard output or standard error goes to; and that standard output goes to no file that is read. Else it reports that, and returns the exit
-/// status.
+/// comes from, or the one that standard output or standard error goes to; and that standard output goes to no file that is read.
 ///
 /// Two paths are one file if they lead to one regular file or fifo, or to one new file; one that is read and one that is written also
 /// if they have the same text. `standard_output` is its path, if the command prints there. With [`Opening::First`] a path that is read
 /// and leads to nothing is skipped: the command can't open it.
+pub fn check_shared_files<'a, R: Files + AllocGlobal>(
+    rt: &R,
+    opening: Opening,
+    standard_output: Option<&'a str>,
+    read: &[&'a str],
+    written: &[&'a str],
+) -> Result<(), PathFault<'a>> {
+    let mut taken = Taken::new(rt.alloc());
+    taken.add_read(rt, opening, standard_output, read)?;
+    taken.add_written(rt, written)
+}
+
+/// Refuses what [`check_shared_files`] refuses: reports why, and returns the exit status.
 pub fn refuse_shared_files<R: Files + AllocGlobal, E: HintSink>(
     rt: &R,
     opening: Opening,
@@ -344,11 +364,7 @@ pub fn refuse_shared_files<R: Files + AllocGlobal, E: HintSink>(
     written: &[&str],
     err: &mut E,
 ) -> Result<(), Status> {
-    let mut taken = Taken::new(rt.alloc());
-    if let Err(fault) = taken.add_read(rt, opening, standard_output, read) {
-        return Err(report_path(&fault, err));
-    }
-    match taken.add_written(rt, written) {
+    match check_shared_files(rt, opening, standard_output, read, written) {
         Ok(()) => Ok(()),
         Err(fault) => Err(report_path(&fault, err)),
     }

@@ -63,6 +63,18 @@ fn read_bounded<R: Files + AllocGlobal>(rt: &R, path: &str) -> io::Result<Vec<u8
     Ok(text)
 }
 
+/// Reports that a text has more than [`MAX_TEXT`] bytes.
+pub fn report_long_text<E: HintSink>(path: &str, err: &mut E) -> Status
+    ensures { result ≡ Refused }
+{
+    let status = report_fault(&Report::named("TextTooLong"), Status::Refused, err);
+    give_hint(
+        format_args!("{} has more than {MAX_TEXT} bytes", EscapedPath(path)),
+        err,
+    );
+    status
+}
+
 /// The bytes of a LISTING, LINES, LISTENERS or SCRIPT; or reports why there are none, and returns the exit status. One that is longer than
 /// [`MAX_TEXT`], as a pipe without end, is `TextTooLong`, and no more of it is read.
 pub fn read_text<R: Files + AllocGlobal, E: HintSink>(
@@ -75,14 +87,7 @@ pub fn read_text<R: Files + AllocGlobal, E: HintSink>(
 {
     match read_bounded(rt, path) {
         Ok(text) if text.len() <= MAX_TEXT => Ok(text),
-        Ok(_) => {
-            let status = report_fault(&Report::named("TextTooLong"), Status::Refused, err);
-            give_hint(
-                format_args!("{} has more than {MAX_TEXT} bytes", EscapedPath(path)),
-                err,
-            );
-            Err(status)
-        }
+        Ok(_) => Err(report_long_text(path, err)),
         Err(error) => Err(report_io(&error, path, err)),
     }
 }

@@ -39,7 +39,7 @@ fn report_input<R, E: HintSink>(
     err: &mut E,
 ) -> Status {
     let status = report_capture(fault, path, err);
-    hint_input(source, fault, err);
+    hint_input(&source.inner, fault, err);
     status
 }
 

@@ -35,7 +35,7 @@ fn inspect<R: Read + Drop, O: Write, E: HintSink>(
     let status = report_survey(&survey, path, err);
     if let Err(fault) = survey.read {
         give_hint(format_args!("{}:", EscapedPath(path)), err);
-        hint_input(&survey.source, fault, err);
+        hint_input(&survey.source.inner, fault, err);
     }
     match printed {
         Ok(()) => Ok(status),

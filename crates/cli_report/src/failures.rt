@@ -64,12 +64,12 @@ fn hint_device<T, E: HintSink>(noted: &FailureProbe<T>, err: &mut E)
 }
 
 /// Hints on a capture that was not read to its end.
-pub fn hint_input<R, E: HintSink>(source: &ProbedInput<R>, fault: Fault, err: &mut E)
+pub fn hint_input<T, E: HintSink>(noted: &FailureProbe<T>, fault: Fault, err: &mut E)
     ensures quiet { E.takes_hints err.old ≡ false → err.new ≡ err.old }
 {
     match fault {
-        Fault::Device => hint_device(&source.inner, err),
-        _ => hint_capture_fault(source.inner.first(), fault, err),
+        Fault::Device => hint_device(noted, err),
+        _ => hint_capture_fault(noted.first(), fault, err),
     }
 }
 
@@ -101,6 +101,6 @@ pub fn hint_source<R, E: HintSink>(
 {
     if let (Some(path), Some(source)) = (paths.get(n), sources.get(n)) {
         give_hint(format_args!("{}:", EscapedPath(*path)), err);
-        hint_input(source, fault, err);
+        hint_input(&source.inner, fault, err);
     }
 }

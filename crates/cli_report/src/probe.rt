@@ -88,6 +88,20 @@ impl<T> FailureProbe<T> {
     }
 }
 
+impl<T: Drop> FailureProbe<T> {
+    /// What was noted, once the reader or the writer is done with.
+    pub fn into_notes(self) -> FailureProbe<()>
+        ensures first { result.first ≡ self.first }
+        ensures failure { result.failure ≡ self.failure }
+    {
+        FailureProbe {
+            inner: (),
+            first: self.first,
+            failure: self.failure,
+        }
+    }
+}
+
 impl<T: Read> Read for FailureProbe<T> {
     ghost remaining = { λ probe. T.remaining probe.inner };
 

@@ -89,6 +89,9 @@ pub fn cut<R: Source, W: Sink>(
     // A device's fault is returned if and only if the device failed.
     ensures source_broke { (result.end ≡ End.Input Fault.Device) ↔ (R.failures result.source ≢ R.failures from) }
     ensures sink_broke { (result.end ≡ End.Output Fault.Device) ↔ (W.failures result.sink ≢ W.failures to) }
+
+    // The sink is the one that was given.
+    ensures named { W.name result.sink ≡ W.name to }
 {
     let mut reader = match Reader::open(alloc, from) {
         Ok(reader) => reader,
@@ -138,6 +141,7 @@ fn write_accepted<R: Source, W: Sink>(
     ensures taken { (bytes : List ℕ) × Consumes (R.left reader.old.source) (R.left reader.new.source) bytes }
     ensures source_broke { (result.end ≡ End.Input Fault.Device) ↔ (R.failures reader.new.source ≢ R.failures reader.old.source) }
     ensures sink_broke { (result.end ≡ End.Output Fault.Device) ↔ (W.failures result.sink ≢ W.failures to) }
+    ensures named { W.name result.sink ≡ W.name to }
 {
     let snap = effective_snaplen(snap);
     let (mut writer, opened) = Writer::open(to, order, unit, snap);
@@ -175,6 +179,7 @@ fn copy_accepted<R: Source, W: Sink>(
     ensures taken { (bytes : List ℕ) × Consumes (R.left reader.old.source) (R.left reader.new.source) bytes }
     ensures source_broke { (result.1 ≡ End.Input Fault.Device) ↔ (R.failures reader.new.source ≢ R.failures reader.old.source) }
     ensures sink_broke { (result.1 ≡ End.Output Fault.Device) ↔ (W.failures writer.new.sink ≢ W.failures writer.old.sink) }
+    ensures named { W.name writer.new.sink ≡ W.name writer.old.sink }
 {
     let mut tally = Tally::NONE;
     loop {
@@ -216,6 +221,7 @@ fn advance_flushed<R: Source, W: Sink>(
     ensures written { (start : Option (List ℕ)) (order : Order) (unit : Unit) (head : ℕ) (packets : List Packet) →
         HasWritten W.taken start order unit head packets writer.old → HasWritten W.taken start order unit head packets writer.new }
     ensures sink_works { W.failures writer.new.sink ≡ W.failures writer.old.sink }
+    ensures named { W.name writer.new.sink ≡ W.name writer.old.sink }
     ensures ahead { GoesOn reader.old × (reader.old.given ≢ 2 ^ 64 - 1) × HasRecord reader.old.header reader.old.ahead → writer.new ≡ writer.old }
 {
     given_so_far(reader);
@@ -248,6 +254,7 @@ pub fn put_accepted<W: Sink>(
         Wrote W.taken start order unit head (before ++ accepted program.now snap (packet.now ∷ [])) result writer.new }
     ensures counts { tally.new ≡ tallied (accepts program.now packet.now) tally.old }
     ensures sink_broke { (result ≡ Err Fault.Device) ↔ (W.failures writer.new.sink ≢ W.failures writer.old.sink) }
+    ensures named { W.name writer.new.sink ≡ W.name writer.old.sink }
 {
     // The text grows by this packet's record.
     growing_text();

@@ -22,6 +22,7 @@ loop-reader-init g c = record {
   taken = ([], Consumes-nil _);
   source_works = refl;
   sink_works = refl;
+  named = refl;
 }
 
 pub loop-reader-preserved : goal.loop-reader-preserved
@@ -46,6 +47,7 @@ loop-reader-preserved g c = record {
       (before ++ more, Consumes-trans _ _ _ before more took goes);
   source_works = same-unless-different _ _ (λ different. let broke = c.in-Ok-true.ensures.device.1 different in cc) ∙ c.loop-reader.invariant.source_works;
   sink_works = same-unless-different _ _ (λ different. let broke = c.in-Ok.ensures.sink_broke.1 different in cc) ∙ c.advance_flushed.ensures.sink_works ∙ c.loop-reader.invariant.sink_works;
+  named = c.in-Ok.ensures.named ∙ c.advance_flushed.ensures.named ∙ c.loop-reader.invariant.named;
 }
 
 pub returns-in-Err-put_accepted-clause-copies : goal.returns-in-Err-put_accepted-clause-copies

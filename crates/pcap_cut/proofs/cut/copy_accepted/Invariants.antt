@@ -20,6 +20,7 @@ invariant-loop-reader g l =
       taken : (bytes : List ℕ) × Consumes (g.R.Source.left l.fn.reader.source) (g.R.Source.left l.reader.source) bytes;
       source_works : g.R.Source.failures l.reader.source ≡ g.R.Source.failures l.fn.reader.source;
       sink_works : g.W.Sink.failures l.writer.sink ≡ g.W.Sink.failures l.fn.writer.sink;
+      named : g.W.Sink.name l.writer.sink ≡ g.W.Sink.name l.fn.writer.sink;
     }
 
 abbrev pub decreases-loop-reader : goal.decreases-loop-reader
