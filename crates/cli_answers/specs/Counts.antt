@@ -44,12 +44,12 @@ sum_of a b = min (a + b) (2 ^ 64 - 1)
 
 abbrev pub plus : VerdictCounts → VerdictCounts → VerdictCounts
 plus a b = record {
-    packets = sum_of a.packets b.packets;
-    yes = sum_of a.yes b.yes;
-    no = sum_of a.no b.no;
-    abort = sum_of a.abort b.abort;
-    unseen = sum_of a.unseen b.unseen;
-  }
+  packets = sum_of a.packets b.packets;
+  yes = sum_of a.yes b.yes;
+  no = sum_of a.no b.no;
+  abort = sum_of a.abort b.abort;
+  unseen = sum_of a.unseen b.unseen;
+}
 
 -- the counts of no packets
 abbrev pub no_counts : VerdictCounts

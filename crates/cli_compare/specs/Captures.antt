@@ -19,11 +19,11 @@ no_counts = record { packets = 0; first = 0; second = 0; unseen = 0 }
 
 abbrev pub plus : DifferenceCounts → DifferenceCounts → DifferenceCounts
 plus a b = record {
-    packets = sum_of a.packets b.packets;
-    first = sum_of a.first b.first;
-    second = sum_of a.second b.second;
-    unseen = sum_of a.unseen b.unseen;
-  }
+  packets = sum_of a.packets b.packets;
+  first = sum_of a.first b.first;
+  second = sum_of a.second b.second;
+  unseen = sum_of a.unseen b.unseen;
+}
 
 -- nothing was printed so far
 abbrev pub no_totals : ComparedTotals
