@@ -67,7 +67,8 @@ fn put_object(
     ensures { OnOk result ((d : Difference) × IsOf (Json capture) pair.now place packet.now d × (string_bytes buffer.new.line ≡ difference_json capture d)) }
 {
     json::put_packet(&mut buffer.line, capture, place, packet)?;
-    put_both(&mut buffer.line, &mut buffer.text, pair, packet)
+    put_both(&mut buffer.line, &mut buffer.text, pair, packet)?;
+    Ok(())
 }
 
 /// Puts the line of a packet in place of what the line has: its place and time, and what each filter answers, and why.

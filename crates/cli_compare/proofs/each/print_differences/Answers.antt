@@ -1,10 +1,11 @@
-use Rattle.std.proofs.Common.{arith, Ok, ◌≤◌, ◌∙◌, ◌++◌, ◌∷◌, [], inl, inr, sym, ap, subst, refl, List}
+use Rattle.std.proofs.Common.{Bool, arith, Ok, ◌≤◌, ◌∙◌, ◌++◌, ◌∷◌, [], inl, inr, sym, ap, subst, refl, List}
 use Rattle.std.proofs.KnownBytes.{Appends-kept, Appends-nil, Consumes-nil, Consumes-trans}
 use Rattle.savefile.specs.declared.packet.Packet.{Packet}
 use Rattle.savefile.specs.Reader.{HasGiven, WasBegun}
 use Rattle.cli_answers.proofs.Reading.{still-works, works-on, gave-more, room-for-one}
 use Rattle.cli_compare.specs.declared.each.DifferenceCounts.{DifferenceCounts}
-use Rattle.cli_compare.specs.Pairs.{AreCounts, AreDifferences}
+use Rattle.cli_watch.specs.Frames.{is_unseen}
+use Rattle.cli_compare.specs.Pairs.{counted, AreCounts, AreDifferences}
 use Rattle.cli_compare.proofs.Differences.{goes-on, breaks-off, counted-packets, counted-first, counted-second, counted-unseen}
 use Rattle.cli_compare.proofs.Ending.{broken-off, read-whole, read-part}
 use Rattle.cli_compare.proofs.each.print_differences.Goals as goal
@@ -25,11 +26,12 @@ loop-reader-preserved g c = record {
   prints = λ from header given.
       let (packets, differences, gives, are, before, counts) = c.loop-reader.invariant.prints from header given in
       let lines = Appends-kept _ _ _ _ before c.advance_flushed.ensures.printed in
-      let p = c.packet.result in
-      let (more, now, printed, counted) = goes-on c.args.comparing.now.form c.args.comparing.now.pair.now _ _ _ packets differences c.loop-reader.counts c.count.new.self p c.in-Ok.agreement are lines counts c.in-Ok.ensures.is c.in-Ok.ensures.ok c.count.ensures in (
+      let p = c.packet-packet.result in
+      let (more, now, printed, counted) = goes-on c.args.comparing.now.form c.args.comparing.now.pair.now _ _ _ packets differences c.loop-reader.counts c.count.new.self p c.in-Ok.agreement are lines counts c.in-Ok.ensures.is c.in-Ok.ensures.ok
+              (c.count.ensures ∙ ap (λ (u : Bool). counted c.in-Ok.agreement u c.loop-reader.counts) (c.is_unseen.ensures ∙ ap (λ (q : Packet). is_unseen q.bytes) c.packet.view_is)) in (
         packets ++ p ∷ [],
         more,
-        subst (λ (q : Packet). HasGiven g.R.Source.left from header (packets ++ q ∷ []) c.advance_flushed.new.reader) (sym c.packet.ensures)
+        subst (λ (q : Packet). HasGiven g.R.Source.left from header (packets ++ q ∷ []) c.advance_flushed.new.reader) (sym c.packet-packet.ensures)
             (c.in-Ok-true.ensures.packet from header packets gives (ap Ok c.in-Ok-true.field-0-test)),
         now,
         printed,
@@ -78,7 +80,7 @@ pub returns-in-Err-print_one-clause-prints : goal.returns-in-Err-print_one-claus
 returns-in-Err-print_one-clause-prints g c = λ from header given.
     let (packets, differences, gives, are, before, counts) = c.loop-reader.invariant.prints from header given in
     let lines = Appends-kept _ _ _ _ before c.advance_flushed.ensures.printed in
-    let p = c.packet.result in
+    let p = c.packet-packet.result in
     let pair = c.args.comparing.now.pair.now in
     let begun = c.in-Ok-true.ensures.so_far from header packets gives in
     let further = c.given_so_far.ensures from header (packets ++ c.advance_flushed.new.reader.lent ∷ []) (c.in-Ok-true.ensures.packet from header packets gives (ap Ok c.in-Ok-true.field-0-test)) in
@@ -86,7 +88,7 @@ returns-in-Err-print_one-clause-prints g c = λ from header given.
     broken-off c.args.comparing.now.form pair from _ header _ _ _ _ _ _ _ told more c.outcome.ensures.read c.outcome.ensures.printed every
     (elim which [
       | inl same ↦ subst (WasBegun from header) (sym same) begun
-      | inr one ↦ subst (WasBegun from header) (sym (one ∙ ap (λ (q : Packet). packets ++ q ∷ []) c.packet.ensures)) further
+      | inr one ↦ subst (WasBegun from header) (sym (one ∙ ap (λ (q : Packet). packets ++ q ∷ []) c.packet-packet.ensures)) further
     ])
     part
 

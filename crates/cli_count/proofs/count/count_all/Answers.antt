@@ -1,11 +1,12 @@
-use Rattle.std.proofs.Common.{◌≡◌, ◌≤◌, ◌∙◌, ◌++◌, ◌∷◌, [], ap, subst, sym, Ok, refl, arith}
+use Rattle.std.proofs.Common.{Bool, ◌≡◌, ◌≤◌, ◌∙◌, ◌++◌, ◌∷◌, [], ap, subst, sym, Ok, refl, arith}
 use Rattle.std.proofs.KnownBytes.{Consumes-nil, Consumes-trans}
 use Rattle.savefile.specs.declared.packet.Packet.{Packet}
 use Rattle.savefile.specs.Reader.{HasGiven}
 use Rattle.cli_answers.specs.declared.counts.VerdictCounts.{VerdictCounts}
 use Rattle.cli_count.specs.Filter.{Answers}
+use Rattle.cli_watch.specs.Frames.{is_unseen}
 use Rattle.cli_answers.specs.Answers.{answer}
-use Rattle.cli_answers.specs.Counts.{AreCounts}
+use Rattle.cli_answers.specs.Counts.{counted, AreCounts}
 use Rattle.cli_answers.proofs.Counting.{counts-by, counted-packets, counted-yes, counted-no, counted-abort, counted-unseen}
 use Rattle.cli_count.specs.Counting.{IsAnswered, packets_of}
 use Rattle.pcap_info.proofs.Opening.{same-unless-different}
@@ -19,12 +20,13 @@ loop-reader-preserved g c = record {
       let p = c.advance.new.self.lent in
       let v = c.judge-likely.result in
       let f = c.args.filter.now in
-      let a = answer p v [] in (
+      let a = answer p v [] in
+      let seen : c.is_unseen.result ≡ is_unseen p.bytes = c.is_unseen.ensures ∙ ap (λ (q : Packet). is_unseen q.bytes) (c.packet.view_is ∙ c.packet-packet.ensures) in (
         answers ++ a ∷ [],
         subst (λ (ps : _). HasGiven g.R.Source.left from header ps c.advance.new.self) (sym (packets-last answers a))
             (c.in-Ok-true.ensures.packet from header (packets_of answers) gives (ap Ok c.in-Ok-true.field-0-test)),
-        all-more (IsAnswered f) answers a all (subst (λ (q : Packet). Answers f q v) c.packet.ensures c.judge-likely.ensures),
-        subst (λ (k : VerdictCounts). AreCounts k (answers ++ a ∷ [])) (sym c.count.ensures) (counts-by v answers p [] c.loop-reader.counts are),
+        all-more (IsAnswered f) answers a all (subst (λ (q : Packet). Answers f q v) c.packet-packet.ensures c.judge-likely.ensures),
+        subst (λ (k : VerdictCounts). AreCounts k (answers ++ a ∷ [])) (sym (c.count.ensures ∙ ap (λ (u : Bool). counted v u c.loop-reader.counts) seen)) (counts-by v answers p [] c.loop-reader.counts are),
       );
   packets = subst (λ (k : VerdictCounts). k.packets ≤ c.advance.new.self.given) (sym c.count.ensures)
       (counted-packets c.judge-likely.result c.is_unseen.result c.loop-reader.counts _ _ c.loop-reader.invariant.packets (gave-more _ _ _ c.advance.ensures.leaves (c.in-Ok-true.is ∙ ap Ok c.in-Ok-true.field-0-test)).0);

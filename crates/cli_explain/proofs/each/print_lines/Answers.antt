@@ -1,9 +1,10 @@
-use Rattle.std.proofs.Common.{arith, Ok, ◌≤◌, ◌∙◌, ◌++◌, ◌∷◌, [], inl, inr, sym, ap, subst, refl, List}
+use Rattle.std.proofs.Common.{Bool, arith, Ok, ◌≤◌, ◌∙◌, ◌++◌, ◌∷◌, [], inl, inr, sym, ap, subst, refl, List}
 use Rattle.std.proofs.KnownBytes.{Appends-kept, Appends-nil, Consumes-nil, Consumes-trans}
 use Rattle.savefile.specs.declared.packet.Packet.{Packet}
 use Rattle.savefile.specs.Reader.{HasGiven, WasBegun}
 use Rattle.cli_answers.specs.declared.counts.VerdictCounts.{VerdictCounts}
-use Rattle.cli_answers.specs.Counts.{AreCounts}
+use Rattle.cli_watch.specs.Frames.{is_unseen}
+use Rattle.cli_answers.specs.Counts.{counted, AreCounts}
 use Rattle.cli_explain.specs.Explained.{packets_of}
 use Rattle.cli_answers.proofs.Reading.{still-works, works-on, gave-more, room-for-one}
 use Rattle.cli_explain.proofs.Printing.{broken-off, read-whole, read-part}
@@ -29,10 +30,11 @@ loop-reader-preserved g c = record {
       let (answers, gives, all, before, are) = c.loop-reader.invariant.prints from header given in
       let lines = Appends-kept _ _ _ _ before c.advance_flushed.ensures.printed in
       let p = c.advance_flushed.new.reader.lent in
-      let (a, of, more, printed, counted) = goes-on c.args.asking.now.form c.args.asking.now.filter.now _ _ _ answers c.loop-reader.counts c.count.new.self c.packet.result c.in-Ok.verdict all lines are c.in-Ok.ensures.ok c.count.ensures in (
+      let (a, of, more, printed, counted) = goes-on c.args.asking.now.form c.args.asking.now.filter.now _ _ _ answers c.loop-reader.counts c.count.new.self c.packet-packet.result c.in-Ok.verdict all lines are c.in-Ok.ensures.ok
+              (c.count.ensures ∙ ap (λ (u : Bool). counted c.in-Ok.verdict u c.loop-reader.counts) (c.is_unseen.ensures ∙ ap (λ (q : Packet). is_unseen q.bytes) c.packet.view_is)) in (
         answers ++ a ∷ [],
         subst (λ (ps : List Packet). HasGiven g.R.Source.left from header ps c.advance_flushed.new.reader)
-            (sym (packets-last answers a ∙ ap (λ (q : Packet). packets_of answers ++ q ∷ []) (of ∙ c.packet.ensures)))
+            (sym (packets-last answers a ∙ ap (λ (q : Packet). packets_of answers ++ q ∷ []) (of ∙ c.packet-packet.ensures)))
             (c.in-Ok-true.ensures.packet from header (packets_of answers) gives (ap Ok c.in-Ok-true.field-0-test)),
         more,
         printed,
@@ -87,11 +89,11 @@ returns-in-Err-print_line-clause-prints g c = λ from header given.
     let f = c.args.asking.now.filter.now in
     let begun = c.in-Ok-true.ensures.so_far from header (packets_of answers) gives in
     let further = c.given_so_far.ensures from header (packets_of answers ++ p ∷ []) (c.in-Ok-true.ensures.packet from header (packets_of answers) gives (ap Ok c.in-Ok-true.field-0-test)) in
-    let (told, every, which, part) = breaks-off form f _ _ _ answers c.loop-reader.counts c.packet.result c.in-Err-print_line.unprinted all lines are c.in-Err-print_line.ensures.fault in
+    let (told, every, which, part) = breaks-off form f _ _ _ answers c.loop-reader.counts c.packet-packet.result c.in-Err-print_line.unprinted all lines are c.in-Err-print_line.ensures.fault in
     broken-off form f from _ header _ _ _ _ _ _ _ told c.outcome.ensures.read c.outcome.ensures.printed every
     (elim which [
       | inl same ↦ subst (WasBegun from header) (sym same) begun
-      | inr more ↦ subst (WasBegun from header) (sym (more ∙ ap (λ (q : Packet). packets_of answers ++ q ∷ []) c.packet.ensures)) further
+      | inr more ↦ subst (WasBegun from header) (sym (more ∙ ap (λ (q : Packet). packets_of answers ++ q ∷ []) c.packet-packet.ensures)) further
     ])
     part
 
