@@ -33,6 +33,13 @@ IsRefusal place failed read output (Printed path) = ⊥
 IsRefusal place failed read output (Unknown path error) = IsRefusedMemory error ⊎ (failed ≡ true)
 IsRefusal place failed read output NoMemory = ⊤
 
+-- Why a path may not be read: standard output goes to its file; or a device failed, or memory was refused.
+abbrev pub IsPrintRefusal : Places → Option (List ℕ) → Bool → List ℕ → PathFault → Type 0
+IsPrintRefusal place printed failed read (Printed path) = printed ≡ Some (place read)
+IsPrintRefusal place printed failed read (Same path taken_for) = ⊥
+IsPrintRefusal place printed failed read (Unknown path error) = IsRefusedMemory error ⊎ (failed ≡ true)
+IsPrintRefusal place printed failed read NoMemory = ⊤
+
 -- the file at a place was made of these bytes; of none it is as it was
 abbrev pub StoresAt : Texts → Texts → List ℕ → List ℕ → Type 0
 StoresAt old new at bytes = (bytes ≡ [] → new at ≡ old at) × (0 < length bytes → new at ≡ Some bytes)

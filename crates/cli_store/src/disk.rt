@@ -21,6 +21,14 @@ use std::{fs, io};
 /// How many bytes of output are gathered before they are written.
 const OUTPUT_BUFFER: usize = 1 << 18;
 
+/// Whether a path leads to standard output, as `/dev/stdout` does.
+pub fn is_standard_output<R: Files>(rt: &R, path: &str) -> bool {
+    match (fs::metadata(rt, path), fs::metadata(rt, STANDARD_OUTPUT)) {
+        (Ok(found), Ok(printed)) => { found.dev() == printed.dev() && found.ino() == printed.ino() }
+        _ => false,
+    }
+}
+
 /// The files of the system. Those that are read are watched.
 pub struct DiskFiles<'w, 'r, R> {
     rt: &'r R,
@@ -46,6 +54,8 @@ impl<'p, 'w, 'r, R: Files + AllocGlobal + Screen> FileStore<'p> for DiskFiles<'w
 
     ghost opened = { λ _. [] };
 
+    ghost printed = { λ _. None };
+
     ghost pending = { λ _. 0 };
 
     ghost failed = { λ _. false };
@@ -57,6 +67,11 @@ impl<'p, 'w, 'r, R: Files + AllocGlobal + Screen> FileStore<'p> for DiskFiles<'w
         output: &'p str,
     ) -> Result<(), PathFault<'p>> {
         check_shared_files(self.rt, opening, None, read, &[output])
+    }
+
+    fn check_printed(&mut self, path: &'p str) -> Result<(), PathFault<'p>> {
+        let printed = Some(STANDARD_OUTPUT);
+        check_shared_files(self.rt, Opening::First, printed, &[path], &[])
     }
 
     fn read(&mut self, path: &'p str, most: usize) -> io::Result<Vec<u8>> {
@@ -75,6 +90,7 @@ impl<'p, 'w, 'r, R: Files + AllocGlobal + Screen> FileStore<'p> for DiskFiles<'w
     fn done(&mut self, input: WatchedFile<'w, 'r, R>) -> FailureProbe<()>
         ensures kept { Keeps (λ path. path) (λ path. path) (λ _. None) (λ _. None) 0 0 }
         ensures failed { false ≡ true → true ≡ true }
+        ensures stays { false ≡ true → true ≡ true }
     {
         self.watch.erase();
         input.into_inner().into_notes()
@@ -93,14 +109,6 @@ impl<'p, 'w, 'r, R: Files + AllocGlobal + Screen> FileStore<'p> for DiskFiles<'w
     }
 
     fn is_standard_output(&mut self, path: &'p str) -> bool {
-        match (
-            fs::metadata(self.rt, path),
-            fs::metadata(self.rt, STANDARD_OUTPUT),
-        ) {
-            (Ok(found), Ok(printed)) => {
-                found.dev() == printed.dev() && found.ino() == printed.ino()
-            }
-            _ => false,
-        }
+        is_standard_output(self.rt, path)
     }
 }

@@ -29,6 +29,8 @@ pub struct MemoryFiles<'p> {
     pub files: Vec<MemoryFile<'p>>,
     /// The paths that were opened, in order.
     pub opened: Vec<&'p str>,
+    /// The path of the file that standard output goes to, if it goes to one.
+    pub printed: Option<&'p str>,
     /// How many files were made that are not closed yet.
     pub pending: usize,
     /// Whether a file could not be opened, or memory ran out.
@@ -61,6 +63,7 @@ impl<'p> MemoryFiles<'p> {
             alloc,
             files: Vec::new(alloc),
             opened: Vec::new(alloc),
+            printed: None,
             pending: 0,
             failed: false,
         }
@@ -195,6 +198,8 @@ impl<'p> FileStore<'p> for MemoryFiles<'p> {
 
     ghost opened = { λ m. map (λ path. path.now) m.opened.items };
 
+    ghost printed = { λ m. option_copied m.printed };
+
     ghost pending = { λ m. m.pending };
 
     ghost failed = { λ m. m.failed };
@@ -209,6 +214,13 @@ impl<'p> FileStore<'p> for MemoryFiles<'p> {
             return Err(PathFault::Same(output, Use::Read));
         }
         Ok(())
+    }
+
+    fn check_printed(&mut self, path: &'p str) -> Result<(), PathFault<'p>> {
+        match self.printed {
+            Some(printed) if is_same_text(printed, path) => Err(PathFault::Printed(path)),
+            _ => Ok(()),
+        }
     }
 
     fn read(&mut self, path: &'p str, most: usize) -> io::Result<Vec<u8>> {

@@ -2,7 +2,7 @@
 
 ghost use Rattle.std.specs.Prelude.{◌≡◌, ◌≢◌, ◌⊎◌, ℕ, ◌+◌, ◌<◌, List, [], ◌∷◌, ◌++◌, Bool, true, Option, Some, IfErr, IfOk, IfSome, OnErr, OnOk, All, take};
 ghost use Rattle.cli_files.specs.Reading.{IsRefusedMemory};
-ghost use Rattle.cli_store.specs.Files.{BeginsAt, IsApart, IsRefusal, Keeps, StoresAt};
+ghost use Rattle.cli_store.specs.Files.{BeginsAt, IsApart, IsPrintRefusal, IsRefusal, Keeps, StoresAt};
 
 use cli_files::paths::{Opening, PathFault};
 use cli_report::FailureProbe;
@@ -33,6 +33,9 @@ pub trait FileStore<'p> {
     /// The places of the files that were opened, in order.
     ghost opened: { Self → List (List ℕ) };
 
+    /// The place of the file that standard output goes to, if it goes to one.
+    ghost printed: { Self → Option (List ℕ) };
+
     /// How many files were made that are not closed yet.
     ghost pending: { Self → ℕ };
 
@@ -51,6 +54,13 @@ pub trait FileStore<'p> {
         ensures opened { opened self.new ≡ opened self.old }
         ensures apart { known ≡ true → OnOk result (All (λ path. IsApart opening (place self.old) (text self.old) output.now path.now) read.now) }
         ensures fault { known ≡ true → IfErr result (IsRefusal (place self.old) (failed self.new) read.now output.now) };
+
+    /// Checks that standard output does not go to a file that is read.
+    fn check_printed(&mut self, path: &'p str) -> Result<(), PathFault<'p>>
+        ensures kept { Keeps (place self.old) (place self.new) (text self.old) (text self.new) (pending self.old) (pending self.new) }
+        ensures opened { opened self.new ≡ opened self.old }
+        ensures apart { known ≡ true → OnOk result (printed self.old ≢ Some (place self.old path.now)) }
+        ensures fault { known ≡ true → IfErr result (IsPrintRefusal (place self.old) (printed self.old) (failed self.new) path.now) };
 
     /// The first bytes of a file, at most `most`.
     fn read(&mut self, path: &'p str, most: usize) -> io::Result<Vec<u8>>
@@ -71,7 +81,8 @@ pub trait FileStore<'p> {
     /// Closes a file that was read, and returns what was noted of it.
     fn done(&mut self, input: Self::Input) -> FailureProbe<()>
         ensures kept { Keeps (place self.old) (place self.new) (text self.old) (text self.new) (pending self.old) (pending self.new) }
-        ensures failed { known ≡ true → Self.Input.failures input ≢ 0 → failed self.new ≡ true };
+        ensures failed { known ≡ true → Self.Input.failures input ≢ 0 → failed self.new ≡ true }
+        ensures stays { known ≡ true → failed self.old ≡ true → failed self.new ≡ true };
 
     /// A file that is made, or emptied, at its first byte. The error is that memory ran out.
     fn create(&mut self, path: &'p str) -> io::Result<Self::Output>
