@@ -28,7 +28,7 @@ loop-reader-preserved g c = record {
       let lines = Appends-kept _ _ _ _ before c.advance_flushed.ensures.printed in
       let p = c.packet-packet.result in
       let (more, now, printed, counted) = goes-on c.args.comparing.now.form c.args.comparing.now.pair.now _ _ _ packets differences c.loop-reader.counts c.count.new.self p c.in-Ok.agreement are lines counts c.in-Ok.ensures.is c.in-Ok.ensures.ok
-              (c.count.ensures ∙ ap (λ (u : Bool). counted c.in-Ok.agreement u c.loop-reader.counts) (c.is_unseen.ensures ∙ ap (λ (q : Packet). is_unseen q.bytes) c.packet.view_is)) in (
+      (c.count.ensures ∙ ap (λ (u : Bool). counted c.in-Ok.agreement u c.loop-reader.counts) (c.is_unseen.ensures ∙ ap (λ (q : Packet). is_unseen q.bytes) c.packet.view_is)) in (
         packets ++ p ∷ [],
         more,
         subst (λ (q : Packet). HasGiven g.R.Source.left from header (packets ++ q ∷ []) c.advance_flushed.new.reader) (sym c.packet-packet.ensures)

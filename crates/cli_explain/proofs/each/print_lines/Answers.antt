@@ -31,7 +31,7 @@ loop-reader-preserved g c = record {
       let lines = Appends-kept _ _ _ _ before c.advance_flushed.ensures.printed in
       let p = c.advance_flushed.new.reader.lent in
       let (a, of, more, printed, counted) = goes-on c.args.asking.now.form c.args.asking.now.filter.now _ _ _ answers c.loop-reader.counts c.count.new.self c.packet-packet.result c.in-Ok.verdict all lines are c.in-Ok.ensures.ok
-              (c.count.ensures ∙ ap (λ (u : Bool). counted c.in-Ok.verdict u c.loop-reader.counts) (c.is_unseen.ensures ∙ ap (λ (q : Packet). is_unseen q.bytes) c.packet.view_is)) in (
+      (c.count.ensures ∙ ap (λ (u : Bool). counted c.in-Ok.verdict u c.loop-reader.counts) (c.is_unseen.ensures ∙ ap (λ (q : Packet). is_unseen q.bytes) c.packet.view_is)) in (
         answers ++ a ∷ [],
         subst (λ (ps : List Packet). HasGiven g.R.Source.left from header ps c.advance_flushed.new.reader)
             (sym (packets-last answers a ∙ ap (λ (q : Packet). packets_of answers ++ q ∷ []) (of ∙ c.packet-packet.ensures)))
