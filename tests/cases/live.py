@@ -83,7 +83,7 @@ def each_part_goes_on_at_once(scene):
                 time.sleep(0.01)
             scene.check(f"after {len(sent)} bytes, the file", (scene.read("tcp.pcap") or b"")[before:], tcp)
         out, err = live.communicate(timeout=LIMIT)
-    scene.check("at the end", (out, err, live.returncode), (b"2 of 4 tcp.pcap tcp\n2 of 4 rest.fifo not tcp\n", b"", 0))
+    scene.check("at the end", (out, err, live.returncode), (b"tcp.pcap 2 of 4\nrest.fifo 2 of 4\n", b"", 0))
 
 
 @case
