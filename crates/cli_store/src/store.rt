@@ -1,0 +1,114 @@
+//! Files as a command sees them.
+
+ghost use Rattle.std.specs.Prelude.{◌≡◌, ◌≢◌, ◌⊎◌, ℕ, ◌+◌, ◌<◌, List, [], ◌∷◌, ◌++◌, Bool, true, Option, Some, IfErr, IfOk, IfSome, OnErr, OnOk, All, take};
+ghost use Rattle.cli_files.specs.Reading.{IsRefusedMemory};
+ghost use Rattle.cli_store.specs.Files.{BeginsAt, IsApart, IsPrintRefusal, IsRefusal, Keeps, StoresAt};
+
+use cli_files::paths::{Opening, PathFault};
+use cli_report::FailureProbe;
+use savefile::{Sink, Source};
+use std::io;
+
+/// The files that a command reads, and the one that it writes. A file is named by the place where its path leads: two paths are one file
+/// if they lead to one place.
+///
+/// Contracts know the files if [`known`](FileStore) holds: those in memory, and not those of the system. Over these a command is the same
+/// code, and what is said of its files rests on what [`DiskFiles`](crate::DiskFiles) says.
+pub trait FileStore<'p> {
+    /// A file that is read. Who has opened one gives it back to [`FileStore::done`].
+    type Input: Source + Drop;
+
+    /// A file that is written. Who has made one gives it back to [`FileStore::close`]: [`pending`](FileStore) counts those that were not.
+    type Output: Sink + Drop;
+
+    /// Whether contracts know the files.
+    ghost known: { Bool };
+
+    /// Where a path leads.
+    ghost place: { Self → List ℕ → List ℕ };
+
+    /// The bytes of the file at a place, if there is one.
+    ghost text: { Self → List ℕ → Option (List ℕ) };
+
+    /// The places of the files that were opened, in order.
+    ghost opened: { Self → List (List ℕ) };
+
+    /// The place of the file that standard output goes to, if it goes to one.
+    ghost printed: { Self → Option (List ℕ) };
+
+    /// How many files were made that are not closed yet.
+    ghost pending: { Self → ℕ };
+
+    /// Whether a file or a device failed.
+    ghost failed: { Self → Bool };
+
+    /// Checks that no file would be lost: OUT is none of the files that are read, nor one that a standard stream comes from or goes to. With
+    /// [`Opening::First`] a path that leads to no file is skipped, since it can't be opened.
+    fn check_apart(
+        &mut self,
+        opening: Opening,
+        read: &[&'p str],
+        output: &'p str,
+    ) -> Result<(), PathFault<'p>>
+        ensures kept { Keeps (place self.old) (place self.new) (text self.old) (text self.new) (pending self.old) (pending self.new) }
+        ensures opened { opened self.new ≡ opened self.old }
+        ensures apart { known ≡ true → OnOk result (All (λ path. IsApart opening (place self.old) (text self.old) output.now path.now) read.now) }
+        ensures fault { known ≡ true → IfErr result (IsRefusal (place self.old) (failed self.new) read.now output.now) };
+
+    /// Checks that standard output does not go to a file that is read.
+    fn check_printed(&mut self, path: &'p str) -> Result<(), PathFault<'p>>
+        ensures kept { Keeps (place self.old) (place self.new) (text self.old) (text self.new) (pending self.old) (pending self.new) }
+        ensures opened { opened self.new ≡ opened self.old }
+        ensures apart { known ≡ true → OnOk result (printed self.old ≢ Some (place self.old path.now)) }
+        ensures fault { known ≡ true → IfErr result (IsPrintRefusal (place self.old) (printed self.old) (failed self.new) path.now) };
+
+    /// The first bytes of a file, at most `most`.
+    fn read(&mut self, path: &'p str, most: usize) -> io::Result<Vec<u8>>
+        ensures kept { Keeps (place self.old) (place self.new) (text self.old) (text self.new) (pending self.old) (pending self.new) }
+        ensures opened { opened self.new ≡ opened self.old }
+        ensures bytes { known ≡ true → IfOk result (λ bytes. (whole : List ℕ) × (text self.old (place self.old path.now) ≡ Some whole) × (bytes.items ≡ take most whole)) }
+        ensures failed { known ≡ true → IfErr result (λ error. IsRefusedMemory error ⊎ (failed self.new ≡ true)) };
+
+    /// Opens a file.
+    fn open(&mut self, path: &'p str) -> io::Result<Self::Input>
+        ensures kept { Keeps (place self.old) (place self.new) (text self.old) (text self.new) (pending self.old) (pending self.new) }
+        ensures opened { known ≡ true → OnOk result (opened self.new ≡ opened self.old ++ place self.old path.now ∷ []) }
+        ensures bytes { known ≡ true → IfOk result (λ input. (Self.Input.left input ≡ text self.old (place self.old path.now))
+            × ((bytes : List ℕ) × (text self.old (place self.old path.now) ≡ Some bytes))) }
+        ensures works { known ≡ true → IfOk result (λ input. Self.Input.failures input ≡ 0) }
+        ensures failed { known ≡ true → IfErr result (λ error. IsRefusedMemory error ⊎ (failed self.new ≡ true)) };
+
+    /// Closes a file that was read, and returns what was noted of it.
+    fn done(&mut self, input: Self::Input) -> FailureProbe<()>
+        ensures kept { Keeps (place self.old) (place self.new) (text self.old) (text self.new) (pending self.old) (pending self.new) }
+        ensures failed { known ≡ true → Self.Input.failures input ≢ 0 → failed self.new ≡ true }
+        ensures stays { known ≡ true → failed self.old ≡ true → failed self.new ≡ true };
+
+    /// A file that is made, or emptied, at its first byte. The error is that memory ran out.
+    fn create(&mut self, path: &'p str) -> io::Result<Self::Output>
+        requires apart { known ≡ true → All (λ read. read ≢ place self.old path.now) (opened self.old) }
+        ensures places { place self.new ≡ place self.old }
+        ensures texts { text self.new ≡ text self.old }
+        ensures pending { known ≡ true → OnOk result (pending self.new ≡ pending self.old + 1) }
+        ensures unmade { OnErr result (pending self.new ≡ pending self.old) }
+        ensures named { known ≡ true → IfOk result (λ output. Self.Output.name output ≡ place self.old path.now) }
+        ensures empty { known ≡ true → IfOk result (λ output. Self.Output.taken output ≡ Some []) }
+        ensures works { known ≡ true → IfOk result (λ output. Self.Output.failures output ≡ 0) }
+        ensures failed { known ≡ true → IfErr result (λ error. IsRefusedMemory error ⊎ (failed self.new ≡ true)) };
+
+    /// Hands on all that the file took, and closes it. The error is why that, or a write before, failed: the file then has a beginning of
+    /// what it took, or is as it was.
+    fn close(&mut self, output: Self::Output) -> io::Result<()>
+        requires made { known ≡ true → 0 < pending self.old }
+        ensures places { place self.new ≡ place self.old }
+        ensures pending { known ≡ true → pending self.old ≡ pending self.new + 1 }
+        ensures spared { known ≡ true → (p : List ℕ) → p ≢ Self.Output.name output → text self.new p ≡ text self.old p }
+        ensures stored { known ≡ true → OnOk result (IfSome (Self.Output.taken output) (StoresAt (text self.old) (text self.new) (Self.Output.name output))) }
+        ensures begun { known ≡ true → IfSome (Self.Output.taken output) (BeginsAt (text self.old) (text self.new) (Self.Output.name output)) }
+        ensures failed { known ≡ true → IfErr result (λ _. failed self.new ≡ true) }
+        ensures broke { known ≡ true → Self.Output.failures output ≢ 0 → failed self.new ≡ true }
+        ensures stays { known ≡ true → failed self.old ≡ true → failed self.new ≡ true };
+
+    /// Whether a path leads to standard output, as `/dev/stdout` does.
+    fn is_standard_output(&self, path: &'p str) -> bool;
+}
