@@ -100,8 +100,9 @@ pub fn decide(
 /// the same, whatever they calculate.
 ///
 /// `budget` is how many nodes the diagrams of one header length may have, and half of the steps that are taken in all. It is spent too if a
-/// byte is wanted that is 2^17 bytes or more from the first one, or if 16,384 places of a program are walked. Expressions have at most 1,000
-/// levels, of which one of a value counts as eight, and values at most 64; the same tree twice may have more. `NoMemory` if memory is refused.
+/// byte is wanted that is 2^17 bytes or more from the first one, or if 32,768 places of a program are walked, or 8,192 for a header length.
+/// Expressions have at most 1,000 levels, of which one of a value counts as eight, and values at most 64; the same tree twice may have more.
+/// `NoMemory` if memory is refused.
 pub fn decide_filters(
     alloc: Global,
     first: Filter<'_>,
