@@ -35,7 +35,11 @@ PAIRS = {
         ("ip[0] >= 64 and ip[0] <= 79", "ip[0] & 0xf0 = 0x40"), ("arp[6:2] = 1", "arp[6] = 0 and arp[7] = 1"),
         ("len = 100", "less 100 and greater 100"), ("100 < len", "greater 101"), ("len != 100", "less 99 or greater 101"),
         ("ip[0] & 15 = 5 and tcp dst port 80", "tcp dst port 80 and ip[0] & 15 = 5"),
-        # The same tree twice, whatever it calculates.
+        # Fields that are compared with one another.
+        ("ip[12:4] = ip[16:4]", "ip[12:4] - ip[16:4] = 0"), ("tcp[8:4] > tcp[4:4]", "tcp[4:4] < tcp[8:4]"), ("len - 14 != ip[2:2]", "len != ip[2:2] + 14"),
+        ("udp[4:2] != ip[2:2] - ((ip[0] & 15) << 2)", "ip[2:2] - 4 * (ip[0] % 16) != udp[4:2]"),
+        # The same tree twice, whatever it calculates, and however deep it is.
+        (" or ".join(["tcp"] * 1150), " or ".join(["tcp"] * 1150)),
         ("ip[2:2] - ((ip[0] & 15) << 2) != 0", "(ip[2:2] - ((ip[0] & 15) << 2)) != 0"), ("ip[8] / 64 * 64 = ip[8]", "ip[8] / 64 * 64 = ip[8]"),
     ],
     CAPTURED: [
@@ -226,6 +230,18 @@ def what_is_not_decided_is_status_5(scene):
     scene.expect("compare 'port http' arp", 1, fault_lines("BadWord 5") + "  EXPR1:\n")
     scene.expect("compare arp 'port http'", 1, fault_lines("BadWord 5") + "  EXPR2:\n")
     scene.refuse("compare -f none.bpf arp", 3, "Device none.bpf")
+
+
+@case
+def a_small_stack_suffices(scene):
+    """256 KiB are enough, for fields that are compared with one another and for texts that ask for a thousand bytes each."""
+    chance = random.Random(256)
+    wide = [" or ".join(f"ether[{4 * n}:4] = {chance.randrange(1 << 32)}" for n in range(250)) for _ in range(2)]
+    scene.start({})
+    pairs = [("tcp", "udp"), ("ip[12:4] = ip[16:4]", "ip[12:4] - ip[16:4] = 0"), wide]
+    seen = [scene.run(["compare", "-q", *pair], first="ulimit -s 256") for pair in pairs]
+    scene.check("statuses", [ended.status for ended in seen[:2]], [4, 0])
+    scene.check("of a thousand bytes", seen[2].status in (4, 5), True)
 
 
 @case

@@ -2,3 +2,5 @@ pub mod Printing
 pub mod Telling
 pub mod Captures
 pub mod Objects
+pub mod Cutting
+pub mod Checking

@@ -4,8 +4,7 @@ ghost use Rattle.std.specs.Prelude.{◌≡◌, slice_get};
 ghost use Rattle.line_text.specs.Sending.{Takes};
 ghost use Rattle.cli_cut.specs.Captures.{first_told, part_told, total_told};
 
-use crate::hints::counts_frames;
-use crate::paths::{LateOutput, check_paths, is_standard_output, late_output};
+use crate::paths::{LateOutput, check_paths, late_output};
 use crate::plan::read_filter;
 use crate::report::report_tally;
 use bpfvm::Program;
@@ -18,9 +17,9 @@ use cli_split::part::{Part, PartEnd};
 use cli_split::plan::SplitLine;
 use cli_split::report::{SplitFiles, report_faults, was_begun};
 use cli_split::split::SplitEnd;
+use cli_store::disk::is_standard_output;
 use cli_text::Status;
 use cli_watch::captures::{WatchedInput, watched_inputs};
-use cli_watch::hints::report_unseen;
 use cli_watch::{Screen, Watch};
 use fault_report::reporting::report_memory;
 use line_text::LineForm;
@@ -123,8 +122,20 @@ pub(crate) fn cut_several<'r, R: Files + AllocGlobal + Screen, E: HintSink>(
     words: &CutWords<'_>,
     watch: &Watch<'r, R>,
     err: &mut E,
+) -> Status {
+    match cut_captures_of(rt, words, watch, err) {
+        Ok(status) | Err(status) => status,
+    }
+}
+
+/// Cuts the captures at the paths, and reports how that ended.
+fn cut_captures_of<'r, R: Files + AllocGlobal + Screen, E: HintSink>(
+    rt: &'r R,
+    words: &CutWords<'_>,
+    watch: &Watch<'r, R>,
+    err: &mut E,
 ) -> Result<Status, Status> {
-    let program = read_filter(rt, words, err)?;
+    let program = read_filter(rt, words, watch, err)?;
     check_paths(rt, words, err)?;
     let sink = late_output(rt, words.output, err)?;
     let paths = words.inputs.as_slice();
@@ -138,9 +149,6 @@ pub(crate) fn cut_several<'r, R: Files + AllocGlobal + Screen, E: HintSink>(
     let status = report_captures(rt, words, &end, err);
     if words.counted {
         let _ = report_total(&end, LineForm::asked(words.json), err);
-    }
-    if counts_frames(words) {
-        let _ = report_unseen(watch.frames(), status, err);
     }
     Ok(status)
 }

@@ -1,25 +1,27 @@
 //! Hints on a cut or a print that failed.
 
+ghost use Rattle.std.specs.Prelude.{◌≡◌, false};
+
+use crate::outcome::CutReport;
 use crate::print::PrintFault;
 use cli_args::cut::CutWords;
 use cli_filter::hint_expression;
 use cli_report::HintSink;
-use cli_report::failures::{hint_failure, hint_input, hint_unprinted};
-use cli_report::probe::{ProbedInput, ProbedOutput};
+use cli_report::failures::{hint_input, hint_unprinted};
+use cli_report::files::hint_reason;
 use cli_watch::hints::is_asked;
-use pcap_cut::cut::{CutEnd, End};
+use pcap_cut::cut::End;
 use std::alloc::Global;
-use std::io::Write;
 
 /// Hints on how a cut ended.
-pub(crate) fn hint_cut<R, W: Write + Drop, E: HintSink>(
-    end: &CutEnd<ProbedInput<R>, ProbedOutput<W>>,
-    err: &mut E,
-) {
-    match end.end {
-        End::Clean => {}
-        End::Input(fault) => hint_input(&end.source.inner, fault, err),
-        End::Output(_) => hint_failure(end.sink.inner.get_ref(), err),
+pub(crate) fn hint_cut<E: HintSink>(report: &CutReport, err: &mut E)
+    ensures quiet { E.takes_hints err.old ≡ false → err.new ≡ err.old }
+{
+    match (report.end, &report.unwritten) {
+        (End::Clean, _) => {}
+        (End::Input(fault), _) => hint_input(&report.noted, fault, err),
+        (End::Output(_), Some(error)) => hint_reason(error, err),
+        (End::Output(_), None) => {}
     }
 }
 

@@ -2,9 +2,12 @@
 #![tactic(auto)]
 
 pub mod captures;
+pub mod checking;
 pub mod command;
 mod hints;
 pub mod object;
+pub mod one;
+pub mod outcome;
 pub mod part;
 mod paths;
 mod plan;

@@ -1,9 +1,10 @@
 //! `bpftap cut --bytes`, over files: one part of a capture.
 
-use crate::command::{Job, cut_job, report_end};
+use crate::command::report_cut;
+use crate::outcome::CutReport;
 use crate::paths::late_output;
 use crate::plan::read_filter;
-use crate::report::report_count;
+use bpfvm::Program;
 use cli_args::cut::CutWords;
 use cli_args::places::ByteRange;
 use cli_files::paths::{Opening, STANDARD_OUTPUT, refuse_shared_files};
@@ -11,19 +12,74 @@ use cli_parts::input::{OpenPart, open_part};
 use cli_parts::line::print_part;
 use cli_report::HintSink;
 use cli_report::probe::{ProbedInput, ProbedOutput};
+use cli_store::disk::is_standard_output;
 use cli_text::Status;
 use cli_watch::{Screen, Watch};
 use fault_report::reporting::report_output;
-use line_text::LineForm;
+use pcap_cut::cut::{CutEnd, End, cut};
 use pcap_parts::part::PartCut;
+use savefile::{Counted, Fault};
+use std::alloc::Global;
 use std::fs::Files;
 use std::io::{Read, Write};
+
+/// What a cut needs: its filter, IN, and OUT.
+struct Job<I, O> {
+    program: Program,
+    input: I,
+    output: O,
+}
 
 /// What a cut of a part needs: the range, how many bytes the whole capture has, and what a cut needs.
 struct PartJob<I, O> {
     bytes: ByteRange,
     size: u64,
     job: Job<I, O>,
+}
+
+/// Empties the buffer in front of OUT. What fails only now is a fault of OUT too, and goes before a torn record.
+fn flush<R, W: Write>(mut end: CutEnd<R, Counted<W>>) -> CutEnd<R, Counted<W>> {
+    if end.sink.inner.flush().is_err() {
+        end.end = End::Output(Fault::Device);
+    }
+    end
+}
+
+/// Cuts the part, and empties the buffer in front of OUT.
+fn cut_job<R: Read + Drop, W: Write + Drop>(
+    alloc: Global,
+    words: &CutWords<'_>,
+    job: Job<ProbedInput<R>, ProbedOutput<W>>,
+) -> CutEnd<ProbedInput<R>, ProbedOutput<W>> {
+    let Job {
+        program,
+        input,
+        output,
+    } = job;
+    let end = cut(
+        alloc,
+        input,
+        &program,
+        words.snap,
+        words.order,
+        words.unit,
+        output,
+    );
+    flush(end)
+}
+
+/// Reports how a cut ended. That nobody reads standard output any more is not reported.
+fn report_part<F: Files, E: HintSink>(
+    rt: &F,
+    report: &CutReport,
+    words: &CutWords<'_>,
+    from: &str,
+    err: &mut E,
+) -> Status {
+    if report.is_unread() && is_standard_output(rt, words.output) {
+        return Status::Failed;
+    }
+    report_cut(report, words, from, err)
 }
 
 /// Cuts a part, prints its line if the part was read to its end or to a torn or bad record and all was written, and reports how that ended.
@@ -48,11 +104,7 @@ fn cut_and_print<
         Some(part) => report_output(&print_part(rt.alloc(), part, out), err),
         None => Status::Clean,
     };
-    let status = report_end(rt, &end, words, path, err);
-    if words.counted {
-        let _ = report_count(&end, LineForm::asked(words.json), err);
-    }
-    status.max(printed)
+    report_part(rt, &CutReport::of(end), words, path, err).max(printed)
 }
 
 /// Accepts the filter, compares the paths, and opens the part, in this order; then cuts it.
@@ -65,7 +117,7 @@ fn cut_part<'r, R: Files + AllocGlobal + Screen, O: Write, E: HintSink>(
     err: &mut E,
 ) -> Result<Status, Status> {
     let watch = Watch::new(rt, &[], err.takes_hints());
-    let program = read_filter(rt, words, err)?;
+    let program = read_filter(rt, words, &watch, err)?;
     let read = [words.listing.unwrap_or(path), path];
     let printed = Some(STANDARD_OUTPUT);
     refuse_shared_files(rt, Opening::First, printed, &read, &[words.output], err)?;

@@ -3,37 +3,20 @@
 use cli_args::cut::CutWords;
 use cli_files::captures::with_buffer;
 use cli_files::late::LateFile;
-use cli_files::paths::{Opening, STANDARD_OUTPUT, refuse_shared_files};
+use cli_files::paths::{Opening, refuse_shared_files};
 use cli_files::reading::report_io;
 use cli_report::probe::ProbedOutput;
 use cli_report::{FailureProbe, HintSink};
 use cli_text::Status;
-use cli_watch::captures::{WatchedFile, open_watched};
-use cli_watch::{Screen, Watch};
 use fault_report::reporting::report_memory;
 use std::alloc::{AllocError, Global};
-use std::fs;
 use std::fs::Files;
-use std::os::unix::fs::MetadataExt;
 
 /// How many bytes of output are gathered before they are written.
 const OUTPUT_BUFFER: usize = 1 << 18;
 
 /// OUT, which is made at its first write, with a buffer in front of it.
 pub(crate) type LateOutput<'r, 'p, R> = ProbedOutput<LateFile<'r, 'p, R>>;
-
-/// Opens the only IN, once no file can be lost: OUT is neither of the files that are read, nor the one that standard error goes to.
-pub(crate) fn open_apart<'w, 'r, R: Files + AllocGlobal + Screen, E: HintSink>(
-    rt: &R,
-    words: &CutWords<'_>,
-    input: &str,
-    watch: &'w Watch<'r, R>,
-    err: &mut E,
-) -> Result<WatchedFile<'w, 'r, R>, Status> {
-    let read = [words.listing.unwrap_or(input), input];
-    refuse_shared_files(rt, Opening::First, None, &read, &[words.output], err)?;
-    open_watched(rt, input, watch, err)
-}
 
 /// The paths of all files that are read.
 fn read_paths<'a>(alloc: Global, words: &CutWords<'a>) -> Result<Vec<&'a str>, AllocError> {
@@ -62,23 +45,6 @@ pub(crate) fn check_paths<R: Files + AllocGlobal, E: HintSink>(
         &[words.output],
         err,
     )
-}
-
-/// Refuses a listing that is the file which its program is printed to.
-pub(crate) fn check_listing<R: Files + AllocGlobal, E: HintSink>(
-    rt: &R,
-    path: &str,
-    err: &mut E,
-) -> Result<(), Status> {
-    refuse_shared_files(rt, Opening::First, Some(STANDARD_OUTPUT), &[path], &[], err)
-}
-
-/// Whether a path leads to standard output, as `/dev/stdout` does.
-pub(crate) fn is_standard_output<R: Files>(rt: &R, path: &str) -> bool {
-    match (fs::metadata(rt, path), fs::metadata(rt, STANDARD_OUTPUT)) {
-        (Ok(found), Ok(printed)) => { found.dev() == printed.dev() && found.ino() == printed.ino() }
-        _ => false,
-    }
 }
 
 /// OUT, which is made at its first write.

@@ -3,10 +3,16 @@
 ghost use Rattle.std.specs.Prelude.{◌≡◌, IfOk};
 ghost use Rattle.line_text.specs.Sending.{Takes};
 ghost use Rattle.cli_text.specs.Status.{code};
+ghost use Rattle.cli_text.specs.declared.status.Status.TheVariants.{Refused};
+ghost use Rattle.cli_cut.specs.Cutting.{IsRefusalStatus};
 ghost use Rattle.cli_cut.specs.Telling.{count_told, is_counted, print_status, status_of, tally_json, tally_line, tally_text};
 
+use crate::outcome::Refusal;
 use crate::print::PrintFault;
-use cli_filter::expression_report;
+use cli_files::paths::report_path;
+use cli_files::reading::{report_io, report_long_text};
+use cli_filter::{FilterFault, expression_report, filter_or_report};
+use cli_report::HintSink;
 use cli_text::Status;
 use cli_text::report::fault_status;
 use fault_report::captures::output_fault;
@@ -16,30 +22,60 @@ use line_text::sending::send;
 use line_text::{Line, LineForm};
 use pcap_cut::cut::{CutEnd, End, Tally};
 use savefile::Fault;
+use std::alloc::Global;
 use std::io;
 use std::io::Write;
 
 /// Reports how a cut from one path to another ended, and returns the exit status.
-pub fn report_cut<R, W, E: FaultSink>(
-    end: &CutEnd<R, W>,
-    from: &str,
-    to: &str,
-    err: &mut E,
-) -> Status
-    ensures { result ≡ status_of end.now.end }
+pub fn report_end<E: FaultSink>(end: End, from: &str, to: &str, err: &mut E) -> Status
+    ensures { result ≡ status_of end }
 {
-    match end.end {
+    match end {
         End::Clean => Status::Clean,
         End::Input(fault) => report_capture(fault, from, err),
         End::Output(fault) => report_fault(&output_fault(fault, to), fault_status(fault), err),
     }
 }
 
-/// [`report_cut`] as text, with the exit status as a number.
+/// [`report_end`] as text, with the exit status as a number.
 pub fn tell<R, W, E: Write>(end: &CutEnd<R, W>, from: &str, to: &str, err: &mut E) -> u8
     ensures { result ≡ code (status_of end.now.end) }
 {
-    report_cut(end, from, to, &mut TextSink(err)).code()
+    report_end(end.end, from, to, &mut TextSink(err)).code()
+}
+
+/// Reports why nothing was cut, with hints, and returns the exit status.
+pub(crate) fn report_refusal<E: HintSink>(
+    alloc: Global,
+    refusal: &Refusal<'_>,
+    expr: Option<&str>,
+    err: &mut E,
+) -> Status
+    ensures { IsRefusalStatus refusal.now result }
+{
+    match refusal {
+        Refusal::Filter(listing, fault) => {
+            let listing = listing.as_ref().map(|text| text.as_slice());
+            report_unfit(alloc, listing, expr, *fault, err)
+        }
+        Refusal::TextTooLong(path) => report_long_text(*path, err),
+        Refusal::Paths(fault) => report_path(fault, err),
+        Refusal::File(path, error) => report_io(error, *path, err),
+    }
+}
+
+/// Reports why there is no filter, with hints, and returns the exit status.
+fn report_unfit<E: HintSink>(
+    alloc: Global,
+    listing: Option<&[u8]>,
+    expr: Option<&str>,
+    fault: FilterFault,
+    err: &mut E,
+) -> Status
+    ensures { result ≡ Refused }
+{
+    let _ = filter_or_report(alloc, listing, expr, Err(fault), err);
+    Status::Refused
 }
 
 /// Whether what OUT has is known by packets: the capture was read to its end or to a torn or bad record, and all was written.
@@ -96,15 +132,11 @@ pub(crate) fn report_tally<E: Write>(tally: Tally, form: LineForm, err: &mut E) 
 /// Reports how many of the packets were written, in a line `67 of 253 packets` or in an object of JSON, if the capture was read to its end
 /// or to a torn or bad record, and all was written. Else it reports nothing. The error is that of standard error, which took a prefix of the
 /// line.
-pub fn report_count<R, W, E: Write>(
-    end: &CutEnd<R, W>,
-    form: LineForm,
-    err: &mut E,
-) -> io::Result<()>
-    ensures { Takes (E.contents err.old) (E.contents err.new) result (count_told form end.now.end end.now.tally) }
+pub fn report_count<E: Write>(end: End, tally: Tally, form: LineForm, err: &mut E) -> io::Result<()>
+    ensures { Takes (E.contents err.old) (E.contents err.new) result (count_told form end tally) }
 {
-    if is_counted(end.end) {
-        report_tally(end.tally, form, err)
+    if is_counted(end) {
+        report_tally(tally, form, err)
     } else {
         Ok(())
     }

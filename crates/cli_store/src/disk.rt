@@ -30,6 +30,7 @@ pub fn is_standard_output<R: Files>(rt: &R, path: &str) -> bool {
 }
 
 /// The files of the system. Those that are read are watched.
+#[derive(Drop)]
 pub struct DiskFiles<'w, 'r, R> {
     rt: &'r R,
     watch: &'w Watch<'r, R>,
@@ -108,7 +109,7 @@ impl<'p, 'w, 'r, R: Files + AllocGlobal + Screen> FileStore<'p> for DiskFiles<'w
         }
     }
 
-    fn is_standard_output(&mut self, path: &'p str) -> bool {
+    fn is_standard_output(&self, path: &'p str) -> bool {
         is_standard_output(self.rt, path)
     }
 }

@@ -122,11 +122,7 @@ fn is_any_lost(files: &[MemoryFile<'_>], opening: Opening, read: &[&str], output
 }
 
 /// Files with one more, which goes before the others.
-fn put<'p>(
-    files: &mut Vec<MemoryFile<'p>>,
-    path: &'p str,
-    bytes: Vec<u8>,
-) -> Result<(), ErrorKind>
+fn put<'p>(files: &mut Vec<MemoryFile<'p>>, path: &'p str, bytes: Vec<u8>) -> Result<(), ErrorKind>
     ensures put { OnOk result (files.new.items ≡ record { path = path.entry; bytes = bytes } ∷ files.old.items) }
     ensures kept { OnErr result (files.new.items ≡ files.old.items) }
 {
@@ -267,7 +263,7 @@ impl<'p> FileStore<'p> for MemoryFiles<'p> {
         }
     }
 
-    fn is_standard_output(&mut self, _path: &'p str) -> bool {
+    fn is_standard_output(&self, _path: &'p str) -> bool {
         false
     }
 }

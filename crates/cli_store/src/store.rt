@@ -110,6 +110,5 @@ pub trait FileStore<'p> {
         ensures stays { known ≡ true → failed self.old ≡ true → failed self.new ≡ true };
 
     /// Whether a path leads to standard output, as `/dev/stdout` does.
-    fn is_standard_output(&mut self, path: &'p str) -> bool
-        ensures kept { Keeps (place self.old) (place self.new) (text self.old) (text self.new) (pending self.old) (pending self.new) };
+    fn is_standard_output(&self, path: &'p str) -> bool;
 }

@@ -1,12 +1,13 @@
 -- Calls and their results, as the table and the cache change.
-use Rattle.std.proofs.Common.{◌≡◌, ℕ, ◌<◌, Bool, List, refl, sym, ap, ◌∙◌, arith}
-use Rattle.std.specs.Prelude.{Option, Some, None, Result, Ok, Err, IfOk, IfSome, All, length, slice_get}
+use Rattle.std.proofs.Common.{◌≡◌, ℕ, ◌<◌, Bool, true, false, cond, List, refl, sym, ap, ◌∙◌, arith}
+use Rattle.std.specs.Prelude.{Option, Some, None, Result, Ok, Err, IfOk, IfSome, All, length, max, slice_get}
 use Rattle.std.proofs.lemmas.List.Elements.{All-weaker}
 use Rattle.filter_bdd.specs.declared.answer.Answer.{Answer}
+use Rattle.filter_bdd.specs.declared.answer.Answer.TheVariants.{Final, Never}
 use Rattle.filter_bdd.specs.declared.table.Node.{Node}
 use Rattle.filter_bdd.specs.declared.cache.Call.{Call}
 use Rattle.filter_bdd.specs.declared.cache.Computed.{Computed}
-use Rattle.filter_bdd.specs.Answers.{outcome}
+use Rattle.filter_bdd.specs.Answers.{outcome, after, ite_answer}
 use Rattle.filter_bdd.specs.Diagrams.{answer, Gives, Grew}
 use Rattle.filter_bdd.specs.Calls.{call_answer, IsInside, IsResult, AreResults}
 use Rattle.filter_bdd.proofs.Tables.{grown-answer, grown-length}
@@ -52,3 +53,18 @@ entry-grown a b g (Some c) h = (inside_grown a b c.call g h.0, call-of a b c.cal
 
 pub results-grown : (a b : List Node) (es : List (Option Computed)) → Grew a b → AreResults a es → AreResults b es
 results-grown a b es g h = All-weaker (λ e. IfSome e (λ c. IsInside a c.call × IsResult a c.call c.place)) (λ e. IfSome e (λ c. IsInside b c.call × IsResult b c.call c.place)) (entry-grown a b g) es h
+
+after-none : (a : Answer) → after 0 a ≡ a
+after-none Never = refl
+after-none (Final need says) =
+    let most : max 0 need ≡ need = omega arith in
+    ap (λ n. Final n says) most
+
+-- a node that says whether a bit is 1 chooses as the bit does
+pub bit-chosen : (b : Bool) (t u w x y : Answer) → t ≡ cond b u w → u ≡ Final 0 true → w ≡ Final 0 false → ite_answer t x y ≡ cond b x y
+bit-chosen true t u w x y is p q = ap (λ a. ite_answer a x y) (is ∙ p) ∙ after-none x
+bit-chosen false t u w x y is p q = ap (λ a. ite_answer a x y) (is ∙ q) ∙ after-none y
+
+pub cond-as : (b : Bool) (x y u w : Answer) → x ≡ u → y ≡ w → cond b x y ≡ cond b u w
+cond-as true x y u w p q = p
+cond-as false x y u w p q = q

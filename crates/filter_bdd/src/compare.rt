@@ -54,8 +54,8 @@ impl Diagrams {
         match (counts, one) {
             (false, false) => Ok(places.equal),
             (false, true) => Ok(places.less),
-            (true, false) => self.branch(bit, places.equal, places.greater),
-            (true, true) => self.branch(bit, places.less, places.equal),
+            (true, false) => self.by_bit(bit, places.equal, places.greater),
+            (true, true) => self.by_bit(bit, places.less, places.equal),
         }
     }
 

@@ -7,6 +7,7 @@ ghost use Rattle.filter_bdd.specs.Calls.{call_answer, IsInside, IsResult, IsStep
 
 use crate::answer::{Answer, Operation};
 use crate::cache::{Call, ComputedCache};
+use crate::order::Order;
 use crate::table::{Node, Stop, UniqueTable};
 use std::alloc::Global;
 use std::marker::Model;
@@ -35,6 +36,7 @@ pub struct Budget {
 pub struct Diagrams {
     table: UniqueTable,
     cache: ComputedCache,
+    order: Order,
     budget: Budget,
 }
 
@@ -76,15 +78,18 @@ fn bit_of(node: Node) -> u32 {
     }
 }
 
-/// What is done with three nodes.
-fn step_of(first: Node, second: Node, third: Node) -> Step
+/// What is done with three nodes: the bit is the one that is asked for first.
+fn step_of(order: &Order, first: Node, second: Node, third: Node) -> Step
     ensures { IsStep first second third result }
 {
     match (first, second, third) {
         (Node::Leaf(first), Node::Leaf(second), Node::Leaf(third)) => {
             Step::Answers(first, second, third)
         }
-        _ => Step::Bit(bit_of(first).min(bit_of(second)).min(bit_of(third))),
+        _ => {
+            let other = order.earlier(bit_of(second), bit_of(third));
+            Step::Bit(order.earlier(bit_of(first), other))
+        }
     }
 }
 
@@ -96,8 +101,17 @@ impl Diagrams {
         Diagrams {
             table: UniqueTable::new(alloc),
             cache: ComputedCache::empty(alloc),
+            order: Order::natural(alloc),
             budget,
         }
+    }
+
+    /// Sets the order in which bits are asked for. It is to be set before nodes are made: two nodes that ask in other orders may say the
+    /// same and not be one.
+    pub fn set_order(&mut self, order: Order)
+        ensures { self.new ≡ self.old }
+    {
+        self.order = order;
     }
 
     /// How many nodes there are.
@@ -153,7 +167,7 @@ impl Diagrams {
         self.place(Node::Leaf(says))
     }
 
-    /// A node that goes on at one of two others, by a bit.
+    /// A node that goes on at one of two others, by a bit that is asked for before theirs.
     #[tactic(auto, using(crate::proofs::Tables::grown_more, crate::proofs::Tables::grown_same, crate::proofs::Tables::grown_inside))]
     pub fn branch(&mut self, bit: u32, zero: u32, one: u32) -> Result<u32, Stop>
         requires zero { zero < length self.old }
@@ -165,6 +179,16 @@ impl Diagrams {
             return Ok(zero);
         }
         self.place(Node::Branch(bit, zero, one))
+    }
+
+    /// Whether a bit is asked for before all that a node asks for.
+    fn is_before(&self, bit: u32, place: u32) -> bool
+        requires { place < length self.now }
+    {
+        match self.node(place) {
+            Node::Leaf(_) => true,
+            Node::Branch(asked, _, _) => self.order.is_before(bit, asked),
+        }
     }
 
     /// Where a node goes on if a bit is known: at one of its children, or where it does not ask for the bit at itself.
@@ -289,6 +313,7 @@ impl Diagrams {
         }
         self.spend()?;
         let step = step_of(
+            &self.order,
             self.node(call.first),
             self.node(call.second),
             self.node(call.third),
@@ -367,6 +392,23 @@ impl Diagrams {
             third: no,
         };
         self.apply_call(call, LEVELS)
+    }
+
+    /// A node that goes on at one of two others, by a bit, whichever bits they ask for.
+    #[tactic(auto, using(crate::proofs::Tables::grown_more, crate::proofs::Tables::grown_same, crate::proofs::Tables::grown_inside))]
+    pub fn by_bit(&mut self, bit: u32, zero: u32, one: u32) -> Result<u32, Stop>
+        requires zero { zero < length self.old }
+        requires one { one < length self.old }
+        ensures gives { IfOk result (Gives self.new (λ v. cond (v bit) (answer self.old v one) (answer self.old v zero))) }
+        ensures grew { Grew self.old self.new }
+    {
+        if self.is_before(bit, zero) && self.is_before(bit, one) {
+            return self.branch(bit, zero, one);
+        }
+        let no = self.leaf(Answer::Final(0, false))?;
+        let yes = self.leaf(Answer::Final(0, true))?;
+        let holds = self.branch(bit, no, yes)?;
+        self.ite(holds, one, zero)
     }
 
     /// Whether a node gives one answer to everything.

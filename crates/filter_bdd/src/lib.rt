@@ -8,9 +8,11 @@ mod answer;
 mod cache;
 mod compare;
 mod diagrams;
+mod order;
 mod table;
 
 pub use answer::{Answer, Operation};
 pub use compare::{ByOrder, Field};
 pub use diagrams::{Budget, Diagrams};
+pub use order::Order;
 pub use table::{Node, Stop};

@@ -6,7 +6,7 @@ ghost use Rattle.filter_meaning.specs.Meaning.{Packet, Test, and_test, or_test, 
 ghost use Rattle.filter_symbols.specs.Packets.{IsPacket, HasHeader, verdict_at};
 ghost use Rattle.filter_symbols.specs.Symbols.{SaysOf, Extends};
 
-use filter_bdd::{Answer, Budget, Operation, Stop};
+use filter_bdd::{Answer, Budget, Operation, Order, Stop};
 use filter_symbols::Symbols;
 use filter_tree::Direction;
 use std::alloc::Global;
@@ -18,17 +18,18 @@ pub(crate) struct Builder {
 }
 
 impl Builder {
-    /// No node yet.
-    pub fn new(alloc: Global, header: Option<u32>, budget: Budget) -> Builder
+    /// No node yet. Nodes will ask for bits in this order.
+    pub fn new(alloc: Global, header: Option<u32>, budget: Budget, order: Order) -> Builder
         ensures { result.symbols.header ≡ header }
     {
-        Builder {
-            symbols: Symbols::new(alloc, header, budget),
-        }
+        let mut symbols = Symbols::new(alloc, header, budget);
+        symbols.words.diagrams.set_order(order);
+        Builder { symbols }
     }
 
     /// A node that gives an answer.
     #[tactic(auto, using(crate::proofs::Builders::extends_by))]
+    #[inline(never)]
     pub fn leaf(&mut self, says: Answer) -> Result<u32, Stop>
         ensures gives { IfOk result (Gives self.new.symbols.words.diagrams (λ v. says)) }
         ensures extends { Extends self.old.symbols self.new.symbols }
@@ -38,6 +39,7 @@ impl Builder {
 
     /// `and` of two tests.
     #[tactic(auto, using(crate::proofs::Builders::extends_by))]
+    #[inline(never)]
     pub fn both(&mut self, first: u32, second: u32) -> Result<u32, Stop>
         requires first { first < length self.old.symbols.words.diagrams }
         requires second { second < length self.old.symbols.words.diagrams }
@@ -53,6 +55,7 @@ impl Builder {
 
     /// `or` of two tests.
     #[tactic(auto, using(crate::proofs::Builders::extends_by))]
+    #[inline(never)]
     pub fn either(&mut self, first: u32, second: u32) -> Result<u32, Stop>
         requires first { first < length self.old.symbols.words.diagrams }
         requires second { second < length self.old.symbols.words.diagrams }
@@ -68,6 +71,7 @@ impl Builder {
 
     /// `not` of a test.
     #[tactic(auto, using(crate::proofs::Builders::extends_by, crate::proofs::Builders::extends_more, crate::proofs::Builders::inside_extended))]
+    #[inline(never)]
     pub fn opposite(&mut self, place: u32) -> Result<u32, Stop>
         requires { place < length self.old.symbols.words.diagrams }
         ensures means { IfOk result (λ i. (t : Test) → SaysOf self.old.symbols t place → SaysOf self.new.symbols (not_test t) i) }

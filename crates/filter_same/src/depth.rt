@@ -8,6 +8,9 @@ pub(crate) const LEVELS: u32 = 1000;
 /// The most levels of a value that is calculated, where one level takes more stack.
 pub(crate) const VALUE_LEVELS: u32 = 64;
 
+/// The most levels of an expression that is looked at for being the same as another one: more than a text of 8,192 bytes gives.
+pub(crate) const TREE_LEVELS: u32 = 4_200;
+
 /// Whether a value has at most so many levels.
 fn is_shallow_value(value: &Value, levels: u32) -> bool {
     let Some(rest) = levels.checked_sub(1) else {

@@ -10,6 +10,7 @@ ghost use Rattle.filter_same.specs.Findings.{ClaimOf, ClaimsOf, Claims, HoldsUnl
 
 use crate::builder::Builder;
 use crate::filters::Filter;
+use crate::ordering::order_of;
 use crate::witness::{Extent, Witness};
 use filter_bdd::{Answer, Budget, Operation, Stop};
 use filter_symbols::Refusal;
@@ -180,7 +181,8 @@ fn find(
     requires { IfSome header (λ n. n < 16) }
     ensures { IfOk result (λ found. ClaimsOf header (filter_test first.entry) (filter_test second.entry) found.claim) }
 {
-    let mut builder = Builder::new(alloc, header, *budget);
+    let order = order_of(alloc, header, first, second)?;
+    let mut builder = Builder::new(alloc, header, *budget, order);
     let left = first.node(&mut builder, alloc)?;
     let right = second.node(&mut builder, alloc)?;
     let found = builder.find(alloc, left, right)?;

@@ -278,6 +278,7 @@ impl Builder {
     }
 
     /// A primitive.
+    #[inline(never)]
     pub fn primitive(&mut self, asked: Primitive) -> Result<u32, Refusal>
         requires { IfSome self.old.symbols.header (λ n. n < 16) }
         ensures means { IfOk result (SaysOf self.new.symbols (primitive_test asked)) }

@@ -54,6 +54,7 @@ impl Builder {
 
     /// A relation of two values.
     #[tactic(auto, using(crate::proofs::Builders::extends_more, crate::proofs::Builders::extends_same, crate::proofs::Builders::inside_extended))]
+    #[inline(never)]
     pub fn relation(
         &mut self,
         comparison: Comparison,

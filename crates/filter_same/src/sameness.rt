@@ -7,7 +7,7 @@ ghost use Rattle.filter_same.specs.Same.{AreNeverApart, Holds, HoldsOf, packet};
 ghost use Rattle.filter_same.specs.Filters.{HoldsOfFilters, filter_test};
 ghost use Rattle.filter_same.specs.Findings.{Claims};
 
-use crate::depth::{LEVELS, VALUE_LEVELS};
+use crate::depth::{LEVELS, TREE_LEVELS, VALUE_LEVELS};
 use crate::filters::Filter;
 use crate::find::{Claim, Finding, find_all};
 use crate::witness::Witness;
@@ -68,11 +68,16 @@ fn is_short(first: Verdict, second: Verdict) -> bool
 }
 
 /// How many steps are taken in all for each node that a diagram may have.
-const STEPS: u64 = 6;
+const STEPS: u64 = 2;
+
+/// Whether each of two filters has at most so many levels, and its values at most `value_levels`.
+fn are_shallow(first: Filter<'_>, second: Filter<'_>, levels: u32, value_levels: u32) -> bool {
+    first.is_shallow(levels, value_levels) && second.is_shallow(levels, value_levels)
+}
 
 /// What two expressions do on every packet there can be. Each answer but [`Sameness::NotDecided`] is so.
 ///
-/// `budget` is how many nodes the diagrams of one header length may have, and a sixth of the steps that are taken in all. `NoMemory` if
+/// `budget` is how many nodes the diagrams of one header length may have, and half of the steps that are taken in all. `NoMemory` if
 /// memory is refused.
 pub fn decide(
     alloc: Global,
@@ -94,9 +99,9 @@ pub fn decide(
 /// any bytes of it, and aborts if it reads past the captured bytes or divides by 0. Filters with the same tree, or the same instructions, are
 /// the same, whatever they calculate.
 ///
-/// `budget` is how many nodes the diagrams of one header length may have, and a sixth of the steps that are taken in all. It is spent too if a
-/// byte is wanted that is 2^17 bytes or more from the first one, or if 32,768 places of a program are walked. Expressions have at most 1,000
-/// levels, and those of their values that are calculated at most 64. `NoMemory` if memory is refused.
+/// `budget` is how many nodes the diagrams of one header length may have, and half of the steps that are taken in all. It is spent too if a
+/// byte is wanted that is 2^17 bytes or more from the first one, or if 16,384 places of a program are walked. Expressions have at most 1,000
+/// levels, and their values at most 64; the same tree twice may have more. `NoMemory` if memory is refused.
 pub fn decide_filters(
     alloc: Global,
     first: Filter<'_>,
@@ -105,13 +110,11 @@ pub fn decide_filters(
 ) -> Result<Sameness, NoMemory>
     ensures { IfOk result (HoldsOfFilters first.entry second.entry) }
 {
-    if !first.is_shallow(LEVELS) || !second.is_shallow(LEVELS) {
-        return Ok(Sameness::NotDecided(Cause::Levels));
-    }
-    if first.is_same(second) {
+    let are_trees = are_shallow(first, second, TREE_LEVELS, TREE_LEVELS);
+    if are_trees && first.is_same(second) {
         return Ok(Sameness::Same);
     }
-    if !first.is_shallow(VALUE_LEVELS) || !second.is_shallow(VALUE_LEVELS) {
+    if !are_shallow(first, second, LEVELS, VALUE_LEVELS) {
         return Ok(Sameness::NotDecided(Cause::Levels));
     }
     let whole = Budget {

@@ -15,7 +15,7 @@ use std::alloc::Global;
 use std::marker::Model;
 
 /// The most places that are kept, each with a state. A state has 2,376 bytes.
-const MOST_SPOTS: usize = 1 << 15;
+const MOST_SPOTS: usize = 1 << 14;
 
 /// A place of a program, and a state there.
 #[derive(Clone, Copy, Debug, PartialEq, Eq)]

@@ -72,6 +72,7 @@ impl Symbols {
     }
 
     /// What an operator makes of two symbols. It is nothing where one of them has no number, or a divisor is 0.
+    #[inline(never)]
     pub fn calculate(
         &mut self,
         operator: Operator,
@@ -120,6 +121,7 @@ impl Symbols {
     }
 
     /// A node that says whether two symbols compare in this way. It aborts where one of them has no number.
+    #[inline(never)]
     pub fn compare(
         &mut self,
         comparison: Comparison,

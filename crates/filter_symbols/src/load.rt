@@ -57,6 +57,7 @@ fn with_bit(number: u32, bit: u32) -> Result<u32, Stop>
 
 impl Symbols {
     /// Bytes of a packet at an offset of the frame.
+    #[inline(never)]
     pub fn load_at(&mut self, offset: u32, size: Size) -> Result<Symbol, Stop>
         ensures stands { IfOk result (StandsFor self.new (λ p. number_at p.captured offset (bytes_of size))) }
         ensures extends { Extends self.old self.new }
@@ -72,6 +73,7 @@ impl Symbols {
     }
 
     /// A node that says Yes where a condition does and another node is this bit.
+    #[inline(never)]
     fn narrow(&mut self, condition: u32, node: u32, one: bool) -> Result<u32, Stop>
         requires condition { IsBit self.old.words.diagrams condition }
         requires node { IsBit self.old.words.diagrams node }
@@ -87,6 +89,7 @@ impl Symbols {
     }
 
     /// One of two symbols, by a bit.
+    #[inline(never)]
     fn choose(&mut self, test: u32, one: Symbol, zero: Symbol) -> Result<Symbol, Stop>
         requires test { IsBit self.old.words.diagrams test }
         requires one { IsSymbol self.old.words.diagrams one }
@@ -102,6 +105,7 @@ impl Symbols {
     }
 
     /// Some symbol, for where nothing is asked.
+    #[inline(never)]
     fn any_symbol(&mut self) -> Result<Symbol, Stop>
         ensures inside { IfOk result (IsSymbol self.new.words.diagrams) }
         ensures extends { Extends self.old self.new }

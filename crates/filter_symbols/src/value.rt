@@ -16,6 +16,7 @@ const NETWORK: u32 = ETHER_HDR_LEN as u32;
 
 impl Symbols {
     /// A number.
+    #[inline(never)]
     pub fn number(&mut self, number: u32) -> Result<Symbol, Stop>
         ensures stands { IfOk result (StandsFor self.new (λ p. Some number)) }
         ensures extends { Extends self.old self.new }
@@ -26,6 +27,7 @@ impl Symbols {
     }
 
     /// The length on the wire.
+    #[inline(never)]
     pub fn wire_length(&mut self) -> Result<Symbol, Stop>
         ensures stands { IfOk result (StandsFor self.new (λ p. Some p.wire)) }
         ensures extends { Extends self.old self.new }
@@ -55,6 +57,7 @@ impl Symbols {
     }
 
     /// Bytes of a layer at an index.
+    #[inline(never)]
     fn access(&mut self, layer: Layer, index: Symbol, size: Size) -> Result<Symbol, Refusal>
         requires index { IsSymbol self.old.words.diagrams index }
         requires header { IfSome self.old.header (λ n. n < 16) }

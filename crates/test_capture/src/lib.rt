@@ -13,6 +13,8 @@ mod explained;
 #[cfg(test)]
 mod files_told;
 #[cfg(test)]
+mod in_memory;
+#[cfg(test)]
 mod in_time;
 #[cfg(test)]
 mod late;

@@ -5,7 +5,7 @@ use crate::same::same;
 use filter_same::Sameness;
 
 /// Pairs that accept the same packets, of every captured length.
-static SAME: [(&str, &str); 16] = [
+static SAME: [(&str, &str); 22] = [
     ("ip[0] + 1 = 70", "ip[0] = 69"),
     ("len - 14 = 100", "len = 114"),
     ("len * 2 = 200", "len = 100 or len = 2147483748"),
@@ -25,10 +25,26 @@ static SAME: [(&str, &str); 16] = [
         "tcp[((tcp[12] & 0xf0) >> 2):4] = 0x48545450",
         "tcp[(tcp[12] / 16 * 4):4] = 0x48545450",
     ),
+    // Fields that are compared with one another: their bits are asked for in turn.
+    ("ip[12:4] = ip[16:4]", "ip[12:4] - ip[16:4] = 0"),
+    ("tcp[8:4] > tcp[4:4]", "tcp[4:4] < tcp[8:4]"),
+    ("len - 14 != ip[2:2]", "len != ip[2:2] + 14"),
+    (
+        "udp[4:2] != ip[2:2] - ((ip[0] & 0xf) << 2)",
+        "ip[2:2] - 4 * (ip[0] % 16) != udp[4:2]",
+    ),
+    (
+        "ip[12:4] & 0xffffff00 = ip[16:4] & 0xffffff00",
+        "(ip[12:4] ^ ip[16:4]) & 0xffffff00 = 0",
+    ),
+    (
+        "ether[0:4] = ether[6:4] and ether[4:2] = ether[10:2]",
+        "ether[0:4] - ether[6:4] = 0 and ether[4:2] ^ ether[10:2] = 0",
+    ),
 ];
 
 /// Pairs of which a packet gets Yes from one and No from the other.
-static DIFFER: [(&str, &str); 7] = [
+static DIFFER: [(&str, &str); 10] = [
     ("ip[0] + 1 = 70", "ip[0] = 70"),
     ("len - 14 = 100", "len = 113"),
     ("ip[8] - 31 < 2", "ip[8] > 31 and ip[8] < 33"),
@@ -36,6 +52,15 @@ static DIFFER: [(&str, &str); 7] = [
     ("1 << ip[8] = 0", "ip[8] > 32"),
     ("ip[ip[0] & 0xf] = 7", "ip[5] = 7"),
     ("ip[8] / 3 = 2", "ip[8] % 3 = 2"),
+    (
+        "ip[12:4] = ip[16:4]",
+        "ip[12:4] & 0xffffff00 = ip[16:4] & 0xffffff00",
+    ),
+    ("tcp[8:4] > tcp[4:4]", "tcp[8:4] >= tcp[4:4]"),
+    (
+        "tcp[(tcp[12] >> 2):4] = 0x5353482d and (tcp[((tcp[12] >> 2) + 4):2] = 0x312e or tcp[((tcp[12] >> 2) + 4):2] = 0x322e)",
+        "tcp[(tcp[12] >> 2):4] = 0x5353482d and tcp[((tcp[12] >> 2) + 4):2] = 0x312e",
+    ),
 ];
 
 #[test]

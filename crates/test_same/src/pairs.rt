@@ -154,13 +154,26 @@ fn what_asks_for_thousands_of_bits_is_decided(rt: HostRuntime) {
     same(&rt, matches!(other, Sameness::Differ(_)), true);
 }
 
+/// A chain of so many tests.
+fn deep(rt: &(impl Abort + AllocGlobal), count: u32) -> String {
+    let mut text = String::new(rt.alloc());
+    for _ in 1..count {
+        text.push_str("tcp or ").expect(rt, "there is memory");
+    }
+    text.push_str("tcp").expect(rt, "there is memory");
+    text
+}
+
 #[test]
 fn more_than_a_thousand_levels_are_not_decided(rt: HostRuntime) {
-    let mut deep = String::new(rt.alloc());
-    for _ in 0..1000 {
-        deep.push_str("tcp or ").expect(&rt, "there is memory");
-    }
-    deep.push_str("tcp").expect(&rt, "there is memory");
+    let (long, longer) = (deep(&rt, 1000), deep(&rt, 1001));
+    decided(&rt, &long, "ip proto 6", 100_000, Sameness::Same);
     let wanted = Sameness::NotDecided(Cause::Levels);
-    decided(&rt, &deep, &deep, 100_000, wanted);
+    decided(&rt, &longer, "ip proto 6", 100_000, wanted);
+}
+
+#[test]
+fn the_same_tree_may_have_more_levels(rt: HostRuntime) {
+    let (first, second) = (deep(&rt, 1150), deep(&rt, 1150));
+    decided(&rt, &first, &second, 1, Sameness::Same);
 }
