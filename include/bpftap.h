@@ -21,8 +21,8 @@
  *     Calls may run at the same time in different threads.
  *   - 128 KiB of stack are enough for a call that reads no expression. bpftap_compile, bpftap_print, bpftap_hint, bpftap_why, bpftap_looks,
  *     bpftap_compare, bpftap_picture and the calls bpftap_steps.. need 512 KiB for expressions of up to 1,000 bytes, and 2 MiB for any:
- *     give 2 MiB to a thread that takes expressions from outside. If both expressions of bpftap_compare ask for many bytes, it needs
- *     2 MiB for expressions of up to 1,000 bytes each, and 16 MiB for any. This is measured, not proved.
+ *     give 2 MiB to a thread that takes expressions from outside. What bpftap_compare needs to decide two expressions, once they are read, is at most
+ *     256 KiB of these. This is measured, not proved.
  *
  * What the caller owes
  *
@@ -281,7 +281,8 @@ enum bpftap_sameness {
 /* Why nothing is claimed. */
 enum bpftap_cause {
     BPFTAP_GRAPHS = 1,  /* their decision graphs differ, and no packet was found that shows how they do */
-    BPFTAP_BUDGET = 2,  /* the budget is spent, or an expression has more than 1,000 levels, or a value of it more than 64 */
+    BPFTAP_BUDGET = 2,  /* the budget is spent, or an expression has more than 1,000 levels, of which one of a value counts as 8, or a value
+                           of it more than 64 */
     BPFTAP_RELATION = 3 /* no call gives it since 2.3.0: versions before did not decide some kinds of relations */
 };
 

@@ -2,7 +2,7 @@
 #include "calls.h"
 #include <pthread.h>
 
-/* What bpftap.h says: up to 1,000 bytes an expression needs 512 KiB, and two of any size need 16 MiB. */
+/* What bpftap.h says: up to 1,000 bytes an expression needs 512 KiB, and two of any size need 2 MiB: there is room for more. */
 enum { SHORT = 1000, STACK = 17 << 20 };
 
 /* Runs a call on a thread with all the stack that it may need. Where there is none, nothing is run. */

@@ -105,23 +105,22 @@ def refused_memory_is_reported(scene):
 
 
 def stated_stacks():
-    """How many KiB of stack the header states: for calls that read no expression, for short expressions, for any, and for two that both ask for
-    many bytes, short ones and any."""
+    """How many KiB of stack the header states: for calls that read no expression, for short expressions, and for any."""
     header = " ".join((ROOT / "include" / "bpftap.h").read_text().replace("\n *", " ").split())
     found = re.search(r"(\d+) KiB of stack are enough for a call that reads no expression.* need (\d+) KiB for expressions of up to 1,000 bytes, "
-                      r"and (\d+) MiB for any.* it needs (\d+) MiB for expressions of up to 1,000 bytes each, and (\d+) MiB for any", header)
-    return int(found[1]), int(found[2]), *(1024 * int(found[n]) for n in (3, 4, 5))
+                      r"and (\d+) MiB for any", header)
+    return int(found[1]), int(found[2]), 1024 * int(found[3])
 
 
 def check_stacks(scene, called, limit=LIMIT):
     """A program of tests/library/stacks.c, and how it is called: no call runs out of the stack that the header states."""
-    others, short, most, wide, widest = stated_stacks()
+    others, short, most = stated_stacks()
     chance = random.Random(17)
     texts = [text for text in (meaning.text_of(meaning.expression(chance, 2)) for _ in range(100)) if len(text) <= 1000]
     given = {
         "random": (short, "".join(f"{text}\t{other}\n" for text, other in zip(texts, texts[1:]))),
         "deep, 1,000 bytes": (short, python(scene, "deep.py", ["1000"])), "deep, 8,192 bytes": (most, python(scene, "deep.py", ["8192"])),
-        "wide, 1,000 bytes": (wide, python(scene, "deep.py", ["--wide", "1000"])), "wide, 8,192 bytes": (widest, python(scene, "deep.py", ["--wide", "8192"])),
+        "wide, 1,000 bytes": (short, python(scene, "deep.py", ["--wide", "1000"])), "wide, 8,192 bytes": (most, python(scene, "deep.py", ["--wide", "8192"])),
     }
     for name, (stack, lines) in given.items():
         budget = ["2000000"] if name.startswith("wide") else []

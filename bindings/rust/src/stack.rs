@@ -7,7 +7,7 @@ use crate::Error;
 /// `bpftap.h` says how much stack a call needs that reads expressions: up to this many bytes an expression needs 512 KiB, and a thread of Rust
 /// has 2 MiB.
 const SHORT: usize = 1000;
-/// Any two expressions need 16 MiB.
+/// Any two expressions need 2 MiB, and there is room for more.
 const STACK: usize = 17 << 20;
 
 /// What a call returns, on a thread of its own that has all the stack that it may need.

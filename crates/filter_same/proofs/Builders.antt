@@ -1,8 +1,7 @@
 -- Builders that get more nodes, and what nodes mean in them.
 use Rattle.std.proofs.Common.{◌≡◌, ℕ, ◌<◌, Bool, true, false, List, length, refl, sym, ap, ◌∙◌, arith, subst}
-use Rattle.std.specs.Prelude.{if◌then◌else◌, nat_le, max, Result, Ok, Err, IfOk, Option, Some, None, IfSome}
+use Rattle.std.specs.Prelude.{if◌then◌else◌, nat_le, Result, Ok, Err, IfOk, Option, Some, None, IfSome}
 use Rattle.std.proofs.lemmas.Bool.Decides.{nat_tests}
-use Rattle.filter_meaning.specs.declared.verdict.Verdict.{Verdict}
 use Rattle.filter_meaning.specs.declared.verdict.Verdict.TheVariants.{Yes, No, Abort}
 use Rattle.filter_meaning.specs.Meaning.{Packet, Test, and_then, or_else, opposite, decided, and_test, or_test, not_test, meaning}
 use Rattle.filter_tree.specs.Trees.{Tree}

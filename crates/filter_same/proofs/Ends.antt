@@ -12,14 +12,13 @@ use Rattle.filter_bdd.specs.declared.answer.Answer.TheVariants.{Final, Never}
 use Rattle.filter_bdd.specs.declared.answer.Operation.TheVariants.{Agree, Apart, Cut}
 use Rattle.filter_bdd.specs.declared.table.Node.{Node}
 use Rattle.filter_same.specs.declared.find.Claim.{Claim}
-use Rattle.filter_same.specs.declared.find.Claim.TheVariants.{Same, SameAsCaptured, NeverApart}
 use Rattle.filter_bdd.specs.Answers.{joined, accepted_from, agree_from, apart_answer, cut_answer}
 use Rattle.filter_bdd.specs.Diagrams.{answer, Gives, Grew}
 use Rattle.filter_bdd.specs.Fields.{by_order, number_of}
 use Rattle.filter_bdd.proofs.Tables.{grown-answer}
 use Rattle.filter_symbols.specs.declared.symbol.Symbols.{Symbols}
 use Rattle.filter_same.specs.Same.{IsCaptured}
-use Rattle.filter_symbols.specs.Packets.{bit_of, verdict_of, verdict_at, IsPacket, HasHeader}
+use Rattle.filter_symbols.specs.Packets.{bit_of, verdict_of, IsPacket, HasHeader}
 use Rattle.filter_symbols.specs.Symbols.{SaysOf, Extends}
 use Rattle.filter_same.specs.Findings.{KeepsNo, HoldsUnlessNo, AcceptsAlike, AreNotApart, ClaimOf, Claims, ClaimsOf}
 use Rattle.filter_same.proofs.Builders.{head-back, verdict-grown}

@@ -2,13 +2,12 @@
 use Rattle.std.proofs.Common.{◌≡◌, ℕ, ◌+◌, ◌*◌, ◌%◌, ◌^◌, ◌<◌, inl, inr, Bool, true, false, List, length, refl, sym, ap, ◌∙◌, arith, subst}
 use Rattle.std.specs.Prelude.{if◌then◌else◌, nat_lt, bit_and, Option, Some, None, option_and_then, option_map, IfSome, slice_index}
 use Rattle.std.proofs.lemmas.Nat.{and_le_r}
-use Rattle.std.proofs.Math.Nat.{mod-eq_of_lt}
 use Rattle.bpfvm.specs.declared.insn.Insn.{Insn}
 use Rattle.bpfvm.specs.Codes as codes
-use Rattle.bpfvm.specs.Machine.{Registers, Goes, Ends, operand, calculated, holds, loaded, number_at, value_in, with_value, with_cell}
+use Rattle.bpfvm.specs.Machine.{Registers, Goes, operand, calculated, holds, loaded, number_at, value_in, with_value, with_cell}
 use Rattle.filter_tree.specs.declared.tree.Operator.{Operator}
-use Rattle.filter_meaning.specs.declared.verdict.Verdict.TheVariants.{Yes, No, Abort}
-use Rattle.filter_meaning.specs.Meaning.{Packet, arithmetic_of, bytes_of, decided}
+use Rattle.filter_meaning.specs.declared.verdict.Verdict.TheVariants.{Yes, No}
+use Rattle.filter_meaning.specs.Meaning.{Packet, arithmetic_of, decided}
 use Rattle.filter_bdd.specs.declared.answer.Answer.TheVariants.{Final}
 use Rattle.filter_bdd.specs.declared.table.Node.{Node}
 use Rattle.filter_bdd.specs.Diagrams.{answer, Gives, Grew}
@@ -17,8 +16,8 @@ use Rattle.filter_words.specs.Words.{Says, IsWord, value, HasValue}
 use Rattle.filter_words.proofs.Nodes.{word_grown, value-grown}
 use Rattle.filter_symbols.specs.declared.symbol.Symbols.{Symbols}
 use Rattle.filter_symbols.specs.declared.symbol.Symbol.{Symbol}
-use Rattle.filter_symbols.specs.Packets.{bit_of, verdict_of, verdict_at, IsPacket, HasHeader}
-use Rattle.filter_symbols.specs.Symbols.{IsSymbol, Is, StandsFor, Extends}
+use Rattle.filter_symbols.specs.Packets.{bit_of, verdict_of, verdict_at}
+use Rattle.filter_symbols.specs.Symbols.{Is, StandsFor, Extends}
 use Rattle.filter_symbols.proofs.Guards.{bit-verdict, stands-as, stands-grown}
 use Rattle.filter_symbols.proofs.Stands.{there}
 use Rattle.filter_same.specs.declared.actions.Action.{Action}
@@ -31,9 +30,9 @@ use Rattle.filter_same.specs.declared.actions.Test.{Test}
 use Rattle.filter_same.specs.declared.state.State.{State}
 use Rattle.filter_same.specs.declared.steps.Step.{Step}
 use Rattle.filter_same.specs.declared.steps.Step.TheVariants as steps
-use Rattle.filter_same.specs.Actions.{register_of, operand_of, comparison_of, number_from, effect_by, is_return}
+use Rattle.filter_same.specs.Actions.{register_of, operand_of, comparison_of, number_from}
 use Rattle.filter_same.specs.States.{cell, word_in, AreWords, IsNumber, IsStateOf, HasWord, HasCell}
-use Rattle.filter_same.specs.Walks.{IsOperand, IsLoad, IsInside, GoesOn, IsEffect, IsOn, IsJump, IsStepOf}
+use Rattle.filter_same.specs.Walks.{IsOperand, IsLoad, IsInside, IsEffect, IsOn, IsJump, IsStepOf}
 use Rattle.filter_same.proofs.States.{words_grown, state-on, with-words, with-state, cell-words, cell-state}
 
 pub word_extended : (a b : Symbols) (w : Word) → Extends a b → IsWord a.words.diagrams w → IsWord b.words.diagrams w

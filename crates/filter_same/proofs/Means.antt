@@ -7,14 +7,14 @@ use Rattle.std.proofs.lemmas.Nat.{and_mask}
 use Rattle.std.proofs.Math.Nat.{mod-eq_of_lt, pow-le-pow_right}
 use Rattle.bpfvm.specs.Machine.{number_at, big_endian}
 use Rattle.filter_meaning.specs.declared.verdict.Verdict.TheVariants.{Abort}
-use Rattle.filter_meaning.specs.Meaning.{Packet, Test, and_then, decided, check, byte, half, half_behind_header, within, is_address, address_number, has_address}
+use Rattle.filter_meaning.specs.Meaning.{Packet, and_then, decided, check, byte, half, half_behind_header, within, is_address, address_number, has_address}
 use Rattle.filter_meaning.proofs.Numbers.{number-some, number-none}
 use Rattle.filter_bdd.specs.declared.answer.Answer.{Answer}
 use Rattle.filter_bdd.specs.declared.answer.Answer.TheVariants.{Final}
-use Rattle.filter_bdd.specs.Diagrams.{answer, Gives}
+use Rattle.filter_bdd.specs.Diagrams.{Gives}
 use Rattle.filter_bdd.specs.Fields.{number_of, by_order}
 use Rattle.filter_symbols.specs.declared.symbol.Symbols.{Symbols}
-use Rattle.filter_symbols.specs.Packets.{bit_of, verdict_of, IsPacket, HasHeader}
+use Rattle.filter_symbols.specs.Packets.{bit_of, verdict_of, HasHeader}
 use Rattle.filter_symbols.specs.Symbols.{SaysOf}
 use Rattle.filter_symbols.proofs.Frames.{field-below}
 use Rattle.filter_same.proofs.Bits.{field-number, wire-number}

@@ -1,6 +1,6 @@
 -- States: their words as tables grow, and what is put into them or left out.
 use Rattle.std.proofs.Common.{◌≡◌, ℕ, ◌<◌, ◌≢◌, inl, inr, Bool, true, false, List, [], ◌∷◌, ◌&&◌, length, set, refl, sym, ap, ◌∙◌, subst, get_or-set_other, get_or-set_same}
-use Rattle.std.specs.Prelude.{◌==◌, ◌⊎◌, nat_eq, Option, Some, None, IfSome, slice_index, slice_index_or}
+use Rattle.std.specs.Prelude.{◌==◌, nat_eq, Option, Some, None, IfSome, slice_index, slice_index_or}
 use Rattle.std.specs.Cmp.Lexicographic.{pointwise}
 use Rattle.std.specs.Option.{option_eq}
 use Rattle.std.proofs.lemmas.Bool.{eqb-true, eqb-false}

@@ -6,24 +6,22 @@ use Rattle.std.proofs.lemmas.Option.{get_or_from_slice_get, slice_get_within}
 use Rattle.bpfvm.specs.declared.insn.Insn.{Insn}
 use Rattle.bpfvm.specs.Codes.{operation_of}
 use Rattle.bpfvm.specs.Machine.{Registers, Goes, effect, initial}
-use Rattle.bpfvm.specs.Validity.{is_return_code}
-use Rattle.filter_meaning.specs.declared.verdict.Verdict.{Verdict}
-use Rattle.filter_meaning.specs.declared.verdict.Verdict.TheVariants.{Yes, Abort}
+use Rattle.filter_meaning.specs.declared.verdict.Verdict.TheVariants.{Abort}
 use Rattle.filter_meaning.specs.Meaning.{Packet, Test, and_then, and_test, decided}
 use Rattle.filter_symbols.specs.declared.symbol.Symbols.{Symbols}
-use Rattle.filter_symbols.specs.Packets.{verdict_at, IsPacket, HasHeader}
+use Rattle.filter_symbols.specs.Packets.{verdict_at}
 use Rattle.filter_symbols.specs.Symbols.{SaysOf, Extends}
 use Rattle.filter_same.specs.declared.actions.Action.{Action}
 use Rattle.filter_same.specs.declared.state.State.{State}
 use Rattle.filter_same.specs.declared.spots.Spot.{Spot}
 use Rattle.filter_same.specs.declared.steps.Step.TheVariants.{On, Branch, End}
-use Rattle.filter_same.specs.Actions.{IsAction, effect_by, is_return}
-use Rattle.filter_same.specs.Programs.{ended, run_test, program_test}
+use Rattle.filter_same.specs.Actions.{IsAction, effect_by}
+use Rattle.filter_same.specs.Programs.{run_test, program_test}
 use Rattle.filter_same.specs.States.{AreWords, IsStateOf, IsPart, IsInitial}
 use Rattle.filter_same.specs.Walks.{IsStepOf, Follows, IsNodeOf, AreNodes, AreSpots}
-use Rattle.filter_same.proofs.Builders.{means-grown, verdict-grown, head-back, inside_extended}
+use Rattle.filter_same.proofs.Builders.{verdict-grown, head-back, inside_extended}
 use Rattle.filter_same.proofs.Runs.{run-goes, run-ends}
-use Rattle.filter_same.proofs.States.{words_grown, state-back, state-on, part-words, part-state}
+use Rattle.filter_same.proofs.States.{words_grown, state-back, part-state}
 
 -- ---- Spots
 

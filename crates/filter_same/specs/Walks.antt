@@ -1,5 +1,5 @@
 -- What instructions do by the words of a state, and what a node says of the rest of a run. Private clauses alone say this.
-use Rattle.std.specs.Prelude.{◌≡◌, ⊤, ℕ, ◌<◌, ◌⊎◌, List, [], ◌∷◌, Bool, true, false, length, drop, Option, Some, nat_lt, if◌then◌else◌}
+use Rattle.std.specs.Prelude.{◌≡◌, ⊤, ℕ, ◌<◌, ◌⊎◌, List, [], ◌∷◌, Bool, true, false, length, drop, Option, nat_lt, if◌then◌else◌}
 use Rattle.bpfvm.specs.declared.insn.Insn.{Insn}
 use Rattle.bpfvm.specs.Codes.{Operand}
 use Rattle.bpfvm.specs.Machine.{Registers, Effect, Goes, Ends, operand}

@@ -2,14 +2,30 @@
 
 use filter_tree::{Expr, Value};
 
-/// The most levels of an expression that is compared.
-pub(crate) const LEVELS: u32 = 1000;
+/// How many levels an expression may have.
+#[derive(Clone, Copy, Debug)]
+pub(crate) struct Limits {
+    /// Of the expression, down to the end of a value.
+    levels: u32,
+    /// Of a value.
+    value_levels: u32,
+    /// As how many levels one of a value counts.
+    weight: u32,
+}
 
-/// The most levels of a value that is calculated, where one level takes more stack.
-pub(crate) const VALUE_LEVELS: u32 = 64;
+/// Of an expression whose diagram is made. A level of a value takes more stack.
+pub(crate) const CALCULATED: Limits = Limits {
+    levels: 1_000,
+    value_levels: 64,
+    weight: 8,
+};
 
-/// The most levels of an expression that is looked at for being the same as another one: more than a text of 8,192 bytes gives.
-pub(crate) const TREE_LEVELS: u32 = 4_200;
+/// Of an expression that is only looked at for being the same tree as another one: more than a text of 8,192 bytes gives.
+pub(crate) const LOOKED_AT: Limits = Limits {
+    levels: 4_200,
+    value_levels: 4_200,
+    weight: 1,
+};
 
 /// Whether a value has at most so many levels.
 fn is_shallow_value(value: &Value, levels: u32) -> bool {
@@ -26,20 +42,25 @@ fn is_shallow_value(value: &Value, levels: u32) -> bool {
     }
 }
 
-/// Whether an expression has at most so many levels, and each of its values at most `value_levels`.
-pub(crate) fn is_shallow(expr: &Expr, levels: u32, value_levels: u32) -> bool {
+/// Whether an expression has at most so many levels, those of its values weighed.
+fn has_levels(expr: &Expr, levels: u32, limits: Limits) -> bool {
     let Some(rest) = levels.checked_sub(1) else {
         return false;
     };
     match expr {
         Expr::Everything | Expr::Test(_) => true,
         Expr::Relation(_, left, right) => {
-            let most = rest.min(value_levels);
+            let most = (rest / limits.weight.max(1)).min(limits.value_levels);
             is_shallow_value(left, most) && is_shallow_value(right, most)
         }
-        Expr::Not(operand) => is_shallow(operand, rest, value_levels),
+        Expr::Not(operand) => has_levels(operand, rest, limits),
         Expr::And(left, right) | Expr::Or(left, right) => {
-            is_shallow(left, rest, value_levels) && is_shallow(right, rest, value_levels)
+            has_levels(left, rest, limits) && has_levels(right, rest, limits)
         }
     }
+}
+
+/// Whether an expression is within limits.
+pub(crate) fn is_shallow(expr: &Expr, limits: Limits) -> bool {
+    has_levels(expr, limits.levels, limits)
 }

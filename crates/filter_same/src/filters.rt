@@ -9,7 +9,7 @@ ghost use Rattle.filter_same.specs.Same.{packet, AcceptSame};
 
 use crate::alike::is_same_expr;
 use crate::builder::Builder;
-use crate::depth::is_shallow;
+use crate::depth::{Limits, is_shallow};
 use crate::witness::Witness;
 use bpfvm::{How, Program, run_to_end};
 use filter_meaning::{Verdict, evaluate};
@@ -42,11 +42,10 @@ fn program_verdict(program: &Program, witness: &Witness) -> Verdict
 }
 
 impl Filter<'_> {
-    /// Whether an expression has at most so many levels, and each of its values at most `value_levels`, so that what goes down in it needs
-    /// a bounded stack. A program has none.
-    pub(crate) fn is_shallow(self, levels: u32, value_levels: u32) -> bool {
+    /// Whether an expression is within limits, so that what goes down in it needs a bounded stack. A program has no levels.
+    pub(crate) fn is_shallow(self, limits: Limits) -> bool {
         match self {
-            Filter::Expression(expr) => is_shallow(expr, levels, value_levels),
+            Filter::Expression(expr) => is_shallow(expr, limits),
             Filter::Program(_) => true,
         }
     }

@@ -152,7 +152,7 @@ impl Builder {
         ensures extends { Extends self.old.symbols self.new.symbols }
     {
         let insns = program.insns();
-        let mut spots = Spots::new(alloc, insns)?;
+        let mut spots = Spots::new(alloc, insns, self.symbols.header.is_some())?;
         let mut waiting = Vec::new(alloc);
         let state = self.initial()?;
         let start = Spot { place: 0, state };

@@ -7,7 +7,7 @@ ghost use Rattle.filter_same.specs.Same.{AreNeverApart, Holds, HoldsOf, packet};
 ghost use Rattle.filter_same.specs.Filters.{HoldsOfFilters, filter_test};
 ghost use Rattle.filter_same.specs.Findings.{Claims};
 
-use crate::depth::{LEVELS, TREE_LEVELS, VALUE_LEVELS};
+use crate::depth::{CALCULATED, LOOKED_AT, Limits};
 use crate::filters::Filter;
 use crate::find::{Claim, Finding, find_all};
 use crate::witness::Witness;
@@ -70,9 +70,9 @@ fn is_short(first: Verdict, second: Verdict) -> bool
 /// How many steps are taken in all for each node that a diagram may have.
 const STEPS: u64 = 2;
 
-/// Whether each of two filters has at most so many levels, and its values at most `value_levels`.
-fn are_shallow(first: Filter<'_>, second: Filter<'_>, levels: u32, value_levels: u32) -> bool {
-    first.is_shallow(levels, value_levels) && second.is_shallow(levels, value_levels)
+/// Whether each of two filters is within limits.
+fn are_shallow(first: Filter<'_>, second: Filter<'_>, limits: Limits) -> bool {
+    first.is_shallow(limits) && second.is_shallow(limits)
 }
 
 /// What two expressions do on every packet there can be. Each answer but [`Sameness::NotDecided`] is so.
@@ -100,8 +100,9 @@ pub fn decide(
 /// the same, whatever they calculate.
 ///
 /// `budget` is how many nodes the diagrams of one header length may have, and half of the steps that are taken in all. It is spent too if a
-/// byte is wanted that is 2^17 bytes or more from the first one, or if 16,384 places of a program are walked. Expressions have at most 1,000
-/// levels, and their values at most 64; the same tree twice may have more. `NoMemory` if memory is refused.
+/// byte is wanted that is 2^17 bytes or more from the first one, or if 32,768 places of a program are walked, or 8,192 for a header length.
+/// Expressions have at most 1,000 levels, of which one of a value counts as eight, and values at most 64; the same tree twice may have more.
+/// `NoMemory` if memory is refused.
 pub fn decide_filters(
     alloc: Global,
     first: Filter<'_>,
@@ -110,11 +111,10 @@ pub fn decide_filters(
 ) -> Result<Sameness, NoMemory>
     ensures { IfOk result (HoldsOfFilters first.entry second.entry) }
 {
-    let are_trees = are_shallow(first, second, TREE_LEVELS, TREE_LEVELS);
-    if are_trees && first.is_same(second) {
+    if are_shallow(first, second, LOOKED_AT) && first.is_same(second) {
         return Ok(Sameness::Same);
     }
-    if !are_shallow(first, second, LEVELS, VALUE_LEVELS) {
+    if !are_shallow(first, second, CALCULATED) {
         return Ok(Sameness::NotDecided(Cause::Levels));
     }
     let whole = Budget {

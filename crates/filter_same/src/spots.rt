@@ -14,8 +14,11 @@ use indexmap::IndexMap;
 use std::alloc::Global;
 use std::marker::Model;
 
-/// The most places that are kept, each with a state. A state has 2,376 bytes.
-const MOST_SPOTS: usize = 1 << 14;
+/// The most places that are kept, each with a state, where no header length is given. A state has 2,376 bytes.
+const MOST_SPOTS: usize = 1 << 15;
+
+/// The same where one is given: there are sixteen, one after the other.
+const MOST_OF_EACH: usize = 1 << 13;
 
 /// A place of a program, and a state there.
 #[derive(Clone, Copy, Debug, PartialEq, Eq)]
@@ -53,6 +56,8 @@ pub(crate) struct Spots {
     places: IndexMap<u64, usize>,
     /// What the program reads again, by its places.
     live: Vec<Live>,
+    /// How many may be kept.
+    most: usize,
 }
 
 impl Model for Spots {
@@ -65,14 +70,15 @@ impl Model for Spots {
 }
 
 impl Spots {
-    /// No spot of a program was walked.
-    pub fn new(alloc: Global, insns: &[Insn]) -> Result<Spots, Stop>
+    /// No spot of a program was walked. Fewer may be kept if it is walked for each header length.
+    pub fn new(alloc: Global, insns: &[Insn], each: bool) -> Result<Spots, Stop>
         ensures { IfOk result (λ s. s ≡ []) }
     {
         Ok(Spots {
             nodes: Vec::new(alloc),
             places: IndexMap::new(alloc),
             live: live_of(alloc, insns)?,
+            most: if each { MOST_OF_EACH } else { MOST_SPOTS },
         })
     }
 
@@ -117,7 +123,7 @@ impl Spots {
             → IsNodeOf b insns spot node → AreNodes b insns self.new) }
     {
         let place = self.nodes.len();
-        if place >= MOST_SPOTS {
+        if place >= self.most {
             return Err(Stop::Budget);
         }
         let digest = spot.state.digest(spot.place);

@@ -1,12 +1,10 @@
 use Rattle.std.proofs.Common.{refl}
 use Rattle.bpfvm.specs.Codes.{operation_of}
 use Rattle.filter_tree.specs.declared.tree.Operator.TheVariants as operators
-use Rattle.filter_tree.specs.declared.tree.Size.TheVariants as sizes
 use Rattle.filter_same.specs.declared.actions.Register.TheVariants as registers
 use Rattle.filter_same.specs.declared.actions.Operand.TheVariants as operands
 use Rattle.filter_same.specs.declared.actions.Source.TheVariants as sources
-use Rattle.filter_same.specs.declared.actions.Test.TheVariants as tests
-use Rattle.filter_same.specs.declared.actions.Action.TheVariants.{Load, Store, Jump, Branch, ReturnConstant, ReturnAccumulator}
+use Rattle.filter_same.specs.declared.actions.Action.TheVariants.{Load}
 use Rattle.filter_same.proofs.Codes.{of-code}
 use Rattle.filter_same.proofs.actions.calculation_of.Goals as goal
 

@@ -1,7 +1,6 @@
-use Rattle.filter_meaning.specs.Meaning.{Test}
 use Rattle.filter_same.specs.Same.{IsCaptured}
 use Rattle.filter_same.specs.Findings.{AcceptsAlike, AreNotApart}
-use Rattle.filter_same.proofs.Builders.{extends_more, inside_extended}
+use Rattle.filter_same.proofs.Builders.{extends_more}
 use Rattle.filter_same.proofs.Ends.{unless-grown, unless-kept, unless-always}
 use Rattle.filter_same.proofs.builder.Builder.find_captured.Goals as goal
 

@@ -1,17 +1,15 @@
-use Rattle.std.proofs.Common.{◌≡◌, ◌+◌, ◌*◌, ap, sym, refl, ◌∙◌, arith}
+use Rattle.std.proofs.Common.{◌+◌, ◌*◌, ap, sym, refl, ◌∙◌}
 use Rattle.std.specs.Prelude.{Some, option_map, bit_and}
 use Rattle.bpfvm.specs.Codes as codes
 use Rattle.bpfvm.specs.Machine.{number_at, calculated}
 use Rattle.filter_meaning.specs.Meaning.{arithmetic_of, bytes_of}
-use Rattle.filter_tree.specs.declared.tree.Operator.TheVariants.{Minus}
 use Rattle.filter_words.specs.Words.{value}
 use Rattle.filter_words.proofs.Nodes.{word_grown}
 use Rattle.filter_symbols.specs.Packets.{bit_of}
 use Rattle.filter_same.specs.declared.actions.Register.TheVariants as registers
 use Rattle.filter_same.specs.declared.actions.Source.TheVariants as sources
-use Rattle.filter_same.specs.Actions.{operand_of}
 use Rattle.filter_same.proofs.Builders.{map-ok}
-use Rattle.filter_same.proofs.Instructions.{load-as, load-by, register-number, register-word, cell-number, cell-word, index-first, calculated-number, negated-number}
+use Rattle.filter_same.proofs.Instructions.{load-as, load-by, register-number, register-word, cell-number, index-first, calculated-number, negated-number}
 use Rattle.filter_same.proofs.builder.Builder.load_of.Goals as goal
 
 pub returns-in_ok-load_at-in-Absolute-clause-load : goal.returns-in_ok-load_at-in-Absolute-clause-load
