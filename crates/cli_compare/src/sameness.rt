@@ -53,7 +53,7 @@ fn filter_of(filter: &AskedFilter) -> Filter<'_>
 
 /// A witness as a packet, at time 0.
 pub(crate) fn packet_of_witness(witness: &Witness) -> PacketRef<'_>
-    ensures { result.now ≡ packet_of_witness witness.now }
+    ensures { result ≡ packet_of_witness witness.now }
 {
     PacketRef {
         sec: 0,

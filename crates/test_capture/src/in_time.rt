@@ -132,7 +132,7 @@ fn compare_sends_each_line_before_it_reads_on(rt: HostRuntime) {
         second: AskedFilter::Program(reject_all(&rt)),
     };
     let mut out = writer_of(&rt, &calls);
-    compare_captures(rt.alloc(), captures, &pair, &mut out);
+    compare_captures(rt.alloc(), captures, &pair, PacketForm::Text, &mut out);
     same(&rt, out.seen.as_slice(), [2, 3, 4].as_slice());
 }
 
