@@ -20,7 +20,7 @@ _bpftap_options() {
     '') echo '--hints -h --help -V --version' ;;
     check) echo '-d -x --json --dot -p -s -e -f -h --help' ;;
     explain) echo '-s -e -f -p -c -l -q --exactly --at-least --at-most --json -h --help' ;;
-    compare) echo '-s -f -q -w -h --help' ;;
+    compare) echo '-s -f -q -w --json -h --help' ;;
     info | run | parts) echo '--json -h --help' ;;
     cut) echo '-s -e -f -o -u -c -w --bytes --json -h --help' ;;
     split) echo '-o -u --json -h --help' ;;

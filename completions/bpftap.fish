@@ -47,6 +47,7 @@ complete -c bpftap -n '__fish_seen_subcommand_from compare; and not __fish_seen_
 complete -c bpftap -n '__fish_seen_subcommand_from compare; and not __fish_seen_subcommand_from help' -s f -r -F -d 'Filter program instead of EXPR2'
 complete -c bpftap -n '__fish_seen_subcommand_from compare; and not __fish_seen_subcommand_from help' -s q -d 'Print nothing; the status says whether a packet is treated differently'
 complete -c bpftap -n '__fish_seen_subcommand_from compare; and not __fish_seen_subcommand_from help' -s w -r -F -d 'Without IN, write a packet that shows the difference'
+complete -c bpftap -n '__fish_seen_subcommand_from compare; and not __fish_seen_subcommand_from help' -l json -d 'Print objects of JSON'
 complete -c bpftap -n '__fish_seen_subcommand_from compare; and not __fish_seen_subcommand_from help' -s h -l help -d 'Print help'
 
 complete -c bpftap -n '__fish_seen_subcommand_from info; and not __fish_seen_subcommand_from help' -F

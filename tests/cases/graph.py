@@ -1,7 +1,8 @@
 """`bpftap check --dot`: the graph of a program is followed as a program, and its words are those of the fields."""
+import html
 import re
 
-from .common import IP, TORN, VETH, WHOLE, case, fault_lines
+from .common import IP, ROOT, TORN, VETH, WHOLE, case, fault_lines
 
 # A line of a box, and one of an arrow.
 BOX = re.compile(r'  n(\d+) \[label="([^"]*)"(, style=rounded)?(, penwidth=3)?\];')
@@ -71,3 +72,17 @@ def a_graph_is_refused(scene):
     for words in ["check -p 0 ip in.pcap", "check --dot -p 0 ip", "check --dot ip in.pcap", "check --dot -p x ip in.pcap", "check --dot -d ip", "check --dot --json ip"]:
         seen = scene.run(words)
         scene.check(words, (seen.out, seen.status, seen.err.startswith(b"error: ")), (b"", 1, True))
+
+
+@case
+def the_picture_of_a_lesson_is_its_graph(scene):
+    """Each text of the SVG is one of the graph that the lesson's command prints, and what is marked there has thicker lines."""
+    lessons = ROOT / "examples" / "lessons"
+    expr = re.search(r"check --dot -p 123 '(.*)'", (lessons / "assembly.md").read_text())[1]
+    boxes, arrows = read_graph(scene.run(["check", "--dot", "-p", "123", expr, str(VETH)]).out.decode())
+    drawn = (lessons / "way.svg").read_text()
+    texts = sorted(html.unescape(text) for text in re.findall(r"<text [^>]*>(.*?)</text>", drawn))
+    scene.check("texts", texts, sorted([*(words for words, _ in boxes.values()), *(word for _, _, word, _ in arrows)]))
+    marked = {*(f"n{name}" for name, (_, is_marked) in boxes.items() if is_marked), *(f"n{start}->n{end}" for start, end, _, is_marked in arrows if is_marked)}
+    groups = re.findall(r'<g id="(?:node|edge)\d+".*?<title>(.*?)</title>(.*?)</g>', drawn, re.S)
+    scene.check("marks", {html.unescape(title) for title, lines in groups if 'stroke-width="3"' in lines}, marked)

@@ -82,6 +82,90 @@ def an_object_reads_so(scene):
         '{"packets":4,"yes":2,"no":1,"abort":1}\n']))
 
 
+DIFFERENCE = re.compile(r"(place \d+ time \S+ len \d+ captured \d+) first (Yes|No|Abort) (.*) second (Yes|No|Abort) (.*)")
+DIFFERENCES = re.compile(r"(\d+) packets: (\d+) differ, (\d+) accepted by the first alone, (\d+) by the second")
+
+
+def answer_of(answer, rest, is_program=False):
+    return {"answer": answer.lower(), **(end_of if is_program else decided_of)(rest)}
+
+
+def differences_of(text, is_program):
+    """The facts of the lines of `compare`, of which the second filter may be a program. Captures can't be told apart in the text: the number is left out."""
+    for line in text.splitlines():
+        if found := DIFFERENCES.fullmatch(line):
+            yield dict(zip(("packets", "differ", "first", "second"), map(int, found.groups())))
+            continue
+        head, first, one, second, other = DIFFERENCE.fullmatch(line).groups()
+        place, seconds, nanos, length, captured = re.fullmatch(r"place (\d+) time (\d+)\.(\d{9}) len (\d+) captured (\d+)", head).groups()
+        yield {
+            "place": int(place), "seconds": int(seconds), "nanoseconds": int(nanos), "length": int(length), "captured": int(captured),
+            "first": answer_of(first, one), "second": answer_of(second, other, is_program)}
+
+
+@case
+def each_difference_is_an_object(scene):
+    """`compare --json` has the facts of the lines, in order, the number of the capture, and the status."""
+    scene.start({"in.pcap": MIXED, "torn.pcap": TORN})
+    captures = [*sorted(str(path) for path in (ROOT / "examples").glob("*.pcap")), "in.pcap", "torn.pcap"]
+    pairs = [["tcp port 8080", "tcp dst port 8080"], ["not tcp", "1 / (len - 98) = 0"], ["-f", str(ROOT / "examples" / "ssh.asm"), "tcp"]]
+    for words in pairs:
+        is_program = "-f" in words
+        for inputs in ([one] for one in captures):
+            text, seen = scene.run(["compare", *words, *inputs]), scene.run(["compare", "--json", *words, *inputs])
+            objects = parsed(seen.out)
+            numbers = [one.pop("capture") for one in objects[:-1]]
+            wanted = list(differences_of(text.out.decode(), is_program))
+            scene.check(f"objects of {words} {inputs}", objects, wanted)
+            scene.check(f"members in order of {words} {inputs}", [list(one) for one in objects], [list(one) for one in wanted])
+            scene.check(f"numbers and status of {words} {inputs}", ({*numbers} <= {0}, seen.status), (True, text.status))
+    seen = parsed(scene.run(["compare", "--json", "ip", "not tcp", "in.pcap", "in.pcap"]).out)
+    scene.check("numbers of captures", [one.get("capture") for one in seen], [0, 0, 0, 1, 1, 1, None])
+    scene.check("counts of both", seen[-1], {"packets": 8, "differ": 6, "first": 4, "second": 2})
+    scene.expect("compare --json arp 'ip[9] = 17' in.pcap", out="".join([
+        '{"capture":0,"place":0,"seconds":1,"nanoseconds":0,"length":14,"captured":14,'
+        '"first":{"answer":"yes","decided":"arp"},"second":{"answer":"no","decided":"ip[9] = 17"}}\n',
+        '{"capture":0,"place":3,"seconds":2,"nanoseconds":0,"length":38,"captured":38,'
+        '"first":{"answer":"no","decided":"arp"},"second":{"answer":"yes","decided":"ip[9] = 17"}}\n',
+        '{"packets":4,"differ":2,"first":1,"second":1}\n']))
+    torn = '{"fault":"TornRecord","numbers":[1],"file":"torn.pcap"}\n'
+    scene.expect("compare --json tcp tcp torn.pcap", 2, torn, '{"packets":1,"differ":0,"first":0,"second":0}\n')
+    scene.expect("compare --json -q ip arp in.pcap", 4)
+
+
+# Pairs of filters of which a packet shows the difference.
+SHOWN = [
+    ("tcp", "udp"), ("tcp port 80", "tcp dst port 80"), ("ip[100] = 1", "ip"), ("not tcp", "not ip proto 6 and ether[60] >= 0"),
+    ("arp", "arp or ether[13] = 7")]
+
+
+def dumped_bytes(lines):
+    """The bytes of a packet, from the lines that `tcpdump -XX` prints."""
+    return "".join(line.split(": ")[1][:40].replace(" ", "") for line in lines)
+
+
+@case
+def an_answer_about_two_filters_is_an_object(scene):
+    """`compare --json` without a capture: the answer, its cause, and the packet, as the text has them."""
+    product = "5\n32 0 0 26\n7 0 0 0\n32 0 0 30\n44 0 0 0\n22 0 0 0\n"
+    scene.start({"ip.bpf": "4\n40 0 0 12\n21 0 1 2048\n6 0 0 262144\n6 0 0 0\n", "product.bpf": product})
+    scene.expect("compare --json tcp 'ip proto 6'", out='{"answer":"same"}\n')
+    scene.expect("compare --json -q tcp udp", 4)
+    scene.expect("compare --json -f ip.bpf ip", out='{"answer":"same"}\n')
+    undecided = '{"answer":"not decided","cause":"it takes more than 2000000 nodes"}\n'
+    scene.expect("compare --json -f product.bpf 'ether[26:4] * ether[30:4] != 0'", 5, out=undecided)
+    for first, second in SHOWN:
+        text = scene.run(["compare", first, second])
+        lines = text.out.decode().splitlines()
+        seen = scene.run(["compare", "--json", first, second])
+        scene.check(f"one line of {first}, {second}", (seen.out.count(b"\n"), seen.status), (1, text.status))
+        found = re.fullmatch(r"len (\d+) captured (\d+) first (Yes|No|Abort) (.*) second (Yes|No|Abort) (.*)", lines[1])
+        length, captured, answer, one, other, rest = found.groups()
+        scene.check(f"object of {first}, {second}", json.loads(seen.out), {
+            "answer": lines[0], "length": int(length), "captured": int(captured), "bytes": dumped_bytes(lines[2:]),
+            "first": answer_of(answer, one), "second": answer_of(other, rest)})
+
+
 def random_capture(numbers):
     """A small capture of random frames, one at least, cut anywhere, with nanoseconds; sometimes it is torn."""
     text = bytes.fromhex("4d3cb2a1") + header()[4:]

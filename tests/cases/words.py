@@ -84,7 +84,7 @@ WORDS_OF_OTHERS = [
     ("compare -w out.pcap -z tcp udp", 1, []),
     ("explain -nn -e ip in.pcap", 1, ["addresses are never looked up: leave this option out"]),
     ("cut in.pcap out.pcap", 1, ["-s 0 keeps packets whole"]),
-    ("cut -c -s 0 -e ip in.pcap", 1, []),
+    ("cut -c -s 0 -e ip in.pcap", 1, ["to count only: bpftap explain -c -e EXPR IN, or give /dev/null as OUT"]),
     ("cut -s 0 -e ip in.pcap", 1, []),
     ("split", 1, []),
     ("cut -c 10 -s 0 -e ip in.pcap out.pcap", 1,

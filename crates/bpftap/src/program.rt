@@ -77,7 +77,10 @@ fn dispatch<
             let status = count_command(rt, &asked, out, err);
             hint_several(rt.alloc(), words, asked.inputs.as_slice(), status, err)
         }
-        Ok(Request::Compare(words)) => compare_command(rt, &words, out, err),
+        Ok(Request::Compare(words)) => {
+            err.set_form(LineForm::asked(words.json));
+            compare_command(rt, &words, out, err)
+        }
         Ok(Request::Cut(asked)) => {
             err.set_form(LineForm::asked(asked.json));
             let status = match asked.bytes {

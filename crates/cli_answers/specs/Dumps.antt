@@ -17,6 +17,10 @@ unfoldable pub digits_text : (begins : Bool) → List ℕ → List ℕ
 digits_text begins [] = []
 digits_text begins (byte ∷ rest) = group_text begins byte ++ digits_text (not begins) rest
 
+-- bytes as digits, without a blank
+abbrev pub hex_text : List ℕ → List ℕ
+hex_text bytes = flat_map (group_text false) bytes
+
 -- a dot stands for what is no graphic character of ASCII
 abbrev pub shown : ℕ → List ℕ
 shown byte = cond (is_ascii_graphic byte) byte 46 ∷ []

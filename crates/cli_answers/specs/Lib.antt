@@ -2,6 +2,7 @@ pub mod Filter
 pub mod Printed
 pub mod Verdicts
 pub mod Answers
+pub mod Objects
 pub mod Counts
 pub mod Reading
 pub mod Seeking

@@ -7,16 +7,19 @@ ghost use Rattle.cli_answers.specs.Counts.{counted, counts_in, counts_json, coun
 use crate::form::PacketForm;
 use crate::printing::{Unprinted, send_last};
 use bpfvm::NoMemory;
+use cli_watch::frames::FrameCounts;
 use filter_meaning::Verdict;
 use std::io::Write;
 
-/// How many packets a filter was asked, and how many of these it answered Yes, No and Abort.
+/// How many packets a filter was asked, and how many of these it answered Yes, No and Abort; and into how many frames no filter looks.
 #[derive(Clone, Copy, Debug, PartialEq, Eq)]
 pub struct VerdictCounts {
     pub packets: u64,
     pub yes: u64,
     pub no: u64,
     pub abort: u64,
+    /// How many are IPv6 or have a VLAN tag.
+    pub unseen: u64,
 }
 
 impl VerdictCounts {
@@ -26,6 +29,7 @@ impl VerdictCounts {
         yes: 0,
         no: 0,
         abort: 0,
+        unseen: 0,
     };
 
     /// The counts of the packets of both, each up to 2^64 - 1.
@@ -37,17 +41,33 @@ impl VerdictCounts {
             yes: self.yes.saturating_add(other.yes),
             no: self.no.saturating_add(other.no),
             abort: self.abort.saturating_add(other.abort),
+            unseen: self.unseen.saturating_add(other.unseen),
         }
     }
 
-    /// Counts one packet more.
-    pub fn count(&mut self, verdict: Verdict)
+    /// The frames, and into how many of them no filter looks.
+    pub fn frames(self) -> FrameCounts
+        ensures frames { result.frames ≡ self.packets }
+        ensures unseen { result.unseen ≡ self.unseen }
+    {
+        FrameCounts {
+            frames: self.packets,
+            unseen: self.unseen,
+        }
+    }
+
+    /// Counts one packet more, whose frame is unseen or not.
+    pub fn count(&mut self, verdict: Verdict, is_unseen: bool)
         requires room { self.now.packets + 1 < 2 ^ 64 }
         requires yes { self.now.yes ≤ self.now.packets }
         requires no { self.now.no ≤ self.now.packets }
         requires abort { self.now.abort ≤ self.now.packets }
-        ensures { self.new ≡ counted verdict self.old }
+        requires unseen { self.now.unseen ≤ self.now.packets }
+        ensures { self.new ≡ counted verdict is_unseen self.old }
     {
+        if is_unseen {
+            self.unseen += 1;
+        }
         self.packets += 1;
         match verdict {
             Verdict::Yes => self.yes += 1,

@@ -2,7 +2,7 @@
 
 ghost use Rattle.std.specs.Prelude.{◌≡◌, ◌++◌, ◌<◌, ◌≤◌, length, [], replicate, IfOk, OnOk, string_bytes, false, true};
 ghost use Rattle.std.specs.List.{flat_map};
-ghost use Rattle.cli_answers.specs.Dumps.{digits_text, dump_text, group_text, offset_text, row_text, shown};
+ghost use Rattle.cli_answers.specs.Dumps.{digits_text, dump_text, group_text, hex_text, offset_text, row_text, shown};
 
 use bpfvm::NoMemory;
 use filter_meaning::Look;
@@ -43,6 +43,16 @@ fn put_digits(text: &mut String, bytes: &[u8]) -> Result<(), AllocError>
     for byte in bytes {
         put_byte(text, begins, *byte)?;
         begins = !begins;
+    }
+    Ok(())
+}
+
+/// Appends bytes as digits, without a blank.
+pub fn put_hex(text: &mut String, bytes: &[u8]) -> Result<(), AllocError>
+    ensures { OnOk result (string_bytes text.new ≡ string_bytes text.old ++ hex_text bytes.now) }
+{
+    for byte in bytes {
+        put_byte(text, false, *byte)?;
     }
     Ok(())
 }

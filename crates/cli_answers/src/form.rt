@@ -1,7 +1,9 @@
-//! The form of the lines of packets.
+//! The form of the lines of packets, and what they are put together in.
 
 ghost use Rattle.std.specs.Prelude.{◌≡◌};
-ghost use Rattle.cli_answers.specs.Counts.{of_capture};
+ghost use Rattle.cli_answers.specs.Counts.{asked_form, of_capture};
+
+use std::alloc::Global;
 
 /// The form of the lines of packets.
 #[derive(Clone, Copy, Debug, PartialEq, Eq)]
@@ -13,6 +15,17 @@ pub enum PacketForm {
 }
 
 impl PacketForm {
+    /// The form that is asked for, of capture 0: objects if `--json` is given.
+    pub fn asked(json: bool) -> PacketForm
+        ensures { result ≡ asked_form json }
+    {
+        if json {
+            PacketForm::Json(0)
+        } else {
+            PacketForm::Text
+        }
+    }
+
     /// The form of the lines of the capture of this number.
     pub fn of_capture(self, number: usize) -> PacketForm
         ensures { result ≡ of_capture self number }
@@ -20,6 +33,23 @@ impl PacketForm {
         match self {
             PacketForm::Text => PacketForm::Text,
             PacketForm::Json(_) => PacketForm::Json(number),
+        }
+    }
+}
+
+/// A line that is put together, and what is in one of its strings.
+#[derive(Drop)]
+pub struct LineBuffer {
+    pub line: String,
+    pub text: String,
+}
+
+impl LineBuffer {
+    /// An empty line.
+    pub fn new(alloc: Global) -> LineBuffer {
+        LineBuffer {
+            line: String::new(alloc),
+            text: String::new(alloc),
         }
     }
 }

@@ -1,12 +1,14 @@
 //! What a filter answers to packets, and why: what the commands that ask filters share.
 #![tactic(auto)]
 
+pub mod ahead;
 pub mod captures;
 pub mod counts;
 pub mod dump;
 pub mod filter;
 pub mod form;
 pub mod hints;
+pub mod json;
 pub mod line;
 pub mod plan;
 pub mod printing;

@@ -19,16 +19,18 @@ pub struct CompareWords<'a> {
     pub listing: Option<&'a str>,
     /// Whether `-q` is given: nothing is printed, and the status says whether a packet is treated differently.
     pub quiet: bool,
+    /// Whether `--json` is given.
+    pub json: bool,
     /// The path that a packet which shows the difference is written to, if `-w` is given. There are no captures then.
     pub output: Option<&'a str>,
     /// The paths of the captures, in order. Without any, the filters are decided for every packet.
     pub inputs: Vec<&'a str>,
 }
 
-const COMPARE_USAGE: &str = "bpftap compare [-s N] [-q] <EXPR1> <EXPR2> <IN>...
-       bpftap compare [-s N] [-q] -f <LISTING> <EXPR1> <IN>...
-       bpftap compare [-s N] [-q] [-w <OUT>] <EXPR1> <EXPR2>
-       bpftap compare [-s N] [-q] [-w <OUT>] -f <LISTING> <EXPR1>";
+const COMPARE_USAGE: &str = "bpftap compare [-s N] [-q] [--json] <EXPR1> <EXPR2> <IN>...
+       bpftap compare [-s N] [-q] [--json] -f <LISTING> <EXPR1> <IN>...
+       bpftap compare [-s N] [-q] [--json] [-w <OUT>] <EXPR1> <EXPR2>
+       bpftap compare [-s N] [-q] [--json] [-w <OUT>] -f <LISTING> <EXPR1>";
 
 const COMPARE_EXAMPLES: &str = "Examples:
   bpftap compare 'tcp port 80' 'tcp dst port 80' examples/veth.pcap
@@ -52,12 +54,16 @@ Without IN both filters are decided for every packet. compare prints one of thes
 If they differ, a packet that shows it follows: its lengths, both answers, and its bytes. -w writes
 it to OUT, for bpftap explain -p 0 -e EXPR1 OUT.
 
+With --json each packet is an object on a line of its own, and so are the counts. Without IN there
+is one object, which has the answer, and the packet that shows the difference with its bytes:
+  bpftap compare --json 'tcp' 'ip proto 17' | jq -r .answer
+
 Exit status: 0 all was read, with -q: no packet is treated differently; without IN: the same, or
 the same as captured; 1 bad usage, a refused expression, file or listing, or out of memory; 2 a
 torn or bad record, after the packets before it; 3 a file or device failed; 4 with -q: a packet is
 treated differently; without IN: they differ, also only where one aborts; 5 not decided.";
 
-static ARGUMENTS: [Argument; 7] = [
+static ARGUMENTS: [Argument; 8] = [
     Argument::DefaultSnap,
     Argument::Listing,
     Argument::Quiet("Print nothing; end with status 0 if no packet is treated differently, else 4"),
@@ -67,6 +73,7 @@ static ARGUMENTS: [Argument; 7] = [
         "OUT",
         "Without IN: write a packet that shows the difference, if there is one",
     ),
+    Argument::Json,
     Argument::Path(
         "EXPR1",
         "First filter: an expression of pcap-filter(7), as one word",
@@ -147,6 +154,7 @@ pub fn compare_words<'a>(
         second: if listing.is_some() { None } else { second },
         listing,
         quiet: matches.get_flag("quiet"),
+        json: matches.get_flag("json"),
         output: matches.get_str("output"),
         inputs: inputs_of(alloc, listing.is_some(), second, others)?,
     }))

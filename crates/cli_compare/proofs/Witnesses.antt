@@ -9,6 +9,7 @@ use Rattle.filter_same.specs.declared.sameness.Sameness.{Sameness}
 use Rattle.filter_same.specs.declared.witness.Witness.{Witness}
 use Rattle.filter_same.specs.Same.{HoldsOf}
 use Rattle.std.specs.declared.io.Error.{Error}
+use Rattle.line_text.specs.declared.form.LineForm.{LineForm}
 use Rattle.line_text.specs.Sending.{TakesPart}
 use Rattle.line_text.specs.Texts.{end_of_line}
 use Rattle.cli_answers.specs.declared.printing.Unprinted.{Unprinted}
@@ -39,13 +40,13 @@ holds-as f g f' g' t u t' u' s ef et eg eu h =
     subst (λ x. HoldsOf x g' t' u' s) ef (subst (λ x. HoldsOf f x t' u' s) eg (subst (λ x. HoldsOf f g x u' s) et (subst (λ x. HoldsOf f g t x s) eu h)))
 
 -- an answer holds, and the writer took a part of its text
-pub unanswered : (pair : FilterPair) (budget : ℕ) (s : Sameness) (text : List ℕ) (old new : Option (List ℕ)) (error : Error) → HoldsOfPair pair s → IsText pair budget s text → TakesPart old new text
-    → IsUnanswered pair budget old new (Output error)
-unanswered pair budget s text old new error holds is part = (s, holds, text, is, part)
+pub unanswered : (form : LineForm) (pair : FilterPair) (budget : ℕ) (s : Sameness) (text : List ℕ) (old new : Option (List ℕ)) (error : Error) → HoldsOfPair pair s → IsText form pair budget s text → TakesPart old new text
+    → IsUnanswered form pair budget old new (Output error)
+unanswered form pair budget s text old new error holds is part = (s, holds, text, is, part)
 
 -- the same of the result that has the writer's error
-pub unanswered-by : {T : Type 0} (pair : FilterPair) (budget : ℕ) (s : Sameness) (bytes text : List ℕ) (old new : Option (List ℕ)) (error : Error) (e : Unprinted) (result : Result T Unprinted)
-    → result ≡ Err e → e ≡ Output error → HoldsOfPair pair s → bytes ≡ text → IsText pair budget s text → TakesPart old new bytes → IfErr result (IsUnanswered pair budget old new)
-unanswered-by {T} pair budget s bytes text old new error e result ended from holds same is part =
-    subst (λ r. IfErr r (IsUnanswered pair budget old new)) (sym ended) (subst (IsUnanswered pair budget old new) (sym from)
-    (unanswered pair budget s text old new error holds is (subst (TakesPart old new) same part)))
+pub unanswered-by : {T : Type 0} (form : LineForm) (pair : FilterPair) (budget : ℕ) (s : Sameness) (bytes text : List ℕ) (old new : Option (List ℕ)) (error : Error) (e : Unprinted) (result : Result T Unprinted)
+    → result ≡ Err e → e ≡ Output error → HoldsOfPair pair s → bytes ≡ text → IsText form pair budget s text → TakesPart old new bytes → IfErr result (IsUnanswered form pair budget old new)
+unanswered-by {T} form pair budget s bytes text old new error e result ended from holds same is part =
+    subst (λ r. IfErr r (IsUnanswered form pair budget old new)) (sym ended) (subst (IsUnanswered form pair budget old new) (sym from)
+    (unanswered form pair budget s text old new error holds is (subst (TakesPart old new) same part)))

@@ -8,52 +8,60 @@ use Rattle.savefile.specs.Reader.{WasBegun}
 use Rattle.line_text.specs.Sending.{TakesPart}
 use Rattle.cli_answers.specs.declared.printing.Unprinted.{Unprinted}
 use Rattle.cli_answers.specs.declared.printing.Unprinted.TheVariants as unprinted
-use Rattle.cli_answers.specs.Answers.{Answer, answer, IsAnswer}
+use Rattle.cli_answers.specs.declared.form.PacketForm.{PacketForm}
+use Rattle.cli_answers.specs.Answers.{Answer}
+use Rattle.cli_answers.specs.Objects.{IsAnswerIn, IsJsonAnswer}
 use Rattle.cli_answers.specs.Reading.{IsUnopened, ReadsTo}
 use Rattle.cli_compare.specs.declared.each.Compared.{Compared}
 use Rattle.cli_compare.specs.declared.each.DifferenceCounts.{DifferenceCounts}
 use Rattle.cli_compare.specs.declared.pair.FilterPair.{FilterPair}
 use Rattle.cli_compare.specs.Pairs.{AreCounts, AreDifferences, Difference, differs}
-use Rattle.cli_compare.specs.Printed.{difference_line, difference_lines}
+use Rattle.cli_compare.specs.Printed.{difference_line, difference_lines, with_both}
 
 -- The printing broke off at a line: a beginning of the lines of packets that the capture begins with was printed.
-abbrev pub BreaksOff : {A : Type 0} → FilterPair → Option (List ℕ) → Header → Option (List ℕ) → Option (List ℕ) → Result A Fault → Result A Unprinted → Type 0
-BreaksOff pair from header old new read done =
-    (packets : List Packet) × (differences : List Difference) × AreDifferences pair packets differences × WasBegun from header packets
-    × IsOk read × IsErr done × TakesPart old new (difference_lines differences)
+abbrev pub BreaksOff : {A : Type 0} → PacketForm → FilterPair → Option (List ℕ) → Header → Option (List ℕ) → Option (List ℕ) → Result A Fault → Result A Unprinted → Type 0
+BreaksOff form pair from header old new read done =
+    (packets : List Packet) × (differences : List Difference) × AreDifferences form pair packets differences × WasBegun from header packets
+    × IsOk read × IsErr done × TakesPart old new (difference_lines form differences)
 
 -- the lines of the packets of a reader that are treated differently were printed, and all packets counted
-abbrev pub PrintsDifferences : {A : Type 0} → FilterPair → Option (List ℕ) → Option (List ℕ) → Header → Option (List ℕ) → Option (List ℕ) → DifferenceCounts → Result A Fault → Result A Unprinted → Type 0
-PrintsDifferences pair from left header old new counts read done =
-    BreaksOff pair from header old new read done
-    ⊎ ((packets : List Packet) × (differences : List Difference) × AreDifferences pair packets differences × ReadsTo from left header packets read
-    × IsOk done × Appends old new (difference_lines differences) × AreCounts pair counts packets)
+abbrev pub PrintsDifferences : {A : Type 0} → PacketForm → FilterPair → Option (List ℕ) → Option (List ℕ) → Header → Option (List ℕ) → Option (List ℕ) → DifferenceCounts → Result A Fault → Result A Unprinted → Type 0
+PrintsDifferences form pair from left header old new counts read done =
+    BreaksOff form pair from header old new read done
+    ⊎ ((packets : List Packet) × (differences : List Difference) × AreDifferences form pair packets differences × ReadsTo from left header packets read
+    × IsOk done × Appends old new (difference_lines form differences) × AreCounts pair counts packets)
 
 -- The header was not read, and nothing was printed; or the packets up to some end were compared.
-abbrev pub Compares : {R : Type 0} → (R → Option (List ℕ)) → R → FilterPair → Option (List ℕ) → Option (List ℕ) → Compared R → Type 0
-Compares left from pair old new c =
+abbrev pub Compares : {R : Type 0} → (R → Option (List ℕ)) → R → PacketForm → FilterPair → Option (List ℕ) → Option (List ℕ) → Compared R → Type 0
+Compares left from form pair old new c =
     ((fault : Fault) × IsUnopened left from c.source fault × IsErrOf c.read fault × IsOk c.printed × Keeps old new × AreCounts pair c.counts []
     × (c.opened ≡ false))
-    ⊎ ((c.opened ≡ true) × (header : Header) × PrintsDifferences pair (left from) (left c.source) header old new c.counts c.read c.printed)
+    ⊎ ((c.opened ≡ true) × (header : Header) × PrintsDifferences form pair (left from) (left c.source) header old new c.counts c.read c.printed)
 
 -- ---- A line
+
+-- after what a line had, what each filter answers to a packet was put, and the end of an object
+abbrev pub PutsBoth : FilterPair → Packet → List ℕ → List ℕ → Type 0
+PutsBoth pair p old new =
+    (first second : Answer) × (first.packet ≡ p) × (second.packet ≡ p) × IsJsonAnswer pair.first first × IsJsonAnswer pair.second second
+    × (new ≡ with_both old first second)
 
 abbrev pub difference : ℕ → Answer → Answer → Difference
 difference place first second = record { place = place; first = first; second = second }
 
 -- what two filters answer to a packet that they treat differently
-abbrev pub IsOf : FilterPair → ℕ → Packet → Difference → Type 0
-IsOf pair place p d =
-    (d.place ≡ place) × (d.first.packet ≡ p) × (d.second.packet ≡ p) × IsAnswer pair.first d.first × IsAnswer pair.second d.second
+abbrev pub IsOf : PacketForm → FilterPair → ℕ → Packet → Difference → Type 0
+IsOf form pair place p d =
+    (d.place ≡ place) × (d.first.packet ≡ p) × (d.second.packet ≡ p) × IsAnswerIn form pair.first d.first × IsAnswerIn form pair.second d.second
 
 -- the line of a packet was printed, if it is treated differently, and else nothing
-abbrev pub PrintsOne : FilterPair → ℕ → Packet → Option (List ℕ) → Option (List ℕ) → Type 0
-PrintsOne pair place p old new =
+abbrev pub PrintsOne : PacketForm → FilterPair → ℕ → Packet → Option (List ℕ) → Option (List ℕ) → Type 0
+PrintsOne form pair place p old new =
     ((differs pair p ≡ false) × Keeps old new)
-    ⊎ ((differs pair p ≡ true) × (d : Difference) × IsOf pair place p d × Appends old new (difference_line d))
+    ⊎ ((differs pair p ≡ true) × (d : Difference) × IsOf form pair place p d × Appends old new (difference_line form d))
 
 -- or it is treated differently, and its line was not printed, or a beginning of it
-abbrev pub IsOneBroken : FilterPair → ℕ → Packet → Option (List ℕ) → Option (List ℕ) → Unprinted → Type 0
-IsOneBroken pair place p old new unprinted.NoMemory = Keeps old new
-IsOneBroken pair place p old new (unprinted.Output error) =
-    (differs pair p ≡ true) × (d : Difference) × IsOf pair place p d × TakesPart old new (difference_line d)
+abbrev pub IsOneBroken : PacketForm → FilterPair → ℕ → Packet → Option (List ℕ) → Option (List ℕ) → Unprinted → Type 0
+IsOneBroken form pair place p old new unprinted.NoMemory = Keeps old new
+IsOneBroken form pair place p old new (unprinted.Output error) =
+    (differs pair p ≡ true) × (d : Difference) × IsOf form pair place p d × TakesPart old new (difference_line form d)

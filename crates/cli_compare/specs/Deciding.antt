@@ -15,15 +15,18 @@ use Rattle.filter_same.specs.Programs.{keeps, program_test}
 use Rattle.filter_same.specs.Same.{HoldsOf}
 use Rattle.cli_text.specs.declared.status.Status.{Status}
 use Rattle.cli_text.specs.declared.status.Status.TheVariants.{Clean, Negative, Undecided, Refused, Failed}
+use Rattle.line_text.specs.declared.form.LineForm.{LineForm}
+use Rattle.line_text.specs.declared.form.LineForm.TheVariants as line
 use Rattle.line_text.specs.Sending.{TakesPart}
 use Rattle.line_text.specs.Texts.{end_of_line}
-use Rattle.cli_answers.specs.Dumps.{dump_text}
+use Rattle.cli_answers.specs.Dumps.{dump_text, hex_text}
 use Rattle.cli_answers.specs.declared.filter.AskedFilter.{AskedFilter}
 use Rattle.cli_answers.specs.declared.filter.AskedFilter.TheVariants.{Expression, Program}
+use Rattle.cli_answers.specs.declared.form.PacketForm.TheVariants.{Text}
 use Rattle.cli_answers.specs.declared.printing.Unprinted.{Unprinted}
 use Rattle.cli_answers.specs.declared.printing.Unprinted.TheVariants.{NoMemory, Output}
 use Rattle.cli_compare.specs.declared.pair.FilterPair.{FilterPair}
-use Rattle.cli_compare.specs.Compared.{IsOf}
+use Rattle.cli_compare.specs.Compared.{IsOf, PutsBoth}
 use Rattle.cli_compare.specs.Pairs.{Difference}
 
 -- why two filters are not decided, within a budget of nodes
@@ -67,7 +70,7 @@ lengths_text w = codes "len " ++ decimal w.wire ++ codes " captured " ++ decimal
 -- after what was there, the line of a witness was put: `len W captured C first Yes REASON second No REASON`, with what each filter answers to it
 abbrev pub PutsWitness : FilterPair → Witness → List ℕ → List ℕ → Type 0
 PutsWitness pair w old new =
-    (d : Difference) × IsOf pair 0 (packet_of_witness w) d
+    (d : Difference) × IsOf Text pair 0 (packet_of_witness w) d
     × (new ≡ old ++ lengths_text w ++ (verdict_text d.first.verdict ++ codes " ") ++ d.first.reason
     ++ codes " second " ++ (verdict_text d.second.verdict ++ codes " ") ++ d.second.reason ++ end_of_line)
 
@@ -91,18 +94,48 @@ dump_of (Some w) = dump_text w.bytes.items
 dump_of None = []
 
 -- a text is the line of an answer, the line of its witness, and the bytes of the witness
-abbrev pub IsText : FilterPair → ℕ → Sameness → List ℕ → Type 0
-IsText pair budget s text = (lines : List ℕ) × PutsDetail pair s (answer_line budget s) lines × (text ≡ lines ++ dump_of (witness_of s))
+abbrev pub AreLines : FilterPair → ℕ → Sameness → List ℕ → Type 0
+AreLines pair budget s text = (lines : List ℕ) × PutsDetail pair s (answer_line budget s) lines × (text ≡ lines ++ dump_of (witness_of s))
+
+-- ---- The object of an answer
+
+-- `,"length":W,"captured":C,"bytes":"`
+abbrev pub size_json : Witness → List ℕ
+size_json w = codes ",\"length\":" ++ decimal w.wire ++ codes ",\"captured\":" ++ decimal (length w.bytes.items) ++ codes ",\"bytes\":\""
+
+-- after this text, the lengths and the bytes of a witness
+abbrev pub with_witness : List ℕ → Witness → List ℕ
+with_witness text w = text ++ size_json w ++ hex_text w.bytes.items ++ codes "\","
+
+-- a text is the object of an answer that begins so and has this witness
+abbrev pub PutsWitnessObject : FilterPair → Witness → (head text : List ℕ) → Type 0
+PutsWitnessObject pair w head text = PutsBoth pair (packet_of_witness w) (with_witness head w) text
+
+-- a text is the object of an answer
+abbrev pub IsObject : FilterPair → ℕ → Sameness → List ℕ → Type 0
+IsObject pair budget Same text = text ≡ codes "{\"answer\":\"same\"}\n"
+IsObject pair budget SameAsCaptured text = text ≡ codes "{\"answer\":\"same as captured\"}\n"
+IsObject pair budget (Short w) text =
+    PutsWitnessObject pair w (codes "{\"answer\":\"differ only where one aborts\"") text
+IsObject pair budget (Differ w) text = PutsWitnessObject pair w (codes "{\"answer\":\"differ\"") text
+IsObject pair budget (NotDecided cause) text = text ≡ codes "{\"answer\":\"not decided\",\"cause\":\"" ++ cause_text budget cause ++ codes "\"}\n"
+
+-- ---- What is printed
+
+-- a text is what an answer is printed as
+abbrev pub IsText : LineForm → FilterPair → ℕ → Sameness → List ℕ → Type 0
+IsText line.Text pair budget s text = AreLines pair budget s text
+IsText line.Json pair budget s text = IsObject pair budget s text
 
 -- a text of an answer was printed
-abbrev pub PrintsAnswer : FilterPair → ℕ → Sameness → Option (List ℕ) → Option (List ℕ) → Type 0
-PrintsAnswer pair budget s old new = (text : List ℕ) × IsText pair budget s text × Appends old new text
+abbrev pub PrintsAnswer : LineForm → FilterPair → ℕ → Sameness → Option (List ℕ) → Option (List ℕ) → Type 0
+PrintsAnswer form pair budget s old new = (text : List ℕ) × IsText form pair budget s text × Appends old new text
 
 -- or nothing; or, as the writer failed, a beginning of what an answer is printed as
-abbrev pub IsUnanswered : FilterPair → ℕ → Option (List ℕ) → Option (List ℕ) → Unprinted → Type 0
-IsUnanswered pair budget old new NoMemory = Keeps old new
-IsUnanswered pair budget old new (Output error) =
-    (s : Sameness) × HoldsOfPair pair s × (text : List ℕ) × IsText pair budget s text × TakesPart old new text
+abbrev pub IsUnanswered : LineForm → FilterPair → ℕ → Option (List ℕ) → Option (List ℕ) → Unprinted → Type 0
+IsUnanswered form pair budget old new NoMemory = Keeps old new
+IsUnanswered form pair budget old new (Output error) =
+    (s : Sameness) × HoldsOfPair pair s × (text : List ℕ) × IsText form pair budget s text × TakesPart old new text
 
 -- the exit status of an answer, which was printed or not
 abbrev pub answer_status : Result Sameness Unprinted → Status

@@ -2,7 +2,11 @@
 use Rattle.std.specs.Prelude.{◌≡◌, ℕ, suc, ◌+◌, Bool, true, false, List, [], ◌∷◌, ◌++◌, length, map, filter}
 use Rattle.std.specs.List.{AllByRecursion}
 use Rattle.savefile.specs.declared.packet.Packet.{Packet}
-use Rattle.cli_answers.specs.Answers.{Answer, IsAnswer}
+use Rattle.cli_answers.specs.declared.form.PacketForm.{PacketForm}
+use Rattle.cli_answers.specs.Answers.{Answer}
+use Rattle.cli_answers.specs.Objects.{IsAnswerIn}
+use Rattle.cli_watch.specs.Frames.{is_unseen}
+use Rattle.cli_answers.specs.Counts.{more_if}
 use Rattle.cli_answers.specs.Seeking.{accepts}
 use Rattle.cli_compare.specs.declared.each.DifferenceCounts.{DifferenceCounts}
 use Rattle.cli_compare.specs.declared.pair.Agreement.{Agreement}
@@ -42,17 +46,18 @@ differs pair p = is_different (agreement pair p)
 
 -- ---- The counts
 
--- how many packets there are, and how many of them only the first filter accepts, and only the second
+-- how many packets there are, how many of them only the first filter accepts, and only the second; and into how many frames no filter looks
 pub record AreCounts (pair : FilterPair) (counts : DifferenceCounts) (all : List Packet) : Type 0 where
   pub packets : counts.packets ≡ length all
   pub first : counts.first ≡ length (filter (λ p. is_first (agreement pair p)) all)
   pub second : counts.second ≡ length (filter (λ p. is_second (agreement pair p)) all)
+  pub unseen : counts.unseen ≡ length (filter (λ p. is_unseen p.bytes) all)
 
--- one packet more was treated so
-abbrev pub counted : Agreement → DifferenceCounts → DifferenceCounts
-counted FirstOnly c = record { packets = c.packets + 1; first = c.first + 1; second = c.second }
-counted SecondOnly c = record { packets = c.packets + 1; first = c.first; second = c.second + 1 }
-counted Same c = record { packets = c.packets + 1; first = c.first; second = c.second }
+-- one packet more was treated so, whose frame is unseen or not
+abbrev pub counted : Agreement → Bool → DifferenceCounts → DifferenceCounts
+counted FirstOnly unseen c = record { packets = c.packets + 1; first = c.first + 1; second = c.second; unseen = more_if unseen c.unseen }
+counted SecondOnly unseen c = record { packets = c.packets + 1; first = c.first; second = c.second + 1; unseen = more_if unseen c.unseen }
+counted Same unseen c = record { packets = c.packets + 1; first = c.first; second = c.second; unseen = more_if unseen c.unseen }
 
 -- ---- The packets that are treated differently
 
@@ -75,15 +80,15 @@ pub record Difference : Type 0 where
   pub first : Answer
   pub second : Answer
 
--- each filter answers so, to the same packet
-abbrev pub IsDifference : FilterPair → Difference → Type 0
-IsDifference pair d = IsAnswer pair.first d.first × IsAnswer pair.second d.second × (d.second.packet ≡ d.first.packet)
+-- each filter answers so, to the same packet, with the reasons in this form
+abbrev pub IsDifference : PacketForm → FilterPair → Difference → Type 0
+IsDifference form pair d = IsAnswerIn form pair.first d.first × IsAnswerIn form pair.second d.second × (d.second.packet ≡ d.first.packet)
 
 -- the packets, each at its place, that are treated differently
 abbrev pub differing : FilterPair → List Packet → List Placed
 differing pair packets = filter (λ x. differs pair x.packet) (placed 0 packets)
 
 -- these are exactly the packets that are treated differently, in order, with their answers
-pub record AreDifferences (pair : FilterPair) (packets : List Packet) (differences : List Difference) : Type 0 where
+pub record AreDifferences (form : PacketForm) (pair : FilterPair) (packets : List Packet) (differences : List Difference) : Type 0 where
   pub those : map (λ d. at_place d.place d.first.packet) differences ≡ differing pair packets
-  pub answered : AllByRecursion (IsDifference pair) differences
+  pub answered : AllByRecursion (IsDifference form pair) differences

@@ -6,6 +6,7 @@ use crate::pair::FilterPair;
 use crate::paths::check_paths;
 use crate::plan::read_pair;
 use crate::report::report_sameness;
+use cli_answers::PacketForm;
 use cli_answers::captures::{SoughtCaptures, find_in_captures};
 use cli_answers::hints::hint_stop;
 use cli_answers::report::report_captures;
@@ -41,16 +42,21 @@ fn compare_all<F: Screen, R: Read + Drop, O: Write, E: HintSink>(
     err: &mut E,
 ) -> Status {
     let paths = job.words.inputs.as_slice();
+    let form = PacketForm::asked(job.words.json);
     let ComparedCaptures {
         sources,
         totals,
         read,
-    } = compare_captures(job.alloc, captures, &job.pair, out);
+    } = compare_captures(job.alloc, captures, &job.pair, form, out);
     job.watch.erase();
-    let printed = print_totals(job.alloc, totals, out);
+    let frames = totals.counts.frames();
+    let printed = print_totals(job.alloc, totals, form, out);
     let status = report_captures(&printed, read, paths, err);
     if let Err(stop) = read {
         hint_stop(paths, stop, sources.as_slice(), err);
+    }
+    if counts_frames(job.words) {
+        let _ = report_unseen(frames, status, err);
     }
     status
 }
@@ -76,9 +82,6 @@ fn compare_and_report<F: Screen, R: Read + Drop, O: Write, E: HintSink>(
     };
     let status = compare_all(job, captures, &mut out, err);
     hint_output(out.get_ref(), err);
-    if counts_frames(job.words) {
-        let _ = report_unseen(job.watch.frames(), status, err);
-    }
     status
 }
 
@@ -132,9 +135,7 @@ fn compare_files<R: Files + AllocGlobal + Screen, O: Write, E: HintSink>(
         alloc: rt.alloc(),
         words,
         pair,
-        watch: Watch::new(rt, words.inputs.as_slice(), err.takes_hints()).counting(counts_frames(
-            words,
-        )),
+        watch: Watch::new(rt, words.inputs.as_slice(), err.takes_hints()),
     };
     Ok(compare_job(rt, &job, out, err))
 }

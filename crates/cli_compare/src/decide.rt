@@ -14,6 +14,7 @@ use cli_report::{FailureProbe, HintSink};
 use cli_text::Status;
 use fault_report::reporting::report_device;
 use filter_same::{Sameness, Witness};
+use line_text::LineForm;
 use std::alloc::Global;
 use std::fs::Files;
 use std::io::Write;
@@ -42,14 +43,14 @@ fn write_out<R: Files + AllocGlobal, E: HintSink>(
 /// Decides both filters, and prints the answer unless it is not wanted.
 fn answer<O: Write>(
     alloc: Global,
+    words: &CompareWords<'_>,
     pair: &FilterPair,
-    quiet: bool,
     out: &mut O,
 ) -> Result<Sameness, Unprinted> {
-    if quiet {
+    if words.quiet {
         Ok(decide_pair(alloc, pair, BUDGET)?)
     } else {
-        print_sameness(alloc, pair, BUDGET, out)
+        print_sameness(alloc, LineForm::asked(words.json), pair, BUDGET, out)
     }
 }
 
@@ -61,7 +62,7 @@ fn decide_and_report<R: Files + AllocGlobal, O: Write, E: HintSink>(
     out: &mut O,
     err: &mut E,
 ) -> Status {
-    let answer = answer(rt.alloc(), pair, words.quiet, out);
+    let answer = answer(rt.alloc(), words, pair, out);
     let status = report_answer(&answer, err);
     let witness = match &answer {
         Ok(sameness) => witness_of(sameness),

@@ -7,18 +7,22 @@ ghost use Rattle.savefile.specs.Reader.{HasGiven};
 ghost use Rattle.line_text.specs.Sending.{Takes};
 ghost use Rattle.cli_compare.specs.Compared.{Compares, PrintsDifferences, PrintsOne, IsOneBroken};
 ghost use Rattle.cli_compare.specs.Pairs.{agreement, counted};
-ghost use Rattle.cli_compare.specs.Printed.{counts_text};
+ghost use Rattle.cli_compare.specs.Printed.{counts_in};
 
-use crate::line::{put_counts, put_difference};
+use crate::line::{Comparing, put_counts, put_difference};
 use crate::pair::{Agreement, FilterPair};
+use cli_answers::PacketForm;
+use cli_answers::ahead::advance_flushed;
+use cli_answers::form::LineBuffer;
 use cli_answers::printing::{Unprinted, send_last};
+use cli_watch::frames::{FrameCounts, is_unseen};
 use line_text::sending::send;
 use savefile::laws::given_so_far;
 use savefile::{Fault, PacketRef, Reader, Source};
 use std::alloc::Global;
 use std::io::Write;
 
-/// How many packets two filters were asked, and how many of these only one accepts.
+/// How many packets two filters were asked, and how many of these only one accepts; and into how many frames no filter looks.
 #[derive(Clone, Copy, Debug, PartialEq, Eq)]
 pub struct DifferenceCounts {
     pub packets: u64,
@@ -26,6 +30,8 @@ pub struct DifferenceCounts {
     pub first: u64,
     /// How many only the second filter accepts.
     pub second: u64,
+    /// How many are IPv6 or have a VLAN tag.
+    pub unseen: u64,
 }
 
 /// What comparing two filters by a capture came to.
@@ -48,6 +54,7 @@ impl DifferenceCounts {
         packets: 0,
         first: 0,
         second: 0,
+        unseen: 0,
     };
 
     /// How many packets one filter accepts and the other does not.
@@ -62,21 +69,38 @@ impl DifferenceCounts {
         ensures packets { result.packets ≡ min (self.packets + other.packets) (2 ^ 64 - 1) }
         ensures first { result.first ≡ min (self.first + other.first) (2 ^ 64 - 1) }
         ensures second { result.second ≡ min (self.second + other.second) (2 ^ 64 - 1) }
+        ensures unseen { result.unseen ≡ min (self.unseen + other.unseen) (2 ^ 64 - 1) }
     {
         DifferenceCounts {
             packets: self.packets.saturating_add(other.packets),
             first: self.first.saturating_add(other.first),
             second: self.second.saturating_add(other.second),
+            unseen: self.unseen.saturating_add(other.unseen),
         }
     }
 
-    /// Counts one packet more.
-    fn count(&mut self, agreement: Agreement)
+    /// The frames, and into how many of them no filter looks.
+    pub fn frames(self) -> FrameCounts
+        ensures frames { result.frames ≡ self.packets }
+        ensures unseen { result.unseen ≡ self.unseen }
+    {
+        FrameCounts {
+            frames: self.packets,
+            unseen: self.unseen,
+        }
+    }
+
+    /// Counts one packet more, whose frame is unseen or not.
+    fn count(&mut self, agreement: Agreement, is_unseen: bool)
         requires room { self.now.packets + 1 < 2 ^ 64 }
         requires first { self.now.first ≤ self.now.packets }
         requires second { self.now.second ≤ self.now.packets }
-        ensures { self.new ≡ counted agreement self.old }
+        requires unseen { self.now.unseen ≤ self.now.packets }
+        ensures { self.new ≡ counted agreement is_unseen self.old }
     {
+        if is_unseen {
+            self.unseen += 1;
+        }
         self.packets += 1;
         match agreement {
             Agreement::Same => {}
@@ -90,10 +114,10 @@ impl DifferenceCounts {
 ///
 /// `place 2 time 1600000000.000000000 len 98 captured 98 first Yes tcp port 8080 second No 0 at 3: ret #0`: the packet's place in the
 /// capture, from 0, when it was captured, its length on the wire and how many bytes of it were captured; and what each filter answers and
-/// why, as `bpftap explain` prints it. No and Abort are the same here, since both reject the packet.
+/// why, as `bpftap explain` prints it; or an object of JSON with the same. No and Abort are the same here, since both reject the packet.
 /// `counts` are of all packets; [`print_counts`] prints them.
 ///
-/// Each line is sent before the next packet is read. `read` has the header's fault, and then nothing is printed; with
+/// Each line is sent before the next packet is read, and the writer is flushed whenever the source has to be asked for that. `read` has the header's fault, and then nothing is printed; with
 /// [`Fault::NoMemory`] the source is as it was too. It has the fault of the first torn or bad record, after the lines of the packets before
 /// it. It is [`Fault::Device`] exactly if the source failed. If `printed` has a fault, `out` took a prefix of the lines, and `read` is `Ok`,
 /// since no further packet was read.
@@ -101,10 +125,11 @@ pub fn compare_each<R: Source, O: Write>(
     alloc: Global,
     from: R,
     pair: &FilterPair,
+    form: PacketForm,
     out: &mut O,
 ) -> Compared<R>
     // Which packets differ, with which answers, what was printed, and how that ended.
-    ensures compares { Compares R.left from pair.now (O.contents out.old) (O.contents out.new) result }
+    ensures compares { Compares R.left from form pair.now (O.contents out.old) (O.contents out.new) result }
 
     // The next bytes of the source are taken, and its fault is reported exactly if it failed.
     ensures gave { (given : List ℕ) × Consumes (R.left from) (R.left result.source) given }
@@ -122,7 +147,7 @@ pub fn compare_each<R: Source, O: Write>(
             };
         }
     };
-    let ended = print_differences(alloc, &mut reader, pair, out);
+    let ended = print_differences(alloc, &mut reader, &Comparing { pair, form }, out);
     Compared {
         source: reader.close(),
         opened: true,
@@ -155,23 +180,24 @@ fn outcome(
 fn print_differences<R: Source, O: Write>(
     alloc: Global,
     reader: &mut Reader<R>,
-    pair: &FilterPair,
+    comparing: &Comparing<'_>,
     out: &mut O,
 ) -> Compared<()>
     ensures prints { (from : Option (List ℕ)) (header : Header) → HasGiven R.left from header [] reader.old →
-        PrintsDifferences pair.now from (R.left reader.new.source) header (O.contents out.old) (O.contents out.new) result.counts result.read result.printed }
+        PrintsDifferences comparing.now.form comparing.now.pair.now from (R.left reader.new.source) header (O.contents out.old) (O.contents out.new) result.counts result.read result.printed }
     ensures taken { (bytes : List ℕ) × Consumes (R.left reader.old.source) (R.left reader.new.source) bytes }
     ensures source_broke { (result.read ≡ Err Fault.Device) ↔ (R.failures reader.new.source ≢ R.failures reader.old.source) }
 {
-    let mut line = String::new(alloc);
+    let mut buffer = LineBuffer::new(alloc);
     let mut counts = DifferenceCounts::NONE;
     loop {
-        match reader.advance() {
+        match advance_flushed(reader, out) {
             Ok(true) => {
                 // Where the printing breaks off, what was read so far begins what the capture holds.
                 given_so_far(reader);
-                match print_one(pair, counts.packets, &reader.packet(), &mut line, out) {
-                    Ok(agreement) => counts.count(agreement),
+                let packet = reader.packet();
+                match print_one(comparing, counts.packets, &packet, &mut buffer, out) {
+                    Ok(agreement) => counts.count(agreement, is_unseen(packet.bytes)),
                     Err(unprinted) => return outcome(counts, Ok(()), Err(unprinted)),
                 }
             }
@@ -183,22 +209,22 @@ fn print_differences<R: Source, O: Write>(
 
 /// Prints the line of a packet, if it is treated differently.
 fn print_one<O: Write>(
-    pair: &FilterPair,
+    comparing: &Comparing<'_>,
     place: u64,
     packet: &PacketRef<'_>,
-    line: &mut String,
+    buffer: &mut LineBuffer,
     out: &mut O,
 ) -> Result<Agreement, Unprinted>
-    ensures is { IfOk result (λ found. found ≡ agreement pair.now packet.now) }
-    ensures ok { IfOk result (λ found. PrintsOne pair.now place packet.now (O.contents out.old) (O.contents out.new)) }
-    ensures fault { IfErr result (IsOneBroken pair.now place packet.now (O.contents out.old) (O.contents out.new)) }
+    ensures is { IfOk result (λ found. found ≡ agreement comparing.now.pair.now packet.now) }
+    ensures ok { IfOk result (λ found. PrintsOne comparing.now.form comparing.now.pair.now place packet.now (O.contents out.old) (O.contents out.new)) }
+    ensures fault { IfErr result (IsOneBroken comparing.now.form comparing.now.pair.now place packet.now (O.contents out.old) (O.contents out.new)) }
 {
-    let found = pair.compare(packet);
+    let found = comparing.pair.compare(packet);
     if !found.is_different() {
         return Ok(found);
     }
-    put_difference(line, pair, place, packet)?;
-    send(line.as_bytes(), out)?;
+    put_difference(buffer, comparing, place, packet)?;
+    send(buffer.line.as_bytes(), out)?;
     Ok(found)
 }
 
@@ -206,17 +232,13 @@ fn print_one<O: Write>(
 pub fn print_counts<O: Write>(
     alloc: Global,
     counts: DifferenceCounts,
+    form: PacketForm,
     out: &mut O,
 ) -> Result<(), Unprinted>
-    ensures { Takes (O.contents out.old) (O.contents out.new) result (counts_text counts.packets (counts.first + counts.second) counts.first counts.second) }
+    ensures { Takes (O.contents out.old) (O.contents out.new) result (counts_in form counts.packets (counts.first + counts.second) counts.first counts.second) }
 {
     let mut line = String::new(alloc);
-    let DifferenceCounts {
-        packets,
-        first,
-        second,
-    } = counts;
-    put_counts(&mut line, packets, counts.differ(), first, second)?;
+    put_counts(&mut line, form, counts)?;
     send_last(line.as_bytes(), out)?;
     Ok(())
 }

@@ -6,6 +6,7 @@ pub mod command;
 mod decide;
 pub mod each;
 mod line;
+mod object;
 pub mod pair;
 mod paths;
 mod plan;

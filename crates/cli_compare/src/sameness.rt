@@ -2,8 +2,9 @@
 
 ghost use Rattle.std.specs.Prelude.{◌≡◌, ◌++◌, ℕ, List, Ok, IfOk, IfErr, OnOk, MatchOption, None, Some, string_bytes};
 ghost use Rattle.filter_same.specs.Filters.{filter_accepts, filter_test};
-ghost use Rattle.cli_compare.specs.Deciding.{HoldsOfPair, IsText, IsUnanswered, PrintsAnswer, PutsDetail, PutsWitness, answer_line, asked_accepts, asked_test, cause_text, dump_of, lengths_text, witness_of};
+ghost use Rattle.cli_compare.specs.Deciding.{AreLines, HoldsOfPair, IsText, IsUnanswered, PrintsAnswer, PutsDetail, PutsWitness, answer_line, asked_accepts, asked_test, cause_text, dump_of, lengths_text, packet_of_witness, witness_of};
 
+use crate::object::object_of;
 use crate::pair::FilterPair;
 use bpfvm::NoMemory;
 use cli_answers::AskedFilter;
@@ -11,6 +12,7 @@ use cli_answers::dump::put_dump;
 use cli_answers::line::put_answer;
 use cli_answers::printing::{Unprinted, send_last};
 use filter_same::{Cause, Filter, Sameness, Witness, decide_filters};
+use line_text::LineForm;
 use savefile::PacketRef;
 use std::alloc::{AllocError, Global};
 use std::io::Write;
@@ -19,7 +21,7 @@ use std::io::Write;
 pub const BUDGET: usize = 2_000_000;
 
 /// Appends why two filters are not decided.
-fn put_cause(text: &mut String, budget: usize, cause: Cause) -> Result<(), AllocError>
+pub(crate) fn put_cause(text: &mut String, budget: usize, cause: Cause) -> Result<(), AllocError>
     ensures { OnOk result (string_bytes text.new ≡ string_bytes text.old ++ cause_text budget cause) }
 {
     match cause {
@@ -49,6 +51,18 @@ fn filter_of(filter: &AskedFilter) -> Filter<'_>
     }
 }
 
+/// A witness as a packet, at time 0.
+pub(crate) fn packet_of_witness(witness: &Witness) -> PacketRef<'_>
+    ensures { result.now ≡ packet_of_witness witness.now }
+{
+    PacketRef {
+        sec: 0,
+        nanos: 0,
+        len: witness.wire,
+        bytes: witness.bytes.as_slice(),
+    }
+}
+
 /// Appends the lengths of a witness.
 fn put_lengths(text: &mut String, witness: &Witness) -> Result<(), AllocError>
     ensures { OnOk result (string_bytes text.new ≡ string_bytes text.old ++ lengths_text witness.now) }
@@ -61,12 +75,7 @@ fn put_lengths(text: &mut String, witness: &Witness) -> Result<(), AllocError>
 fn put_witness(text: &mut String, pair: &FilterPair, witness: &Witness) -> Result<(), NoMemory>
     ensures { OnOk result (PutsWitness pair.now witness.now (string_bytes text.old) (string_bytes text.new)) }
 {
-    let packet = PacketRef {
-        sec: 0,
-        nanos: 0,
-        len: witness.wire,
-        bytes: witness.bytes.as_slice(),
-    };
+    let packet = packet_of_witness(witness);
     put_lengths(text, witness)?;
     put_answer(text, &pair.first, &packet)?;
     text.push_str(" second ")?;
@@ -120,14 +129,14 @@ fn dump_of(alloc: Global, sameness: &Sameness) -> Result<String, NoMemory>
     Ok(text)
 }
 
-/// All that is printed if this is the answer.
-fn text_of(
+/// The lines of an answer.
+fn lines_of(
     alloc: Global,
     pair: &FilterPair,
     budget: usize,
     sameness: &Sameness,
 ) -> Result<String, NoMemory>
-    ensures { IfOk result (λ text. IsText pair.now budget sameness.now (string_bytes text)) }
+    ensures { IfOk result (λ text. AreLines pair.now budget sameness.now (string_bytes text)) }
 {
     let mut text = String::new(alloc);
     put_answer_line(&mut text, budget, sameness)?;
@@ -135,6 +144,22 @@ fn text_of(
     let dump = dump_of(alloc, sameness)?;
     text.push_str(dump.as_str())?;
     Ok(text)
+}
+
+/// All that is printed in a form if this is the answer.
+fn text_of(
+    alloc: Global,
+    form: LineForm,
+    pair: &FilterPair,
+    budget: usize,
+    sameness: &Sameness,
+) -> Result<String, NoMemory>
+    ensures { IfOk result (λ text. IsText form pair.now budget sameness.now (string_bytes text)) }
+{
+    match form {
+        LineForm::Text => lines_of(alloc, pair, budget, sameness),
+        LineForm::Json => object_of(alloc, pair, budget, sameness),
+    }
 }
 
 /// Decides whether two filters accept the same packets, as [`decide_filters`] does.
@@ -151,22 +176,24 @@ pub fn decide_pair(alloc: Global, pair: &FilterPair, budget: usize) -> Result<Sa
 
 /// Decides whether two filters accept the same packets, as [`decide_filters`] does, and prints the answer: `same`, `same as captured`,
 /// `differ only where one aborts`, `differ`, or `not decided: ` and the cause. If a packet shows a difference, a line with its
-/// lengths and what each filter answers to it and why comes next, and then its bytes, as `tcpdump -XX` prints them.
+/// lengths and what each filter answers to it and why comes next, and then its bytes, as `tcpdump -XX` prints them. In JSON an object has the
+/// same, with the bytes in hexadecimal.
 ///
 /// `Unprinted::NoMemory`: nothing was printed. `Unprinted::Output`: the writer failed, and took a prefix of the text.
 #[tactic(auto, using(crate::proofs::Witnesses::unanswered))]
 pub fn print_sameness<O: Write>(
     alloc: Global,
+    form: LineForm,
     pair: &FilterPair,
     budget: usize,
     out: &mut O,
 ) -> Result<Sameness, Unprinted>
     ensures holds { IfOk result (HoldsOfPair pair.now) }
-    ensures printed { IfOk result (λ s. PrintsAnswer pair.now budget s (O.contents out.old) (O.contents out.new)) }
-    ensures fault { IfErr result (λ e. IsUnanswered pair.now budget (O.contents out.old) (O.contents out.new) e) }
+    ensures printed { IfOk result (λ s. PrintsAnswer form pair.now budget s (O.contents out.old) (O.contents out.new)) }
+    ensures fault { IfErr result (λ e. IsUnanswered form pair.now budget (O.contents out.old) (O.contents out.new) e) }
 {
     let sameness = decide_pair(alloc, pair, budget)?;
-    let text = text_of(alloc, pair, budget, &sameness)?;
+    let text = text_of(alloc, form, pair, budget, &sameness)?;
     send_last(text.as_bytes(), out)?;
     Ok(sameness)
 }

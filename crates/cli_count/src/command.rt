@@ -52,9 +52,7 @@ fn prepare<'w, 'a, 'r, R: Files + AllocGlobal + Screen, E: HintSink>(
         alloc: rt.alloc(),
         words,
         filter,
-        watch: Watch::new(rt, words.inputs.as_slice(), err.takes_hints()).counting(counts_frames(
-            words,
-        )),
+        watch: Watch::new(rt, words.inputs.as_slice(), err.takes_hints()),
     })
 }
 
@@ -68,11 +66,7 @@ fn finish_counts<O: Write>(
     totals.printed?;
     let is_summed = words.inputs.len() > 1 && words.shown == CountShown::Counts;
     if totals.opened && is_summed {
-        let form = if words.json {
-            PacketForm::Json(0)
-        } else {
-            PacketForm::Text
-        };
+        let form = PacketForm::asked(words.json);
         return print_counts(totals.counts, form, &mut String::new(alloc), out);
     }
     Ok(out.flush()?)
@@ -100,11 +94,14 @@ fn count_all<F: Screen, R: Read + Drop, O: Write, E: HintSink>(
         read,
     } = count_captures(&counting, captures, out);
     job.watch.erase();
-    let accepted = totals.counts.yes;
+    let (accepted, frames) = (totals.counts.yes, totals.counts.frames());
     let printed = finish_counts(job.alloc, words, totals, out);
     let status = report_counts(&printed, read, accepted, words.bounds, paths, err);
     if let Err(stop) = read {
         hint_stop(paths, stop, sources.as_slice(), err);
+    }
+    if counts_frames(words) {
+        let _ = report_unseen(frames, status, err);
     }
     status
 }
@@ -157,9 +154,6 @@ fn count_and_report<F: Screen, R: Read + Drop, O: Write, E: HintSink>(
         CountShown::Counts | CountShown::Nothing => count_all(job, captures, &mut out, err),
     };
     hint_output(out.get_ref(), err);
-    if counts_frames(job.words) {
-        let _ = report_unseen(job.watch.frames(), status, err);
-    }
     status
 }
 

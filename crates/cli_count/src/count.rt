@@ -9,6 +9,7 @@ ghost use Rattle.cli_count.specs.Counting.{Counts, CountsTo};
 
 use crate::filter::CountedFilter;
 use cli_answers::counts::VerdictCounts;
+use cli_watch::frames::is_unseen;
 use filter_meaning::Verdict;
 use savefile::{Fault, Reader, Source};
 use std::alloc::Global;
@@ -76,8 +77,9 @@ fn count_all<R: Source>(
     loop {
         match reader.advance() {
             Ok(true) => {
-                likely = filter.judge(&reader.packet(), likely);
-                counts.count(likely);
+                let packet = reader.packet();
+                likely = filter.judge(&packet, likely);
+                counts.count(likely, is_unseen(packet.bytes));
             }
             Ok(false) => return Ok(()),
             Err(fault) => return Err(fault),

@@ -17,11 +17,13 @@ use Rattle.cli_answers.specs.declared.printing.Unprinted.TheVariants.{NoMemory, 
 use Rattle.cli_answers.specs.declared.filter.AskedFilter.{AskedFilter}
 use Rattle.cli_answers.specs.declared.form.PacketForm.{PacketForm}
 use Rattle.cli_answers.specs.Answers.{Answer, answer}
-use Rattle.cli_explain.specs.Forms.{IsAnswerIn, line_in}
+use Rattle.cli_answers.specs.Objects.{IsAnswerIn}
+use Rattle.cli_explain.specs.Forms.{line_in}
 use Rattle.cli_answers.proofs.Counting.{counts-by}
 use Rattle.cli_answers.proofs.Reading.{all-more}
 use Rattle.cli_answers.specs.Verdicts.{is_yes, is_no, is_abort}
 use Rattle.cli_answers.specs.Counts.{count_of, counted, AreCounts}
+use Rattle.cli_watch.specs.Frames.{is_unseen}
 use Rattle.cli_explain.specs.Explained.{answer_lines, packets_of, PrintsLine, IsLineBroken}
 
 numbered-last : {X : Type 0} (f : ℕ → X → List ℕ) (n : ℕ) (xs : List X) (x : X) → numbered f n (xs ++ x ∷ []) ≡ numbered f n xs ++ f (n + length xs) x
@@ -46,7 +48,7 @@ packets-last answers a = map-append (λ (b : Answer). b.packet) answers (a ∷ [
 -- it is answered, printed and counted
 pub goes-on : (form : PacketForm) (f : AskedFilter) (old mid new : Option (List ℕ)) (answers : List Answer) (c after : VerdictCounts) (p : Packet) (v : Verdict) →
     AllByRecursion (IsAnswerIn form f) answers → Appends old mid (answer_lines form answers) → AreCounts c answers →
-    PrintsLine form f c.packets p mid new v → after ≡ counted v c →
+    PrintsLine form f c.packets p mid new v → after ≡ counted v (is_unseen p.bytes) c →
     (a : Answer) × (a.packet ≡ p) × AllByRecursion (IsAnswerIn form f) (answers ++ a ∷ [])
     × Appends old new (answer_lines form (answers ++ a ∷ [])) × AreCounts after (answers ++ a ∷ [])
 goes-on form f old mid new answers c after p v all lines are (reason, is, line) more =

@@ -24,7 +24,7 @@ use Rattle.cli_answers.specs.declared.form.PacketForm.TheVariants.{Text, Json}
 use Rattle.cli_explain.specs.Printed.{answer_line}
 use Rattle.cli_answers.specs.Answers.{Answer, answer}
 use Rattle.cli_answers.specs.Counts.{counts_in, AreCounts}
-use Rattle.cli_explain.specs.Forms.{IsAnswerIn}
+use Rattle.cli_answers.specs.Objects.{IsAnswerIn}
 use Rattle.cli_explain.specs.Explained.{counts_line, answer_lines, packets_of, Explains, ExplainsLines, IsLineBroken, PrintsLine, PrintsLines, PrintsAll, PrintsFound, PrintsMore, PrintsWhole, GoesTo, Finds}
 
 -- it broke off

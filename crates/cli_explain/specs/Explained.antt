@@ -23,7 +23,8 @@ use Rattle.cli_answers.specs.Verdicts.{is_yes, is_no, is_abort}
 use Rattle.cli_answers.specs.Answers.{Answer, answer, IsAnswer}
 use Rattle.cli_answers.specs.Counts.{AreCounts, count_of, counts_in}
 use Rattle.cli_answers.specs.Reading.{IsUnopened, ReadsTo}
-use Rattle.cli_explain.specs.Forms.{IsAnswerIn, line_in}
+use Rattle.cli_answers.specs.Objects.{IsAnswerIn}
+use Rattle.cli_explain.specs.Forms.{line_in}
 use Rattle.cli_explain.specs.Printed.{answer_line}
 
 -- ---- What is printed

@@ -38,9 +38,9 @@ struct Job<'w, 'a, 'r, R> {
     watch: Watch<'r, R>,
 }
 
-/// Whether it is reported into how many frames the expression does not look: where a line is printed for each packet.
+/// Whether it is reported into how many frames the filter does not look: a program may.
 fn counts_frames(words: &ExplainWords<'_>) -> bool {
-    words.places.is_none() && !words.quiet && words.expr.is_some_and(is_asked)
+    words.expr.is_some_and(is_asked)
 }
 
 /// Accepts the filter and compares the paths, in this order.
@@ -55,9 +55,7 @@ fn prepare<'w, 'a, 'r, R: Files + AllocGlobal + Screen, E: HintSink>(
         alloc: rt.alloc(),
         words,
         filter,
-        watch: Watch::new(rt, words.inputs.as_slice(), err.takes_hints()).counting(counts_frames(
-            words,
-        )),
+        watch: Watch::new(rt, words.inputs.as_slice(), err.takes_hints()),
     })
 }
 
@@ -148,15 +146,6 @@ fn explain_places<F: Screen, R: Read + Drop, O: Write, E: HintSink>(
     }
 }
 
-/// The form of the lines that the arguments ask for.
-fn form_of(words: &ExplainWords<'_>) -> PacketForm {
-    if words.json {
-        PacketForm::Json(0)
-    } else {
-        PacketForm::Text
-    }
-}
-
 /// Prints a line for each packet, and the counts if a header was read; and reports how that ended.
 fn explain_all<F: Screen, R: Read + Drop, O: Write, E: HintSink>(
     job: &Job<'_, '_, '_, F>,
@@ -165,17 +154,21 @@ fn explain_all<F: Screen, R: Read + Drop, O: Write, E: HintSink>(
     err: &mut E,
 ) -> Status {
     let paths = job.words.inputs.as_slice();
-    let form = form_of(job.words);
+    let form = PacketForm::asked(job.words.json);
     let ExplainedCaptures {
         sources,
         totals,
         read,
     } = explain_captures(job.alloc, captures, &job.filter, form, out);
     job.watch.erase();
+    let frames = totals.counts.frames();
     let printed = print_totals(job.alloc, totals, form, out);
     let status = report_captures(&printed, read, paths, err);
     if let Err(stop) = read {
         hint_stop(paths, stop, sources.as_slice(), err);
+    }
+    if counts_frames(job.words) {
+        let _ = report_unseen(frames, status, err);
     }
     status
 }
@@ -213,9 +206,6 @@ fn explain_and_report<F: Screen, R: Read + Drop, O: Write, E: HintSink>(
         None => explain_all(job, captures, &mut out, err),
     };
     hint_output(out.get_ref(), err);
-    if counts_frames(job.words) {
-        let _ = report_unseen(job.watch.frames(), status, err);
-    }
     status
 }
 

@@ -7,11 +7,14 @@ ghost use Rattle.savefile.specs.Reader.{HasGiven};
 ghost use Rattle.cli_explain.specs.Explained.{Explains, ExplainsLines, PrintsLines, PrintsLine, IsLineBroken};
 
 use crate::captures::{ExplainedTotals, print_totals};
-use crate::form::{Asking, LineBuffer};
+use crate::form::Asking;
 use crate::line::put_line;
+use cli_answers::ahead::advance_flushed;
 use cli_answers::counts::VerdictCounts;
+use cli_answers::form::LineBuffer;
 use cli_answers::printing::Unprinted;
 use cli_answers::{AskedFilter, PacketForm};
+use cli_watch::frames::is_unseen;
 use filter_meaning::Verdict;
 use line_text::sending::send;
 use savefile::laws::given_so_far;
@@ -154,12 +157,13 @@ fn print_lines<R: Source, O: Write>(
 {
     let mut counts = VerdictCounts::NONE;
     loop {
-        match reader.advance() {
+        match advance_flushed(reader, out) {
             Ok(true) => {
                 // Where the printing breaks off, what was read so far begins what the capture holds.
                 given_so_far(reader);
-                match print_line(asking, counts.packets, &reader.packet(), buffer, out) {
-                    Ok(verdict) => counts.count(verdict),
+                let packet = reader.packet();
+                match print_line(asking, counts.packets, &packet, buffer, out) {
+                    Ok(verdict) => counts.count(verdict, is_unseen(packet.bytes)),
                     Err(unprinted) => return outcome(counts, Ok(()), Err(unprinted)),
                 }
             }

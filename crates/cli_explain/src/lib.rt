@@ -6,7 +6,6 @@ pub mod command;
 pub mod each;
 mod form;
 mod hints;
-mod json;
 pub mod line;
 pub mod one;
 mod paths;

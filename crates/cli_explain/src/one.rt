@@ -7,10 +7,11 @@ ghost use Rattle.savefile.specs.Reader.{HasGiven, Lends};
 ghost use Rattle.cli_explain.specs.Explained.{Finds, GoesTo, PrintsFound, PrintsMore, PrintsWhole};
 
 use crate::each::print_line;
-use crate::form::{Asking, LineBuffer};
+use crate::form::Asking;
 use crate::program::FilterWithProgram;
 use crate::whole::whole_text;
 use cli_answers::PacketForm;
+use cli_answers::form::LineBuffer;
 use cli_answers::printing::{Unprinted, send_last};
 use savefile::laws::given_so_far;
 use savefile::{Fault, PacketRef, Reader, Source};

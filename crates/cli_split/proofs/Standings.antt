@@ -16,7 +16,9 @@ use Rattle.pcap_cut.specs.Cut.{accepts, accepted, cut_text}
 use Rattle.pcap_cut.specs.Outcome.{tallied, IsTally}
 use Rattle.pcap_cut.proofs.Accepted.{accepted-append, accepted-nil, tally-more}
 use Rattle.pcap_cut.proofs.Outcomes.{took}
-use Rattle.pcap_cut.proofs.Writing.{goes-further, same-unless-different}
+use Rattle.std.proofs.KnownBytes.{Appends-kept}
+use Rattle.std.specs.Io.KnownBytes.{Keeps}
+use Rattle.pcap_cut.proofs.Writing.{flushed-goes-on, goes-further, same-unless-different}
 use Rattle.savefile.specs.Snapshot.{effective_snaplen}
 use Rattle.cli_split.specs.declared.part.Outlet.{Outlet}
 use Rattle.cli_split.specs.declared.part.Part.{Part}
@@ -166,3 +168,30 @@ written-of taken failures order unit packets part outlet end sink sent tally wri
           counted = counted;
           broke = broke;
         }
+
+-- ---- A sink that hands on what it has gathered
+
+flushed-wrote : {W : Type 0} (taken : W → Option (List ℕ)) (start : Option (List ℕ)) (order : Order) (unit : TimeUnit) (snap : ℕ) (ps : List Packet) (written : Result (Unit {0}) Fault) (old new : Writer W) →
+    (new.order ≡ old.order) × (new.unit ≡ old.unit) × (new.sent ≡ old.sent) × (new.failed ≡ old.failed) → Keeps (taken old.sink) (taken new.sink) →
+    Wrote taken start order unit snap ps written old → Wrote taken start order unit snap ps written new
+flushed-wrote taken start order unit snap ps (Ok done) old new same kept wrote = flushed-goes-on taken start order unit snap ps old new same kept wrote
+flushed-wrote taken start order unit snap ps (Err fault) old new (order-stays, unit-stays, sent-stays, failed-stays) kept (sent, took, begins, why) = (
+  sent,
+  record { bytes = Appends-kept start (taken old.sink) (taken new.sink) _ took.bytes kept; count = sent-stays ∙ took.count },
+  begins,
+  why,
+)
+
+pub stands-flushed : {W : Type 0} (taken : W → Option (List ℕ)) (failures : W → ℕ) (order : Order) (unit : TimeUnit) (packets : List Packet) (part : Part W) (o : Outlet W) (w : Writer W) →
+    (w.order ≡ o.writer.order) × (w.unit ≡ o.writer.unit) × (w.sent ≡ o.writer.sent) × (w.failed ≡ o.writer.failed) → Keeps (taken o.writer.sink) (taken w.sink) →
+    failures w.sink ≡ failures o.writer.sink → HasTaken taken failures order unit packets part o →
+    HasTaken taken failures order unit packets part (record { program = o.program; snap = o.snap; writer = w; tally = o.tally; written = o.written })
+stands-flushed taken failures order unit packets part o w same kept fails stands = record {
+  program = stands.program;
+  snap = stands.snap;
+  wrote = flushed-wrote taken (taken part.sink) order unit _ _ o.written o.writer w same kept stands.wrote;
+  counted = stands.counted;
+  read = stands.read;
+  written = stands.written;
+  broke = subst (λ n. (o.written ≡ Err Device) ↔ (n ≢ failures part.sink)) (sym fails) stands.broke;
+}

@@ -118,6 +118,25 @@ pub(crate) fn give_all<W: Sink>(outlets: &mut Vec<Outlet<W>>, packet: &PacketRef
     }
 }
 
+/// Lets the sink of a part hand on what it has gathered.
+fn hand_on<W: Sink>(outlet: &mut Outlet<W>)
+    ensures { (order : Order) (unit : Unit) (packets : List Packet) (part : Part W) →
+        HasTaken W.taken W.failures order unit packets part outlet.old → HasTaken W.taken W.failures order unit packets part outlet.new }
+{
+    outlet.writer.flush();
+}
+
+/// Lets the sinks of all parts hand on what they have gathered.
+pub(crate) fn hand_on_all<W: Sink>(outlets: &mut Vec<Outlet<W>>)
+    ensures { (order : Order) (unit : Unit) (packets : List Packet) (parts : List (Part W)) →
+        AllZip (HasTaken W.taken W.failures order unit packets) parts outlets.old.items →
+        AllZip (HasTaken W.taken W.failures order unit packets) parts outlets.new.items }
+{
+    for outlet in outlets.iter_mut() {
+        hand_on(outlet);
+    }
+}
+
 /// Ends a part.
 fn close<W: Sink>(outlet: Outlet<W>) -> PartEnd<W>
     ensures { IsEndOf W.taken W.failures outlet result }

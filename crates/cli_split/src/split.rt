@@ -1,19 +1,20 @@
 //! Captures that are split: the function under `bpftap split`.
 
-ghost use Rattle.std.specs.Prelude.{◌≡◌, ◌≢◌, ◌↔◌, ◌≤◌, ◌<◌, ◌+◌, ◌∷◌, ◌++◌, ℕ, List, [], Option, Err, IfOk, OnErr, OnOk, length, true, vec_capacity};
+ghost use Rattle.std.specs.Prelude.{◌≡◌, ◌≢◌, ◌↔◌, ◌≤◌, ◌<◌, ◌+◌, ◌-◌, ◌^◌, ◌∷◌, ◌++◌, ℕ, List, [], Option, None, Ok, Err, IfErr, IfOk, OnErr, OnOk, length, false, true, vec_capacity};
 ghost use Rattle.std.specs.Io.KnownBytes.{Consumes};
 ghost use Rattle.std.specs.List.{AllZip};
 ghost use Rattle.savefile.specs.declared.header.Header.{Header};
 ghost use Rattle.savefile.specs.declared.header.Order.{Order};
 ghost use Rattle.savefile.specs.declared.header.Unit.{Unit};
 ghost use Rattle.savefile.specs.declared.packet.Packet.{Packet};
-ghost use Rattle.savefile.specs.Reader.{HasGiven};
+ghost use Rattle.savefile.specs.Reader.{GoesOn as HasMore, HasGiven, HasRecord, IsCause, Lends, WasBegun, WasRead};
+ghost use Rattle.savefile.specs.Savefile.{IsWritable};
 ghost use Rattle.cli_split.specs.Reading.{GaveSo, HasOpened, ReadsOne, ReadsAll, ReadsSoFar, end_of};
 ghost use Rattle.cli_split.specs.Splitting.{Splits, passes_header};
 ghost use Rattle.cli_split.specs.Standing.{GoesOn, HasParts, HasSplit};
 ghost use Rattle.cli_split.specs.declared.part.Part.{Part};
 
-use crate::part::{Outlet, Part, PartEnd, begin_all, close_all, give_all, leave_all};
+use crate::part::{Outlet, Part, PartEnd, begin_all, close_all, give_all, hand_on_all, leave_all};
 use savefile::laws::given_so_far;
 use savefile::{Fault, Order, Reader, Sink, Source, Unit};
 use std::alloc::{AllocError, Global};
@@ -57,6 +58,36 @@ struct Splitter<W> {
 }
 
 impl<W: Sink> Splitter<W> {
+    /// Goes on to the next packet of a capture, as [`Reader::advance`] does. Before the source is asked for it all sinks hand on what they have
+    /// gathered: so whoever reads a part along has all that it was given while the source is waited for, and files are written in large pieces.
+    #[inline(always)]
+    fn advance_flushed<R: Source>(&mut self, reader: &mut Reader<R>) -> Result<bool, Fault>
+        ensures packet { (start : Option (List ℕ)) (header : Header) (packets : List Packet) → HasGiven R.left start header packets reader.old →
+            result ≡ Ok true → HasGiven R.left start header (packets ++ reader.new.lent ∷ []) reader.new }
+        ensures end { (start : Option (List ℕ)) (header : Header) (packets : List Packet) → HasGiven R.left start header packets reader.old →
+            result ≡ Ok false → WasRead start header packets None }
+        ensures cause { (start : Option (List ℕ)) (header : Header) (packets : List Packet) → HasGiven R.left start header packets reader.old →
+            IfErr result (IsCause start (R.left reader.new.source) header packets) }
+        ensures so_far { (start : Option (List ℕ)) (header : Header) (packets : List Packet) → HasGiven R.left start header packets reader.old →
+            WasBegun start header packets }
+        ensures writable { result ≡ Ok true → IsWritable reader.new.lent }
+        ensures lends { result ≡ Ok true → Lends reader.new }
+        ensures device { (result ≡ Err Fault.Device) ↔ (R.failures reader.new.source ≢ R.failures reader.old.source) }
+        ensures taken { (bytes : List ℕ) × Consumes (R.left reader.old.source) (R.left reader.new.source) bytes }
+        // What was written stays, and while a record waits nothing is handed on.
+        ensures read { self.new.read ≡ self.old.read }
+        ensures written { (order : Order) (unit : Unit) (packets : List Packet) (parts : List (Part W)) →
+            HasSplit W.taken W.failures order unit packets parts self.old → HasSplit W.taken W.failures order unit packets parts self.new }
+        ensures ahead { HasMore reader.old × (reader.old.given ≢ 2 ^ 64 - 1) × HasRecord reader.old.header reader.old.ahead → self.new ≡ self.old }
+    {
+        given_so_far(reader);
+        if reader.advance_ahead() {
+            return Ok(true);
+        }
+        hand_on_all(&mut self.outlets);
+        reader.advance()
+    }
+
     /// Gives the packets of a capture to all parts, each before the next one is read.
     fn give_packets<R: Source>(&mut self, reader: &mut Reader<R>) -> Result<(), Fault>
         requires begun { (start : Option (List ℕ)) × (header : Header) × HasGiven R.left start header [] reader.old }
@@ -73,7 +104,7 @@ impl<W: Sink> Splitter<W> {
                 given_so_far(reader);
                 return Err(Fault::CountFull);
             }
-            match reader.advance() {
+            match self.advance_flushed(reader) {
                 Ok(true) => {
                     give_all(&mut self.outlets, &reader.packet());
                     self.read += 1;

@@ -1,15 +1,17 @@
 -- Frames of Ethernet that filters here do not look into.
-use Rattle.std.specs.Prelude.{◌≡◌, ◌≤◌, ◌⊎◌, ℕ, List, length, drop}
-use Rattle.byteorder.specs.Endian.{big_number}
+use Rattle.std.specs.Prelude.{ℕ, Bool, true, false, List}
+use Rattle.pcap_info.specs.declared.contents.FrameKind.{FrameKind}
+use Rattle.pcap_info.specs.declared.contents.FrameKind.TheVariants.{Ipv4, Arp, Ipv6, Vlan, Other}
+use Rattle.pcap_info.specs.Contents.{kind_of}
 
--- the type of a frame: the number in its bytes 12 and 13
-abbrev pub type_of : List ℕ → ℕ
-type_of frame = big_number 2 (drop 12 frame)
+-- what follows is IPv6, or has the tag of a VLAN
+abbrev pub is_unseen_kind : FrameKind → Bool
+is_unseen_kind Ipv6 = true
+is_unseen_kind Vlan = true
+is_unseen_kind Ipv4 = false
+is_unseen_kind Arp = false
+is_unseen_kind Other = false
 
--- the types of IPv6, and of the tags of a VLAN that libpcap's `vlan` knows
-abbrev pub IsUnseenType : ℕ → Type 0
-IsUnseenType number = (number ≡ 0x86dd) ⊎ (number ≡ 0x8100) ⊎ (number ≡ 0x88a8) ⊎ (number ≡ 0x9100)
-
--- the type of a frame was captured, and says that what follows is IPv6 or has a VLAN tag
-abbrev pub IsUnseen : List ℕ → Type 0
-IsUnseen frame = (14 ≤ length frame) × IsUnseenType (type_of frame)
+-- so the type of a frame says, if it was captured
+abbrev pub is_unseen : List ℕ → Bool
+is_unseen frame = is_unseen_kind (kind_of frame)

@@ -1,9 +1,10 @@
 //! The frames of a capture, counted as its bytes pass in any pieces.
 
 ghost use Rattle.std.specs.Prelude.{◌≡◌, ◌≤◌, ◌<◌, ◌+◌, ◌-◌, ◌^◌, true, false, length, min};
-ghost use Rattle.cli_watch.specs.Frames.{IsUnseen};
+ghost use Rattle.cli_watch.specs.Frames.{is_unseen};
 
 use byteorder::{BigEndian, ByteOrder, LittleEndian};
+use pcap_info::contents::{FrameKind, kind_of};
 use savefile::{Fault, HEADER_LEN, Header, Order, RECORD_HEADER_LEN, header_of, record_of};
 
 /// The bytes of the header of an Ethernet frame, whose last two are its type.
@@ -11,17 +12,6 @@ const ETHERNET_LEN: usize = 14;
 
 /// How many bytes of a record are looked at: its header, and that of its frame.
 const FRONT_LEN: usize = RECORD_HEADER_LEN + ETHERNET_LEN;
-
-const IPV6: u16 = 0x86dd;
-
-/// The type of a frame with a VLAN tag.
-const VLAN: u16 = 0x8100;
-
-/// The type of a frame with the outer one of several VLAN tags.
-const VLAN_OUTER: u16 = 0x88a8;
-
-/// The same type before it had a standard.
-const VLAN_OUTER_OLD: u16 = 0x9100;
 
 /// How many frames there are, and into how many of these no filter looks: IPv6, or with a VLAN tag.
 #[derive(Clone, Copy, Debug, PartialEq, Eq)]
@@ -59,14 +49,12 @@ impl FrameCounts {
 
 /// Whether a frame carries IPv6 or has a VLAN tag, as its type says, if that was captured.
 pub fn is_unseen(frame: &[u8]) -> bool
-    ensures yes { result ≡ true → IsUnseen frame.now }
-    ensures no { result ≡ false → IsUnseen frame.now → ⊥ }
+    ensures { result ≡ is_unseen frame.now }
 {
-    if frame.len() < ETHERNET_LEN {
-        return false;
+    match kind_of(frame) {
+        FrameKind::Ipv6 | FrameKind::Vlan => true,
+        FrameKind::Ipv4 | FrameKind::Arp | FrameKind::Other => false,
     }
-    let number = BigEndian::read_u16(&frame[12..]);
-    number == IPV6 || number == VLAN || number == VLAN_OUTER || number == VLAN_OUTER_OLD
 }
 
 /// What a walk meets next in a capture.

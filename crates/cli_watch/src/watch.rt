@@ -13,15 +13,16 @@ use std::sync::atomic::Ordering::SeqCst;
 #[derive(Drop)]
 pub struct Watch<'r, R> {
     rt: &'r R,
-    is_wanted: bool,
+    /// Whether the frames of the captures are counted.
+    is_counting: bool,
     frames: AtomicU64,
     unseen: AtomicU64,
     progress: Option<Progress>,
 }
 
 impl<'r, R: Files + Screen> Watch<'r, R> {
-    /// For a command that begins to read the captures at these paths. Nothing is watched unless that is wanted: where hints are. The
-    /// progress is shown if standard error is a terminal and all captures are regular files.
+    /// For a command that begins to read the captures at these paths. The progress is shown if that is wanted, standard error is a
+    /// terminal and all captures are regular files; else nothing is watched.
     pub fn new(rt: &'r R, paths: &[&str], is_wanted: bool) -> Watch<'r, R> {
         let progress = if is_wanted {
             Progress::new(rt, paths)
@@ -30,17 +31,17 @@ impl<'r, R: Files + Screen> Watch<'r, R> {
         };
         Watch {
             rt,
-            is_wanted,
+            is_counting: progress.is_some(),
             frames: AtomicU64::new(0),
             unseen: AtomicU64::new(0),
             progress,
         }
     }
 
-    /// The same, whose frames are counted too if that is wanted, whether hints are or not.
+    /// The same, whose frames are counted too if that is wanted, whether the progress is shown or not.
     pub fn counting(self, is_wanted: bool) -> Watch<'r, R> {
         Watch {
-            is_wanted: self.is_wanted || is_wanted,
+            is_counting: self.is_counting || is_wanted,
             ..self
         }
     }
@@ -51,7 +52,7 @@ impl<'r, R: Screen> Watch<'r, R> {
     pub fn watched<T>(&self, inner: T) -> Watched<'_, 'r, R, T> {
         Watched {
             inner,
-            walk: self.is_wanted.then_some(FrameWalk::new()),
+            walk: self.is_counting.then_some(FrameWalk::new()),
             watch: self,
         }
     }

@@ -1,6 +1,7 @@
 //! The caller that the page of `cli_compare` shows, crates/cli_compare/README.md.
 
 use crate::same::same;
+use cli_answers::PacketForm;
 use cli_answers::filter::of_expression;
 use cli_compare::FilterPair;
 use cli_compare::each::{DifferenceCounts, compare_each};
@@ -19,7 +20,7 @@ pub fn compared(
         first: of_expression(alloc, first)?,
         second: of_expression(alloc, second)?,
     };
-    Ok(compare_each(alloc, capture, &pair, told).counts)
+    Ok(compare_each(alloc, capture, &pair, PacketForm::Text, told).counts)
 }
 
 /// A header; the first 14 bytes of an ARP frame at second 1, and of an IPv4 frame at second 2.
@@ -42,6 +43,7 @@ fn a_cut_frame_differs(rt: HostRuntime) {
         packets: 2,
         first: 0,
         second: 1,
+        unseen: 0,
     };
     same(&rt, (told.as_slice(), counts), (TOLD.as_bytes(), wanted));
 }

@@ -38,6 +38,7 @@ fn a_cut_frame_aborts(rt: HostRuntime) {
         yes: 1,
         no: 0,
         abort: 1,
+        unseen: 0,
     };
     same(&rt, (told.as_slice(), counts), (TOLD.as_bytes(), wanted));
 }

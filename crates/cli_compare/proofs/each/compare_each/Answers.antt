@@ -11,7 +11,7 @@ returns-in-Err-clause-compares g c =
       refl,
       refl,
       Keeps-refl _,
-      record { packets = refl; first = refl; second = refl },
+      record { packets = refl; first = refl; second = refl; unseen = refl },
       refl,
     )
 

@@ -13,11 +13,12 @@ invariant-loop-reader g l =
     record {
       prints : (from : Option (List ℕ)) (header : Header) → HasGiven g.R.Source.left from header [] l.fn.reader →
           (packets : List Packet) × (differences : List Difference) × HasGiven g.R.Source.left from header packets l.reader
-          × AreDifferences l.pair packets differences
-          × Appends (g.O.Write.contents l.fn.out) (g.O.Write.contents l.out) (difference_lines differences) × AreCounts l.pair l.counts packets;
+          × AreDifferences l.comparing.form l.comparing.pair.now packets differences
+          × Appends (g.O.Write.contents l.fn.out) (g.O.Write.contents l.out) (difference_lines l.comparing.form differences) × AreCounts l.comparing.pair.now l.counts packets;
       packets : l.counts.packets ≤ l.reader.given;
       first : l.counts.first ≤ l.counts.packets;
       second : l.counts.second ≤ l.counts.packets;
+      unseen : l.counts.unseen ≤ l.counts.packets;
       taken : (bytes : List ℕ) × Consumes (g.R.Source.left l.fn.reader.source) (g.R.Source.left l.reader.source) bytes;
       source_works : g.R.Source.failures l.reader.source ≡ g.R.Source.failures l.fn.reader.source;
     }

@@ -1,12 +1,13 @@
-use Rattle.std.proofs.Common.{◌≡◌, ◌≤◌, ◌∙◌, ◌++◌, ◌∷◌, [], ap, subst, sym, Ok, refl, arith}
+use Rattle.std.proofs.Common.{Bool, ◌≡◌, ◌≤◌, ◌∙◌, ◌++◌, ◌∷◌, [], ap, subst, sym, Ok, refl, arith}
 use Rattle.std.proofs.KnownBytes.{Consumes-nil, Consumes-trans}
 use Rattle.savefile.specs.declared.packet.Packet.{Packet}
 use Rattle.savefile.specs.Reader.{HasGiven}
 use Rattle.cli_answers.specs.declared.counts.VerdictCounts.{VerdictCounts}
 use Rattle.cli_count.specs.Filter.{Answers}
+use Rattle.cli_watch.specs.Frames.{is_unseen}
 use Rattle.cli_answers.specs.Answers.{answer}
-use Rattle.cli_answers.specs.Counts.{AreCounts}
-use Rattle.cli_answers.proofs.Counting.{counts-by, counted-packets, counted-yes, counted-no, counted-abort}
+use Rattle.cli_answers.specs.Counts.{counted, AreCounts}
+use Rattle.cli_answers.proofs.Counting.{counts-by, counted-packets, counted-yes, counted-no, counted-abort, counted-unseen}
 use Rattle.cli_count.specs.Counting.{IsAnswered, packets_of}
 use Rattle.pcap_info.proofs.Opening.{same-unless-different}
 use Rattle.cli_count.proofs.Counting.{all-more, packets-last, gave-more}
@@ -19,18 +20,20 @@ loop-reader-preserved g c = record {
       let p = c.advance.new.self.lent in
       let v = c.judge-likely.result in
       let f = c.args.filter.now in
-      let a = answer p v [] in (
+      let a = answer p v [] in
+      let seen : c.is_unseen.result ≡ is_unseen p.bytes = c.is_unseen.ensures ∙ ap (λ (q : Packet). is_unseen q.bytes) (c.packet.view_is ∙ c.packet-packet.ensures) in (
         answers ++ a ∷ [],
         subst (λ (ps : _). HasGiven g.R.Source.left from header ps c.advance.new.self) (sym (packets-last answers a))
             (c.in-Ok-true.ensures.packet from header (packets_of answers) gives (ap Ok c.in-Ok-true.field-0-test)),
-        all-more (IsAnswered f) answers a all (subst (λ (q : Packet). Answers f q v) c.packet.ensures c.judge-likely.ensures),
-        subst (λ (k : VerdictCounts). AreCounts k (answers ++ a ∷ [])) (sym c.count.ensures) (counts-by v answers p [] c.loop-reader.counts are),
+        all-more (IsAnswered f) answers a all (subst (λ (q : Packet). Answers f q v) c.packet-packet.ensures c.judge-likely.ensures),
+        subst (λ (k : VerdictCounts). AreCounts k (answers ++ a ∷ [])) (sym (c.count.ensures ∙ ap (λ (u : Bool). counted v u c.loop-reader.counts) seen)) (counts-by v answers p [] c.loop-reader.counts are),
       );
   packets = subst (λ (k : VerdictCounts). k.packets ≤ c.advance.new.self.given) (sym c.count.ensures)
-      (counted-packets c.judge-likely.result c.loop-reader.counts _ _ c.loop-reader.invariant.packets (gave-more _ _ _ c.advance.ensures.leaves (c.in-Ok-true.is ∙ ap Ok c.in-Ok-true.field-0-test)).0);
-  yes = subst (λ (k : VerdictCounts). k.yes ≤ k.packets) (sym c.count.ensures) (counted-yes c.judge-likely.result c.loop-reader.counts c.loop-reader.invariant.yes);
-  no = subst (λ (k : VerdictCounts). k.no ≤ k.packets) (sym c.count.ensures) (counted-no c.judge-likely.result c.loop-reader.counts c.loop-reader.invariant.no);
-  abort = subst (λ (k : VerdictCounts). k.abort ≤ k.packets) (sym c.count.ensures) (counted-abort c.judge-likely.result c.loop-reader.counts c.loop-reader.invariant.abort);
+      (counted-packets c.judge-likely.result c.is_unseen.result c.loop-reader.counts _ _ c.loop-reader.invariant.packets (gave-more _ _ _ c.advance.ensures.leaves (c.in-Ok-true.is ∙ ap Ok c.in-Ok-true.field-0-test)).0);
+  yes = subst (λ (k : VerdictCounts). k.yes ≤ k.packets) (sym c.count.ensures) (counted-yes c.judge-likely.result c.is_unseen.result c.loop-reader.counts c.loop-reader.invariant.yes);
+  no = subst (λ (k : VerdictCounts). k.no ≤ k.packets) (sym c.count.ensures) (counted-no c.judge-likely.result c.is_unseen.result c.loop-reader.counts c.loop-reader.invariant.no);
+  abort = subst (λ (k : VerdictCounts). k.abort ≤ k.packets) (sym c.count.ensures) (counted-abort c.judge-likely.result c.is_unseen.result c.loop-reader.counts c.loop-reader.invariant.abort);
+  unseen = subst (λ (k : VerdictCounts). k.unseen ≤ k.packets) (sym c.count.ensures) (counted-unseen c.judge-likely.result c.is_unseen.result c.loop-reader.counts c.loop-reader.invariant.unseen);
   taken =
       let (before, took) = c.loop-reader.invariant.taken in
       let (more, goes) = c.in-Ok-true.ensures.taken in

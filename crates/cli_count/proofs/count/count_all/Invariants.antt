@@ -18,6 +18,7 @@ invariant-loop-reader g l =
       yes : l.counts.yes ≤ l.counts.packets;
       no : l.counts.no ≤ l.counts.packets;
       abort : l.counts.abort ≤ l.counts.packets;
+      unseen : l.counts.unseen ≤ l.counts.packets;
       taken : (bytes : List ℕ) × Consumes (g.R.Source.left l.fn.reader.source) (g.R.Source.left l.reader.source) bytes;
       source_works : g.R.Source.failures l.reader.source ≡ g.R.Source.failures l.fn.reader.source;
     }

@@ -12,7 +12,7 @@ returns-in-Err-clause-counts g c =
       unopened g.R.Source.left c.args.from c.in-Err.source c.in-Err.fault c.in-Err.ensures.refused c.in-Err.ensures.unread c.in-Err.ensures.taken,
       refl,
       refl,
-      record { packets = refl; yes = refl; no = refl; abort = refl },
+      record { packets = refl; yes = refl; no = refl; abort = refl; unseen = refl },
     )
 
 pub returns-clause-counts : goal.returns-clause-counts

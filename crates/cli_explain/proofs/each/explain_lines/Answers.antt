@@ -11,7 +11,7 @@ returns-in-Err-clause-explains g c =
       refl,
       refl,
       Keeps-refl _,
-      record { packets = refl; yes = refl; no = refl; abort = refl },
+      record { packets = refl; yes = refl; no = refl; abort = refl; unseen = refl },
       refl,
     )
 

@@ -4,7 +4,7 @@ use Rattle.std.specs.Io.KnownBytes.{Appends, Consumes}
 use Rattle.savefile.specs.declared.header.Header.{Header}
 use Rattle.savefile.specs.Reader.{HasGiven}
 use Rattle.cli_answers.specs.Answers.{Answer}
-use Rattle.cli_explain.specs.Forms.{IsAnswerIn}
+use Rattle.cli_answers.specs.Objects.{IsAnswerIn}
 use Rattle.cli_answers.specs.Counts.{AreCounts}
 use Rattle.cli_explain.specs.Explained.{answer_lines, packets_of}
 use Rattle.cli_explain.proofs.each.print_lines.Given as goal
@@ -20,6 +20,7 @@ invariant-loop-reader g l =
       yes : l.counts.yes ≤ l.counts.packets;
       no : l.counts.no ≤ l.counts.packets;
       abort : l.counts.abort ≤ l.counts.packets;
+      unseen : l.counts.unseen ≤ l.counts.packets;
       taken : (bytes : List ℕ) × Consumes (g.R.Source.left l.fn.reader.source) (g.R.Source.left l.reader.source) bytes;
       source_works : g.R.Source.failures l.reader.source ≡ g.R.Source.failures l.fn.reader.source;
     }

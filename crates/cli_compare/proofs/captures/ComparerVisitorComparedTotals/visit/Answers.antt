@@ -1,6 +1,7 @@
-use Rattle.std.proofs.Common.{ap}
+use Rattle.std.proofs.Common.{ap, subst}
 use Rattle.cli_walk.specs.Walking.{visited}
 use Rattle.cli_answers.proofs.Visits.{broke-so}
+use Rattle.cli_compare.specs.Compared.{Compares}
 use Rattle.cli_compare.proofs.Visits.{totals-as}
 use Rattle.cli_compare.proofs.captures.ComparerVisitorComparedTotals.visit.Goals as goal
 
@@ -8,7 +9,7 @@ pub returns-clause-visits : goal.returns-clause-visits
 returns-clause-visits g c =
     let e = c.compare_each-source.result in (
       e,
-      c.compare_each-source.ensures.compares,
+      subst (λ k. Compares g.R.Source.left c.args.capture k c.args.self.now.pair.now (g.O.Write.contents c.args.out.now) (g.O.Write.contents c.compare_each-source.new.out) e) c.of_capture-form.ensures c.compare_each-source.ensures.compares,
       ap (visited e.source) c.goes_on-goes_on.ensures,
       totals-as c.after.result _ _ _ c.after.ensures.opened c.after.ensures.counts c.after.ensures.printed,
     )

@@ -25,30 +25,30 @@ give_all-requires-clause-so_far g c =
     let (start, header, h) = c.requires.begun in
     let (order, unit, before, parts, has) = c.requires.so_far in
     let (packets, given, goes) = c.loop-self.invariant.gives start header h in
-    let now = goes order unit before parts has in
-    (order, unit, before ++ packets, parts, now.2, omega (arith, now.0, now.1, c.if-self.false))
+    let now = c.advance_flushed.ensures.written order unit (before ++ packets) parts (goes order unit before parts has) in
+    (order, unit, before ++ packets, parts, now.2, omega (arith, now.0, now.1, c.if-self.false, c.advance_flushed.ensures.read))
 
 pub loop-self-preserved : goal.loop-self-preserved
 loop-self-preserved g c =
-    let p = c.advance.new.self.lent in
+    let p = c.advance_flushed.new.reader.lent in
     let is = c.in-Ok-true.is ∙ ap Ok c.in-Ok-true.field-0-test in
     record {
       gives = λ start header h.
           let (packets, given, goes) = c.loop-self.invariant.gives start header h in (
             packets ++ p ∷ [],
-            c.advance.ensures.packet start header packets given is,
+            c.advance_flushed.ensures.packet start header packets given is,
             λ order unit before parts has.
-                let now = goes order unit before parts has in (
+                let now = c.advance_flushed.ensures.written order unit (before ++ packets) parts (goes order unit before parts has) in (
                   omega (arith, now.0, length-append before packets, length-append before (packets ++ p ∷ []), length-append packets (p ∷ [])),
-                  omega (arith, now.1, c.if-self.false),
+                  omega (arith, now.1, c.if-self.false, c.advance_flushed.ensures.read),
                   subst (λ (ps : List Packet). AllZip (HasTaken g.W.Sink.taken g.W.Sink.failures order unit ps) parts c.give_all.new.outlets.items)
                       (ap (λ (q : Packet). (before ++ packets) ++ q ∷ []) c.packet.ensures ∙ append_assoc before packets (p ∷ []))
                       (c.give_all.ensures order unit (before ++ packets) parts now.2),
                 ),
           );
-      taken = takes-more _ _ _ c.loop-self.invariant.taken c.advance.ensures.taken;
-      works = same-unless-different (g.R.Source.failures c.advance.new.self.source) (g.R.Source.failures c.loop-self.reader.source)
-          (λ differs. let bad = sym is ∙ c.advance.ensures.device.1 differs in cc)
+      taken = takes-more _ _ _ c.loop-self.invariant.taken c.advance_flushed.ensures.taken;
+      works = same-unless-different (g.R.Source.failures c.advance_flushed.new.reader.source) (g.R.Source.failures c.loop-self.reader.source)
+          (λ differs. let bad = sym is ∙ c.advance_flushed.ensures.device.1 differs in cc)
           ∙ c.loop-self.invariant.works;
     }
 
@@ -60,7 +60,7 @@ returns-then-self-clause-gives g c = λ start header h.
 pub returns-in-Ok-false-clause-gives : goal.returns-in-Ok-false-clause-gives
 returns-in-Ok-false-clause-gives g c = λ start header h.
     let (packets, given, goes) = c.loop-self.invariant.gives start header h in
-    (packets, c.advance.ensures.end start header packets given (c.in-Ok-false.is ∙ ap Ok c.in-Ok-false.field-0-test), goes)
+    (packets, c.advance_flushed.ensures.end start header packets given (c.in-Ok-false.is ∙ ap Ok c.in-Ok-false.field-0-test), λ order unit before parts has. c.advance_flushed.ensures.written order unit (before ++ packets) parts (goes order unit before parts has))
 
 pub returns-in-Err-clause-gives : goal.returns-in-Err-clause-gives
 returns-in-Err-clause-gives g c = λ start header h.
@@ -70,20 +70,20 @@ returns-in-Err-clause-gives g c = λ start header h.
       packets,
       elim (c.in-Err.ensures.cause start header packets given) [
         | inl read ↦ inl read
-        | inr (inl device) ↦ inr (c.advance.ensures.so_far start header packets given, inl device)
+        | inr (inl device) ↦ inr (c.advance_flushed.ensures.so_far start header packets given, inl device)
         | inr (inr full) ↦ absurd (omega (arith, now.0, now.1, full.1, length-append before packets, c.if-self.false))
       ],
-      goes,
+      λ order unit before parts has. c.advance_flushed.ensures.written order unit (before ++ packets) parts (goes order unit before parts has),
     )
 
 pub returns-then-self-clause-taken : goal.returns-then-self-clause-taken
 returns-then-self-clause-taken g c = c.loop-self.invariant.taken
 
 pub returns-in-Ok-false-clause-taken : goal.returns-in-Ok-false-clause-taken
-returns-in-Ok-false-clause-taken g c = takes-more _ _ _ c.loop-self.invariant.taken c.advance.ensures.taken
+returns-in-Ok-false-clause-taken g c = takes-more _ _ _ c.loop-self.invariant.taken c.advance_flushed.ensures.taken
 
 pub returns-in-Err-clause-taken : goal.returns-in-Err-clause-taken
-returns-in-Err-clause-taken g c = takes-more _ _ _ c.loop-self.invariant.taken c.advance.ensures.taken
+returns-in-Err-clause-taken g c = takes-more _ _ _ c.loop-self.invariant.taken c.advance_flushed.ensures.taken
 
 pub returns-then-self-clause-broke : goal.returns-then-self-clause-broke
 returns-then-self-clause-broke g c = (λ e. absurd (cc), λ differs. absurd (differs c.loop-self.invariant.works))
@@ -92,15 +92,15 @@ pub returns-in-Ok-false-clause-broke : goal.returns-in-Ok-false-clause-broke
 returns-in-Ok-false-clause-broke g c = (
   λ e. absurd (cc),
   λ differs.
-      let bad = sym (c.in-Ok-false.is ∙ ap Ok c.in-Ok-false.field-0-test) ∙ c.advance.ensures.device.1 (λ same. differs (same ∙ c.loop-self.invariant.works)) in absurd (cc),
+      let bad = sym (c.in-Ok-false.is ∙ ap Ok c.in-Ok-false.field-0-test) ∙ c.advance_flushed.ensures.device.1 (λ same. differs (same ∙ c.loop-self.invariant.works)) in absurd (cc),
 )
 
 pub returns-in-Err-clause-broke : goal.returns-in-Err-clause-broke
 returns-in-Err-clause-broke g c = (
   λ e.
       let same : c.in-Err.fault ≡ Device = cc in
-      let differs = c.advance.ensures.device.0 (c.in-Err.is ∙ ap Err same) in (λ kept. differs (kept ∙ sym c.loop-self.invariant.works)),
+      let differs = c.advance_flushed.ensures.device.0 (c.in-Err.is ∙ ap Err same) in (λ kept. differs (kept ∙ sym c.loop-self.invariant.works)),
   λ differs.
-      let told = sym c.in-Err.is ∙ c.advance.ensures.device.1 (λ kept. differs (kept ∙ c.loop-self.invariant.works)) in
+      let told = sym c.in-Err.is ∙ c.advance_flushed.ensures.device.1 (λ kept. differs (kept ∙ c.loop-self.invariant.works)) in
       let same : c.in-Err.fault ≡ Device = cc in ap Err same,
 )

@@ -1,6 +1,6 @@
 use Rattle.std.proofs.Common.{◌++◌, ℕ, List, refl, ap, ◌∙◌, append_assoc, string_bytes}
-use Rattle.cli_explain.specs.Forms.{end_json, instruction_json, run_json, verdict_json}
-use Rattle.cli_explain.proofs.json.put_end.Goals as goal
+use Rattle.cli_answers.specs.Objects.{end_json, instruction_json, run_json, verdict_json}
+use Rattle.cli_answers.proofs.json.put_end.Goals as goal
 
 pub returns : goal.returns
 returns c =

@@ -1,16 +1,15 @@
-//! The line of a packet as an object of JSON.
+//! What is printed of a packet, and of a filter's answer to it, in an object of JSON.
 
-ghost use Rattle.std.specs.Prelude.{◌≡◌, ◌++◌, ℕ, List, length, IfOk, OnOk, string_bytes};
+ghost use Rattle.std.specs.Prelude.{◌≡◌, ◌++◌, length, IfOk, OnOk, string_bytes};
 ghost use Rattle.filterlang.specs.Trees.{tree_of};
 ghost use Rattle.filter_explain.specs.Asking.{question_of};
 ghost use Rattle.bpfvm.specs.Images.{brief_text};
-ghost use Rattle.cli_answers.specs.Answers.{answer, EndsRunAs};
-ghost use Rattle.cli_explain.specs.Forms.{answer_json, at_json, cause_json, end_json, instruction_json, lengths_json, packet_json, place_json, question_json, returned_json, run_json, time_json, verdict_json, DecidesInJson, IsJsonAnswer, PutsInJson};
+ghost use Rattle.cli_answers.specs.Answers.{EndsRunAs};
+ghost use Rattle.cli_answers.specs.Objects.{at_json, cause_json, end_json, instruction_json, lengths_json, packet_json, place_json, question_json, returned_json, run_json, time_json, verdict_json, DecidesInJson, IsJsonAnswer, PutsInJson};
 
-use crate::form::LineBuffer;
+use crate::filter::AskedFilter;
+use crate::run_end::{end_of_run, ended_as};
 use bpfvm::{Brief, Insn, NoMemory, Program};
-use cli_answers::AskedFilter;
-use cli_answers::run_end::{end_of_run, ended_as};
 use filter_explain::{AskedPart, decide, put_part};
 use filter_meaning::{AbortCause, Verdict};
 use filterlang::Expr;
@@ -41,8 +40,8 @@ fn put_lengths(line: &mut String, wire: u32, bytes: &[u8]) -> Result<(), AllocEr
     write!(line, "\"length\":{wire},\"captured\":{captured},")
 }
 
-/// Puts where a packet is, its time and its lengths in place of what the line has.
-fn put_packet(
+/// Puts where a packet is, its time and its lengths in place of what the line has: the head of an object.
+pub fn put_packet(
     line: &mut String,
     capture: usize,
     place: u64,
@@ -163,8 +162,8 @@ fn put_end(
     Ok(verdict)
 }
 
-/// Appends what a filter answers to a packet, and why.
-fn put_answer(
+/// Appends what a filter answers to a packet, and why: the last members of an object. `text` may have any text.
+pub fn put_answer(
     line: &mut String,
     text: &mut String,
     filter: &AskedFilter,
@@ -176,21 +175,4 @@ fn put_answer(
         AskedFilter::Expression(expr) => put_meaning(line, text, expr, packet),
         AskedFilter::Program(program) => put_end(line, text, program, packet),
     }
-}
-
-/// Puts the object of a packet in place of what the line has: where it is, its time and lengths, what the filter answers, and why.
-pub(crate) fn put_object(
-    buffer: &mut LineBuffer,
-    filter: &AskedFilter,
-    capture: usize,
-    place: u64,
-    packet: &PacketRef<'_>,
-) -> Result<Verdict, NoMemory>
-    ensures { IfOk result (λ verdict. (reason : List ℕ) × IsJsonAnswer filter.now (answer packet.now verdict reason)
-        × (string_bytes buffer.new.line ≡ answer_json capture place (answer packet.now verdict reason))) }
-{
-    put_packet(&mut buffer.line, capture, place, packet)?;
-    let verdict = put_answer(&mut buffer.line, &mut buffer.text, filter, packet)?;
-    buffer.line.push_str("}\n")?;
-    Ok(verdict)
 }

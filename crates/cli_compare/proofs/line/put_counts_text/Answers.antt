@@ -2,7 +2,7 @@ use Rattle.std.proofs.Common.{ℕ, List, ◌++◌, ◌∙◌, ap}
 use Rattle.std.specs.Prelude.{codes}
 use Rattle.std.specs.Fmt.{decimal}
 use Rattle.line_text.specs.Texts.{end_of_line}
-use Rattle.cli_compare.proofs.line.put_counts.Goals as goal
+use Rattle.cli_compare.proofs.line.put_counts_text.Goals as goal
 
 pub returns : goal.returns
 returns c =

@@ -1,7 +1,7 @@
 use Rattle.std.proofs.Common.{◌++◌, ℕ, List, refl, sym, ap, ◌∙◌}
 use Rattle.filter_explain.specs.Asking.{question_of}
-use Rattle.cli_explain.specs.Forms.{question_json}
-use Rattle.cli_explain.proofs.json.put_meaning.Goals as goal
+use Rattle.cli_answers.specs.Objects.{question_json}
+use Rattle.cli_answers.proofs.json.put_meaning.Goals as goal
 
 pub returns : goal.returns
 returns c =

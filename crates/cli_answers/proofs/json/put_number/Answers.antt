@@ -1,6 +1,6 @@
 use Rattle.std.proofs.Common.{◌++◌, ℕ, List, ap, ◌∙◌, append_assoc, string_bytes}
-use Rattle.cli_explain.specs.Forms.{at_json, returned_json}
-use Rattle.cli_explain.proofs.json.put_number.Goals as goal
+use Rattle.cli_answers.specs.Objects.{at_json, returned_json}
+use Rattle.cli_answers.proofs.json.put_number.Goals as goal
 
 pub returns : goal.returns
 returns c =

@@ -1,6 +1,6 @@
 use Rattle.std.proofs.Common.{◌++◌, ℕ, List, length, sym, ap, ◌∙◌}
-use Rattle.cli_explain.specs.Forms.{lengths_json, packet_json, time_json}
-use Rattle.cli_explain.proofs.json.put_packet.Goals as goal
+use Rattle.cli_answers.specs.Objects.{lengths_json, packet_json, time_json}
+use Rattle.cli_answers.proofs.json.put_packet.Goals as goal
 
 pub returns : goal.returns
 unfolding packet_json

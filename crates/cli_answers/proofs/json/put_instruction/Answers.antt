@@ -1,7 +1,7 @@
 use Rattle.std.proofs.Common.{◌++◌, ℕ, List, ap, ◌∙◌, append_assoc, codes, string_bytes}
 use Rattle.bpfvm.specs.Images.{brief_text}
 use Rattle.line_text.specs.Strings.{json_string}
-use Rattle.cli_explain.proofs.json.put_instruction.Goals as goal
+use Rattle.cli_answers.proofs.json.put_instruction.Goals as goal
 
 pub returns : goal.returns
 returns c =

@@ -1,0 +1,16 @@
+use Rattle.std.proofs.Common.{List}
+use Rattle.std.specs.List.{AllZip}
+use Rattle.savefile.specs.declared.header.Order.{Order}
+use Rattle.savefile.specs.declared.header.Unit.{Unit as TimeUnit}
+use Rattle.savefile.specs.declared.packet.Packet.{Packet}
+use Rattle.cli_split.specs.declared.part.Part.{Part}
+use Rattle.cli_split.specs.Standing.{HasTaken}
+use Rattle.cli_split.proofs.Lists.{Half}
+use Rattle.cli_split.proofs.part.hand_on_all.Given as goal
+
+-- all stand as before
+abbrev pub invariant-loop-outlet : goal.invariant-loop-outlet
+invariant-loop-outlet g l =
+    (order : Order) (unit : TimeUnit) (packets : List Packet) (parts : List (Part g.row.W.Denot))
+    → AllZip (HasTaken g.W.Sink.taken g.W.Sink.failures order unit packets) parts l.fn.outlets.items
+    → Half (HasTaken g.W.Sink.taken g.W.Sink.failures order unit packets) (HasTaken g.W.Sink.taken g.W.Sink.failures order unit packets) parts l.outlet-items l.outlet-index
