@@ -30,9 +30,9 @@ fn add<R: Abort + AllocGlobal>(
 fn files_of<R: Abort + AllocGlobal>(rt: &R) -> MemoryFiles<'static> {
     let mut files = MemoryFiles::new(rt.alloc());
     let whole = concat(rt.alloc(), &[HEADER, ARP_RECORD, IP_RECORD]).expect(rt, "memory");
-    let size = whole.len();
     add(rt, &mut files, "in.pcap", whole.as_slice());
-    add(rt, &mut files, "torn.pcap", &whole.as_slice()[..size - 1]);
+    let (_, torn) = whole.as_slice().split_last().expect(rt, "it has bytes");
+    add(rt, &mut files, "torn.pcap", torn);
     add(rt, &mut files, "ip.bpf", LISTING);
     files
 }
