@@ -14,27 +14,33 @@ use test_fixtures::captures::{ARP_RECORD, HEADER, IP_RECORD, concat};
 /// The listing of `ip`.
 const LISTING: &[u8] = b"4\n40 0 0 12\n21 0 1 2048\n6 0 0 262144\n6 0 0 0\n";
 
-/// A file more.
-fn add<R: Abort + AllocGlobal>(
+/// A file of these bytes.
+fn file_of<R: Abort + AllocGlobal>(
     rt: &R,
-    files: &mut MemoryFiles<'static>,
     path: &'static str,
     bytes: &[u8],
-) {
+) -> MemoryFile<'static> {
     let bytes = Vec::from_slice(rt.alloc(), bytes).expect(rt, "memory");
-    let added = files.files.push(MemoryFile { path, bytes });
-    added.expect(rt, "memory");
+    MemoryFile { path, bytes }
 }
 
 /// A capture of an ARP frame and an IPv4 frame, one whose record is torn, and a listing.
 fn files_of<R: Abort + AllocGlobal>(rt: &R) -> MemoryFiles<'static> {
-    let mut files = MemoryFiles::new(rt.alloc());
     let whole = concat(rt.alloc(), &[HEADER, ARP_RECORD, IP_RECORD]).expect(rt, "memory");
-    add(rt, &mut files, "in.pcap", whole.as_slice());
     let (_, torn) = whole.as_slice().split_last().expect(rt, "it has bytes");
-    add(rt, &mut files, "torn.pcap", torn);
-    add(rt, &mut files, "ip.bpf", LISTING);
-    files
+    let files = [
+        file_of(rt, "in.pcap", whole.as_slice()),
+        file_of(rt, "torn.pcap", torn),
+        file_of(rt, "ip.bpf", LISTING),
+    ];
+    MemoryFiles {
+        alloc: rt.alloc(),
+        files: Vec::from_array(rt.alloc(), files).expect(rt, "memory"),
+        opened: Vec::new(rt.alloc()),
+        printed: None,
+        pending: 0,
+        failed: false,
+    }
 }
 
 /// The words of `cut -s 0 -e EXPR IN out.pcap`, or of `cut -s 0 -f LISTING ..`.
