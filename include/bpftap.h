@@ -298,9 +298,8 @@ struct bpftap_comparison {
 
 /* Decides whether two expressions accept the same packets. The answer is for every packet that there can be. If it has a packet that shows a
  * difference, it writes its captured bytes. 1,514 bytes are mostly room enough; without enough the answer is returned all the same, with NO_ROOM.
- * `budget` is how many nodes the diagrams of one header length may have, and a sixth of the steps that are taken in all: `bpftap compare`
- * takes 2,000,000. The more of it is needed, the more memory and time are taken. A relation is decided if one side is a constant, and the
- * other is `len` or the bytes of a layer at a constant index, under a constant mask or none.
+ * `budget` is how many nodes the diagrams of one header length may have, and half of the steps that are taken in all: `bpftap compare`
+ * takes 2,000,000. The more of it is needed, the more memory and time are taken. Products and quotients of two fields are mostly too large.
  * The expressions may be too long or too deep to compile. Faults: those of bpftap_print, of expression `number`. */
 struct bpftap_comparison bpftap_compare(const char *first, size_t first_size, const char *second, size_t second_size, size_t budget,
                                         uint8_t *to, size_t room);
