@@ -134,7 +134,8 @@ def no_hint_comes_without_its_fault(scene):
         return scene.leave("strace can't trace here")
     for words, status in [("check 'src prot 17'", 1), ("cut -s 0 none.pcap out.pcap", 3), ("steps none.txt s.txt whole.pcap", 3),
                           ("check -f none.bpf", 3), ("explain -e ip torn.pcap", 2)]:
-        writes = 2 if status == 2 else 1
+        # What was explained, the counts, and then the line.
+        writes = 3 if status == 2 else 1
         seen = refused_once(scene, f"--hints {words}", writes)
         scene.check(f"{words}, its line refused", (seen.err, seen.status), (b"", status))
 
