@@ -1,5 +1,12 @@
-"""`docs/SCALE.md`: its commands after a `$`, in order, if the programs that they call are there; and `examples/dask`."""
+"""`docs/SCALE.md`: its commands after a `$`, in order, if the programs that they call are there; its scripts for Slurm; and `examples/dask`."""
+import contextlib
+import os
+import pathlib
+import re
+import socket
 import subprocess
+import tempfile
+import time
 
 from .common import LIMIT, PROGRAM, ROOT, VETH, case
 from .pages import run_page
@@ -50,3 +57,94 @@ def dask_cuts_what_one_process_cuts(scene):
         scene.check(f"status of {name} on Dask", done.stdout.split()[-1:], [str(status)])
         scene.run(f"cut -s 0 -e udp {name}.pcap {name}-cut.pcap")
         scene.check(f"{name} on Dask", scene.read(f"{name}-joined.pcap"), scene.read(f"{name}-cut.pcap"))
+
+
+# One node, whose daemons keep all that is theirs in a folder.
+SLURM_CONF = """\
+ClusterName=one
+SlurmctldHost={host}
+SlurmUser=root
+AuthType=auth/munge
+AuthInfo=socket={folder}/munge.socket
+CredType=cred/munge
+StateSaveLocation={folder}
+SlurmdSpoolDir={folder}/spool
+SlurmctldPidFile={folder}/slurmctld.pid
+SlurmdPidFile={folder}/slurmd.pid
+SlurmctldLogFile={folder}/slurmctld.log
+SlurmdLogFile={folder}/slurmd.log
+ProctrackType=proctrack/pgid
+TaskPlugin=task/none
+SelectType=select/cons_tres
+SelectTypeParameters=CR_Core
+SlurmctldPort={first}
+SlurmdPort={second}
+MpiDefault=none
+NodeName={host} CPUs=2 RealMemory=512 State=UNKNOWN
+PartitionName=all Nodes={host} Default=YES MaxTime=INFINITE State=UP
+"""
+SLURM = "munged", "slurmctld", "slurmd", "sbatch", "sinfo"
+
+
+def free_ports(count):
+    """Ports that nothing listens on."""
+    with contextlib.ExitStack() as held:
+        taken = [held.enter_context(socket.create_server(("127.0.0.1", 0))) for _ in range(count)]
+        return [it.getsockname()[1] for it in taken]
+
+
+@contextlib.contextmanager
+def slurm():
+    """A node with Slurm: gives the environment that its commands take."""
+    with tempfile.TemporaryDirectory(prefix="slurm-") as name:
+        folder, (first, second) = pathlib.Path(name), free_ports(2)
+        conf, key = folder / "slurm.conf", folder / "munge.key"
+        conf.write_text(SLURM_CONF.format(folder=folder, host=socket.gethostname(), first=first, second=second))
+        key.write_bytes(os.urandom(1024))
+        key.chmod(0o600)
+        (folder / "spool").mkdir()
+        begun = [
+            ["munged", "--foreground", "--force", f"--key-file={key}", f"--socket={folder}/munge.socket", f"--pid-file={folder}/munged.pid",
+             f"--log-file={folder}/munged.log", f"--seed-file={folder}/munge.seed"],
+            ["slurmctld", "-D", "-f", conf], ["slurmd", "-D", "-f", conf]]
+        with contextlib.ExitStack() as running:
+            for words in begun:
+                daemon = subprocess.Popen(words, stdout=subprocess.DEVNULL, stderr=subprocess.DEVNULL)
+                running.callback(daemon.wait)
+                running.callback(daemon.terminate)
+                time.sleep(1)
+            yield {**os.environ, "SLURM_CONF": str(conf), "PATH": f"{pathlib.Path(PROGRAM).parent}:{os.environ['PATH']}"}
+
+
+def scripts():
+    """The scripts for Slurm that the page has, in order."""
+    blocks = re.findall(r"(?m)(?:^    .*\n)+", PAGE.read_text())
+    return [re.sub(r"(?m)^    ", "", block) for block in blocks if "#SBATCH" in block]
+
+
+@case
+def slurm_cuts_what_one_process_cuts(scene):
+    """The page's scripts on one node: a trove, and one large capture in parts, are what one process cuts."""
+    if not scene.has(*SLURM):
+        return
+    if os.getuid():
+        scene.leave("Slurm's daemons are root's")
+        return
+    text = VETH.read_bytes()
+    trove, parts = scripts()
+    for folder in ("captures", "out"):
+        (scene.folder / folder).mkdir()
+    scene.put({"cut.sbatch": trove, "part.sbatch": parts, "captures/one.pcap": text, "captures/two.pcap": text[:24] + text[24:] * 3, "big.pcap": text[:24] + text[24:] * 60})
+    scene.put({"captures.txt": b"captures/one.pcap\ncaptures/two.pcap\n", "ranges.txt": scene.run("parts 4 big.pcap").out})
+    with slurm() as environment:
+        for script in ("--array=1-2 cut.sbatch", "--array=1-4 part.sbatch"):
+            done = subprocess.run(["sbatch", "--wait", *script.split()], cwd=scene.folder, env=environment, capture_output=True, timeout=LIMIT)
+            scene.check(f"status of {script}", done.returncode, 0)
+    for name in ("one", "two"):
+        scene.run(f"cut -s 0 -e 'udp port 5353' captures/{name}.pcap {name}-cut.pcap")
+        scene.check(f"{name} by Slurm", scene.read(f"out/{name}.pcap"), scene.read(f"{name}-cut.pcap"))
+    lines = [path.read_text() for path in scene.folder.glob("line-*.txt")]
+    scene.put({"lines.txt": "".join(sorted(lines, key=lambda line: int(line.split("-")[0])))})
+    scene.check("join", scene.run("join lines.txt joined.pcap").status, 0)
+    scene.run("cut -s 0 -e 'udp port 5353' big.pcap whole.pcap")
+    scene.check("parts by Slurm", scene.read("joined.pcap"), scene.read("whole.pcap"))
