@@ -143,8 +143,7 @@ def slurm_cuts_what_one_process_cuts(scene):
     for name in ("one", "two"):
         scene.run(f"cut -s 0 -e 'udp port 5353' captures/{name}.pcap {name}-cut.pcap")
         scene.check(f"{name} by Slurm", scene.read(f"out/{name}.pcap"), scene.read(f"{name}-cut.pcap"))
-    lines = [path.read_text() for path in scene.folder.glob("line-*.txt")]
-    scene.put({"lines.txt": "".join(sorted(lines, key=lambda line: int(line.split("-")[0])))})
+    subprocess.run("sort -t- -k1,1n -k2,2nr line-*.txt > lines.txt", shell=True, cwd=scene.folder, check=True)
     scene.check("join", scene.run("join lines.txt joined.pcap").status, 0)
     scene.run("cut -s 0 -e 'udp port 5353' big.pcap whole.pcap")
     scene.check("parts by Slurm", scene.read("joined.pcap"), scene.read("whole.pcap"))
