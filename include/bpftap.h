@@ -106,7 +106,7 @@ enum bpftap_fault {
     BPFTAP_NO_LISTENER = 91     /* step `place`, from 0, names a listener that does not exist */
 };
 
-#define BPFTAP_VERSION_NUMBER 20400 /* major * 10,000 + minor * 100 + patch */
+#define BPFTAP_VERSION_NUMBER 20500 /* major * 10,000 + minor * 100 + patch */
 
 #define BPFTAP_MAX_INSNS 512        /* instructions of a program */
 #define BPFTAP_MAX_SNAP 262144      /* captured bytes of a packet */
@@ -280,10 +280,14 @@ enum bpftap_sameness {
 
 /* Why nothing is claimed. */
 enum bpftap_cause {
-    BPFTAP_GRAPHS = 1,  /* their decision graphs differ, and no packet was found that shows how they do */
-    BPFTAP_BUDGET = 2,  /* the budget is spent, or an expression has more than 1,000 levels, of which one of a value counts as 8, or a value
-                           of it more than 64 */
-    BPFTAP_RELATION = 3 /* no call gives it since 2.3.0: versions before did not decide some kinds of relations */
+    BPFTAP_GRAPHS = 1,   /* their decision graphs differ, and no packet was found that shows how they do */
+    BPFTAP_BUDGET = 2,   /* the budget is spent, and nothing of PRODUCT, QUOTIENT and LOAD stands in the expressions */
+    BPFTAP_RELATION = 3, /* no call gives it since 2.3.0: versions before did not decide some kinds of relations */
+    BPFTAP_PRODUCT = 4,  /* the budget is spent, and an expression has a product of two values that are no constants */
+    BPFTAP_QUOTIENT = 5, /* the same with a quotient or a remainder by a value that is no constant */
+    BPFTAP_LOAD = 6,     /* the same with bytes at an index that is no constant */
+    BPFTAP_FAR = 7,      /* a byte may be looked at that is 131,072 bytes or more from the first one */
+    BPFTAP_LEVELS = 8    /* an expression has more than 1,000 levels, of which one of a value counts as 8, or a value of it more than 64 */
 };
 
 struct bpftap_comparison {
@@ -543,7 +547,7 @@ struct bpftap_result bpftap_fault_text(uint32_t fault, size_t place, char *to, s
  * Faults: NOT_TEXT, NO_ROOM, NO_MEMORY. */
 struct bpftap_result bpftap_hint(const char *text, size_t text_size, uint32_t fault, size_t place, char *to, size_t room);
 
-/* Writes the version of the library, as `2.4.0 x86-64-v2`: after a blank the processor that it is made for, `x86-64-v2` or `aarch64`. 64 bytes
+/* Writes the version of the library, as `2.5.0 x86-64-v2`: after a blank the processor that it is made for, `x86-64-v2` or `aarch64`. 64 bytes
  * are always room enough.
  * Faults: NO_ROOM. */
 struct bpftap_result bpftap_version(char *to, size_t room);

@@ -32,10 +32,20 @@ type Cause int
 const (
 	// Graphs: the decision graphs differ, and no packet was found that shows how the expressions do.
 	Graphs Cause = C.BPFTAP_GRAPHS
-	// Budget: the budget is spent, or an expression has too many levels.
+	// Budget: the budget is spent, and nothing of Product, Quotient and Load stands in the expressions.
 	Budget Cause = C.BPFTAP_BUDGET
 	// Relation: no call returns it since 2.3.0.
 	Relation Cause = C.BPFTAP_RELATION
+	// Product: the budget is spent, and an expression has a product of two values that are no constants.
+	Product Cause = C.BPFTAP_PRODUCT
+	// Quotient: the budget is spent, and an expression has a quotient or a remainder by a value that is no constant.
+	Quotient Cause = C.BPFTAP_QUOTIENT
+	// Load: the budget is spent, and an expression has bytes at an index that is no constant.
+	Load Cause = C.BPFTAP_LOAD
+	// Far: a byte may be looked at that is 131,072 bytes or more from the first one.
+	Far Cause = C.BPFTAP_FAR
+	// Levels: an expression has too many levels.
+	Levels Cause = C.BPFTAP_LEVELS
 )
 
 // A Comparison is what is decided of two expressions. Of Short and Differ it has a packet that shows the difference, of NotDecided a cause.

@@ -23,13 +23,24 @@ class Sameness(enum.IntEnum):
     DIFFER = 3
     NOT_DECIDED = 4
 
+    def __bool__(self) -> bool:
+        """`SAME` is 0: an `assert` of an answer would hold where the expressions differ."""
+        raise TypeError("a Sameness is neither true nor false: compare it, as in `answer is Sameness.SAME`")
+
 
 class Cause(enum.IntEnum):
-    """Why nothing is claimed: the decision graphs differ, and no packet was found that shows how the expressions do; the budget is spent, or
-    an expression has too many levels. RELATION is not given since 2.3.0."""
+    """Why nothing is claimed. GRAPHS: the decision graphs differ, and no packet was found that shows how the expressions do. BUDGET: the
+    budget is spent; PRODUCT, QUOTIENT, LOAD: so it is, and an expression has a product of two values that are no constants, a division by
+    one, or bytes at an index that is none. FAR: a byte may be looked at that is 131,072 bytes or more from the first one. LEVELS: an
+    expression has too many levels. RELATION is not given since 2.3.0."""
     GRAPHS = 1
     BUDGET = 2
     RELATION = 3
+    PRODUCT = 4
+    QUOTIENT = 5
+    LOAD = 6
+    FAR = 7
+    LEVELS = 8
 
 
 @dataclass(frozen=True)
@@ -40,6 +51,14 @@ class Comparison:
     packet: bytes | None = None
     wire: int | None = None
     cause: Cause | None = None
+
+    @property
+    def same(self) -> bool:
+        """Whether both accept the same packets, of all that there can be."""
+        return self.answer is Sameness.SAME
+
+    def __bool__(self) -> bool:
+        raise TypeError("a Comparison is neither true nor false: ask whether it is `.same`, or its `.answer`")
 
 
 def compare(first: str, second: str, budget: int = 2_000_000) -> Comparison:

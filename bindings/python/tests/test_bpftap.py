@@ -271,6 +271,14 @@ class Comparisons(unittest.TestCase):
         self.assertEqual((found.answer, answers, found.cause), (bpftap.Sameness.DIFFER, {bpftap.Verdict.YES, bpftap.Verdict.NO}, None))
         self.assertEqual(bpftap.compare("tcp", "udp", budget=1), bpftap.Comparison(bpftap.Sameness.NOT_DECIDED, cause=bpftap.Cause.BUDGET))
 
+    def test_a_comparison_is_asked_and_not_taken_for_true(self):
+        for text, same in (("src port 80 or dst port 80", True), ("udp", False)):
+            found = bpftap.compare("port 80", text)
+            self.assertIs(found.same, same)
+            for one in (found, found.answer):
+                with self.assertRaisesRegex(TypeError, "neither true nor false"):
+                    bool(one)
+
     def test_a_refused_expression_has_a_name_and_a_place(self):
         with self.assertRaises(bpftap.FilterError) as raised:
             bpftap.compare("tcp", "port http")

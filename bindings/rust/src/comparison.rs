@@ -8,10 +8,20 @@ use crate::{ffi, Error, Fault};
 pub enum Cause {
     /// The decision graphs differ, and no packet was found that shows how the expressions do.
     Graphs,
-    /// The budget is spent, or an expression has too many levels.
+    /// The budget is spent, and nothing of `Product`, `Quotient` and `Load` stands in the expressions.
     Budget,
     /// No call returns it since 2.3.0.
     Relation,
+    /// The budget is spent, and an expression has a product of two values that are no constants.
+    Product,
+    /// The budget is spent, and an expression has a quotient or a remainder by a value that is no constant.
+    Quotient,
+    /// The budget is spent, and an expression has bytes at an index that is no constant.
+    Load,
+    /// A byte may be looked at that is 131,072 bytes or more from the first one.
+    Far,
+    /// An expression has too many levels.
+    Levels,
 }
 
 /// A packet that shows a difference: its captured bytes, and its length on the wire.
@@ -82,6 +92,11 @@ fn answer(found: ffi::Comparison, data: Vec<u8>) -> Result<Sameness, Error> {
         (3, _) => Sameness::Differ(witness),
         (_, 1) => Sameness::NotDecided(Cause::Graphs),
         (_, 2) => Sameness::NotDecided(Cause::Budget),
+        (_, 4) => Sameness::NotDecided(Cause::Product),
+        (_, 5) => Sameness::NotDecided(Cause::Quotient),
+        (_, 6) => Sameness::NotDecided(Cause::Load),
+        (_, 7) => Sameness::NotDecided(Cause::Far),
+        (_, 8) => Sameness::NotDecided(Cause::Levels),
         (_, _) => Sameness::NotDecided(Cause::Relation),
     })
 }

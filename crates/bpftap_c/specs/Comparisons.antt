@@ -1,7 +1,7 @@
 -- Two expressions, decided for every packet.
 use Rattle.std.specs.Prelude.{◌≡◌, ◌⊎◌, ℕ, List, []}
 use Rattle.filter_tree.specs.Trees.{Tree}
-use Rattle.filter_same.specs.declared.sameness.Cause.TheVariants.{Graphs, Budget, Levels}
+use Rattle.filter_same.specs.declared.sameness.Cause.TheVariants.{Graphs, Nodes, Steps, Product, Quotient, Load, Far, Places, Levels}
 use Rattle.filter_same.specs.declared.sameness.Sameness.{Sameness}
 use Rattle.filter_same.specs.declared.sameness.Sameness.TheVariants.{Same, SameAsCaptured, Short, Differ, NotDecided}
 use Rattle.filter_same.specs.Same.{Holds}
@@ -28,8 +28,14 @@ cause_code SameAsCaptured = 0
 cause_code (Short witness) = 0
 cause_code (Differ witness) = 0
 cause_code (NotDecided Graphs) = 1
-cause_code (NotDecided Budget) = 2
-cause_code (NotDecided Levels) = 2
+cause_code (NotDecided Nodes) = 2
+cause_code (NotDecided Steps) = 2
+cause_code (NotDecided Places) = 2
+cause_code (NotDecided Product) = 4
+cause_code (NotDecided Quotient) = 5
+cause_code (NotDecided Load) = 6
+cause_code (NotDecided Far) = 7
+cause_code (NotDecided Levels) = 8
 
 -- the packet that shows the answer: its captured bytes, and its length on the wire
 abbrev pub witness_of : Sameness → List ℕ

@@ -56,8 +56,14 @@ fn cause_code(sameness: &Sameness) -> u32
 {
     match sameness {
         Sameness::NotDecided(Cause::Graphs) => 1,
-        Sameness::NotDecided(Cause::Budget) => 2,
-        Sameness::NotDecided(Cause::Levels) => 2,
+        Sameness::NotDecided(Cause::Nodes) => 2,
+        Sameness::NotDecided(Cause::Steps) => 2,
+        Sameness::NotDecided(Cause::Places) => 2,
+        Sameness::NotDecided(Cause::Product) => 4,
+        Sameness::NotDecided(Cause::Quotient) => 5,
+        Sameness::NotDecided(Cause::Load) => 6,
+        Sameness::NotDecided(Cause::Far) => 7,
+        Sameness::NotDecided(Cause::Levels) => 8,
         _ => 0,
     }
 }

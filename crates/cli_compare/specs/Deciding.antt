@@ -1,5 +1,5 @@
 -- What is printed of two filters that are decided for every packet, and the exit status.
-use Rattle.std.specs.Prelude.{◌≡◌, ℕ, Bool, List, [], ◌++◌, length, Option, Some, None, Result, Ok, Err, codes}
+use Rattle.std.specs.Prelude.{◌≡◌, ℕ, Bool, true, false, if◌then◌else◌, List, [], ◌++◌, length, Option, Some, None, Result, Ok, Err, IfOk, IfErr, codes}
 use Rattle.std.specs.Fmt.{decimal}
 use Rattle.std.specs.Io.KnownBytes.{Appends, Keeps}
 use Rattle.savefile.specs.declared.packet.Packet.{Packet}
@@ -7,13 +7,14 @@ use Rattle.filterlang.specs.Trees.{tree_of}
 use Rattle.filter_meaning.specs.Meaning.{Packet as Frame, Test, accepts, meaning}
 use Rattle.filter_explain.specs.Deciding.{verdict_text}
 use Rattle.filter_same.specs.declared.sameness.Cause.{Cause}
-use Rattle.filter_same.specs.declared.sameness.Cause.TheVariants.{Graphs, Budget, Levels}
+use Rattle.filter_same.specs.declared.sameness.Cause.TheVariants.{Graphs, Nodes, Steps, Product, Quotient, Load, Far, Places, Levels}
 use Rattle.filter_same.specs.declared.sameness.Sameness.{Sameness}
 use Rattle.filter_same.specs.declared.sameness.Sameness.TheVariants.{Same, SameAsCaptured, Short, Differ, NotDecided}
 use Rattle.filter_same.specs.declared.witness.Witness.{Witness}
 use Rattle.filter_same.specs.Programs.{keeps, program_test}
 use Rattle.filter_same.specs.Same.{HoldsOf}
 use Rattle.cli_text.specs.declared.status.Status.{Status}
+use Rattle.cli_text.specs.Status.{greater}
 use Rattle.cli_text.specs.declared.status.Status.TheVariants.{Clean, Negative, Undecided, Refused, Failed}
 use Rattle.line_text.specs.declared.form.LineForm.{LineForm}
 use Rattle.line_text.specs.declared.form.LineForm.TheVariants as line
@@ -32,7 +33,13 @@ use Rattle.cli_compare.specs.Pairs.{Difference}
 -- why two filters are not decided, within a budget of nodes
 abbrev pub cause_text : ℕ → Cause → List ℕ
 cause_text budget Graphs = codes "no packet was found that shows a difference"
-cause_text budget Budget = codes "it takes more than " ++ decimal budget ++ codes " nodes"
+cause_text budget Nodes = codes "it takes more than " ++ decimal budget ++ codes " nodes"
+cause_text budget Steps = codes "it takes too many steps"
+cause_text budget Product = codes "too large, with a product of two fields"
+cause_text budget Quotient = codes "too large, with a division by a field"
+cause_text budget Load = codes "too large, with bytes at an offset that is calculated"
+cause_text budget Far = codes "a byte at offset 131072 or later may be looked at"
+cause_text budget Places = codes "a program is walked at too many places"
 cause_text budget Levels = codes "an expression has too many levels"
 
 -- the line of the answer
@@ -146,3 +153,36 @@ answer_status (Ok (Differ w)) = Negative
 answer_status (Ok (NotDecided cause)) = Undecided
 answer_status (Err NoMemory) = Refused
 answer_status (Err (Output error)) = Failed
+
+-- ---- The exit status of the command
+
+-- the form that is asked for
+abbrev pub form_of : Bool → LineForm
+form_of json = if json then line.Json else line.Text
+
+-- the packet that an answer has, if there is an answer
+abbrev pub packet_of : Result Sameness Unprinted → Option Witness
+packet_of (Ok s) = witness_of s
+packet_of (Err e) = None
+
+-- the status after an answer whose packet goes to a file: a worse one if it is not written
+abbrev pub IsStatusWith : Option Witness → Result Sameness Unprinted → Status → Type 0
+IsStatusWith None answer status = status ≡ answer_status answer
+IsStatusWith (Some w) answer status = (written : Status) × (status ≡ greater (answer_status answer) written)
+
+-- the status after an answer: its own, but for that
+abbrev pub IsStatusAfter : {Path : Type 0} → Option Path → Result Sameness Unprinted → Status → Type 0
+IsStatusAfter None answer status = status ≡ answer_status answer
+IsStatusAfter (Some path) answer status = IsStatusWith (packet_of answer) answer status
+
+-- an answer was printed, or not as the writer failed; or nothing was, if that is not wanted
+abbrev pub Prints : (quiet json : Bool) → FilterPair → Option (List ℕ) → Option (List ℕ) → Result Sameness Unprinted → Type 0
+Prints quiet json pair old new answer =
+    (quiet ≡ true → new ≡ old)
+    × (quiet ≡ false → IfOk answer (λ s. PrintsAnswer (form_of json) pair 2000000 s old new))
+    × (quiet ≡ false → IfErr answer (IsUnanswered (form_of json) pair 2000000 old new))
+
+-- both filters were decided: an answer that holds was printed unless that is not wanted, and the status is its own
+abbrev pub AnswersPair : {Path : Type 0} → (quiet json : Bool) → Option Path → FilterPair → Option (List ℕ) → Option (List ℕ) → Status → Type 0
+AnswersPair quiet json output pair old new status =
+    (answer : Result Sameness Unprinted) × IfOk answer (HoldsOfPair pair) × Prints quiet json pair old new answer × IsStatusAfter output answer status

@@ -1,5 +1,8 @@
 //! Two filters decided for every packet, over files.
 
+ghost use Rattle.std.specs.Prelude.{◌≡◌, true, false, IfOk, IfErr};
+ghost use Rattle.cli_compare.specs.Deciding.{AnswersPair, HoldsOfPair, IsStatusAfter, IsUnanswered, PrintsAnswer, form_of};
+
 use crate::pair::FilterPair;
 use crate::report::report_answer;
 use crate::sameness::{BUDGET, decide_pair, print_sameness, witness_of};
@@ -20,6 +23,7 @@ use std::fs::Files;
 use std::io::Write;
 
 /// Writes a witness to OUT, which is made only now, and reports how that ended.
+#[inline(never)]
 fn write_out<R: Files + AllocGlobal, E: HintSink>(
     rt: &R,
     path: &str,
@@ -41,16 +45,42 @@ fn write_out<R: Files + AllocGlobal, E: HintSink>(
 }
 
 /// Decides both filters, and prints the answer unless it is not wanted.
+#[inline(never)]
 fn answer<O: Write>(
     alloc: Global,
     words: &CompareWords<'_>,
     pair: &FilterPair,
     out: &mut O,
-) -> Result<Sameness, Unprinted> {
+) -> Result<Sameness, Unprinted>
+    ensures holds { IfOk result (HoldsOfPair pair.now) }
+    ensures silent { words.now.quiet ≡ true → O.contents out.new ≡ O.contents out.old }
+    ensures printed { words.now.quiet ≡ false → IfOk result (λ s. PrintsAnswer (form_of words.now.json) pair.now 2000000 s (O.contents out.old) (O.contents out.new)) }
+    ensures fault { words.now.quiet ≡ false → IfErr result (IsUnanswered (form_of words.now.json) pair.now 2000000 (O.contents out.old) (O.contents out.new)) }
+{
     if words.quiet {
         Ok(decide_pair(alloc, pair, BUDGET)?)
     } else {
         print_sameness(alloc, LineForm::asked(words.json), pair, BUDGET, out)
+    }
+}
+
+/// Reports an answer, and writes the packet that shows a difference to OUT, if that is asked for.
+fn report_and_write<R: Files + AllocGlobal, E: HintSink>(
+    rt: &R,
+    words: &CompareWords<'_>,
+    answer: &Result<Sameness, Unprinted>,
+    err: &mut E,
+) -> Status
+    ensures { IsStatusAfter words.now.output answer.now result }
+{
+    let status = report_answer(answer, err);
+    let witness = match answer {
+        Ok(sameness) => witness_of(sameness),
+        Err(_) => None,
+    };
+    match (words.output, witness) {
+        (Some(path), Some(witness)) => status.max(write_out(rt, path, witness, err)),
+        _ => status,
     }
 }
 
@@ -61,20 +91,15 @@ fn decide_and_report<R: Files + AllocGlobal, O: Write, E: HintSink>(
     pair: &FilterPair,
     out: &mut O,
     err: &mut E,
-) -> Status {
+) -> Status
+    ensures { AnswersPair words.now.quiet words.now.json words.now.output pair.now (O.contents out.old) (O.contents out.new) result }
+{
     let answer = answer(rt.alloc(), words, pair, out);
-    let status = report_answer(&answer, err);
-    let witness = match &answer {
-        Ok(sameness) => witness_of(sameness),
-        Err(_) => None,
-    };
-    match (words.output, witness) {
-        (Some(path), Some(witness)) => status.max(write_out(rt, path, witness, err)),
-        _ => status,
-    }
+    report_and_write(rt, words, &answer, err)
 }
 
 /// Decides both filters for every packet.
+#[inline(never)]
 pub(crate) fn decide_for_all<R: Files + AllocGlobal, O: Write, E: HintSink>(
     rt: &R,
     words: &CompareWords<'_>,

@@ -10,6 +10,7 @@ use cli_text::Status;
 use std::fs::Files;
 
 /// The filters, the first one first. Below the fault of one of two expressions a line names it.
+#[inline(never)]
 pub(crate) fn read_pair<R: Files + AllocGlobal, E: HintSink>(
     rt: &R,
     words: &CompareWords<'_>,

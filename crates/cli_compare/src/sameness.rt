@@ -17,7 +17,7 @@ use savefile::PacketRef;
 use std::alloc::{AllocError, Global};
 use std::io::Write;
 
-/// How many nodes a graph may have, and how many pairs of them it joins.
+/// How many nodes the diagrams of two filters may have, for each length of the IPv4 header, and half of the steps that are taken in all.
 pub const BUDGET: usize = 2_000_000;
 
 /// Appends why two filters are not decided.
@@ -26,7 +26,13 @@ pub(crate) fn put_cause(text: &mut String, budget: usize, cause: Cause) -> Resul
 {
     match cause {
         Cause::Graphs => text.push_str("no packet was found that shows a difference"),
-        Cause::Budget => write!(text, "it takes more than {budget} nodes"),
+        Cause::Nodes => write!(text, "it takes more than {budget} nodes"),
+        Cause::Steps => text.push_str("it takes too many steps"),
+        Cause::Product => text.push_str("too large, with a product of two fields"),
+        Cause::Quotient => text.push_str("too large, with a division by a field"),
+        Cause::Load => text.push_str("too large, with bytes at an offset that is calculated"),
+        Cause::Far => text.push_str("a byte at offset 131072 or later may be looked at"),
+        Cause::Places => text.push_str("a program is walked at too many places"),
         Cause::Levels => text.push_str("an expression has too many levels"),
     }
 }
@@ -163,6 +169,7 @@ fn text_of(
 }
 
 /// Decides whether two filters accept the same packets, as [`decide_filters`] does.
+#[inline(never)]
 pub fn decide_pair(alloc: Global, pair: &FilterPair, budget: usize) -> Result<Sameness, NoMemory>
     ensures { IfOk result (HoldsOfPair pair.now) }
 {

@@ -7,7 +7,7 @@ use std::alloc::Global;
 
 /// What is said of a display filter for whose words nothing else is written here.
 const DISPLAY_FILTER: &str =
-    "this looks like a display filter of Wireshark: here write `tcp port 80` or `host 192.0.2.1`";
+    "this looks like a display filter of Wireshark, for which there are no words here: tshark -r IN -Y FILTER -F nsecpcap -w OUT takes it";
 
 /// What is said of a search in the data.
 const SEARCH: &str =
@@ -216,6 +216,9 @@ static FLAGS: [Flag; 8] = [
 /// How the names of captures end.
 static CAPTURES: [&[u8]; 3] = [b".pcap", b".pcapng", b".cap"];
 
+/// How the names of files end that have a listing or an expression.
+static FILTER_FILES: [&[u8]; 3] = [b".bpf", b".txt", b".filter"];
+
 /// A protocol over ports, and its usual port.
 struct Service {
     name: &'static [u8],
@@ -377,7 +380,12 @@ fn is_capture(name: &[u8]) -> bool {
     CAPTURES.iter().any(|end| name.ends_with(*end))
 }
 
-/// What helps at a name with dots: a field, or the name of a capture or a host.
+/// Whether a name is that of a file that has a listing or an expression.
+fn is_filter_file(name: &[u8]) -> bool {
+    FILTER_FILES.iter().any(|end| name.ends_with(*end))
+}
+
+/// What helps at a name with dots: a field, or the name of a capture, of a file with a filter, or of a host.
 pub(crate) fn of_dots<'a>(alloc: Global, spot: Spot<'a>) -> Found<'a> {
     let run = spot.run();
     let end = run.start.saturating_add(run.bytes.len());
@@ -390,7 +398,14 @@ pub(crate) fn of_dots<'a>(alloc: Global, spot: Spot<'a>) -> Found<'a> {
         return Ok(Some(Advice::Round(
             "`",
             run.bytes,
-            "` is the name of a capture, and no filter: captures are compared by cmp, editcap or tshark",
+            "` is the name of a capture, and no filter: captures are the last words; two of them are compared by diff <(tcpdump -tnxr A) <(tcpdump -tnxr B)",
+        )));
+    }
+    if is_filter_file(run.bytes) {
+        return Ok(Some(Advice::Round(
+            "`",
+            run.bytes,
+            "` is the name of a file: a listing goes after -f, and an expression is read from a file by \"$(cat FILE)\"",
         )));
     }
     if first.takes_address() || !is_field(run.bytes, after_blanks(after)) {

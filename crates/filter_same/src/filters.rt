@@ -10,10 +10,10 @@ ghost use Rattle.filter_same.specs.Same.{packet, AcceptSame};
 use crate::alike::is_same_expr;
 use crate::builder::Builder;
 use crate::depth::{Limits, is_shallow};
+use crate::refusal::Refusal;
 use crate::witness::Witness;
 use bpfvm::{How, Program, run_to_end};
 use filter_meaning::{Verdict, evaluate};
-use filter_symbols::Refusal;
 use filter_tree::Expr;
 use std::alloc::Global;
 

@@ -11,9 +11,9 @@ ghost use Rattle.filter_same.specs.Findings.{ClaimOf, ClaimsOf, Claims, HoldsUnl
 use crate::builder::Builder;
 use crate::filters::Filter;
 use crate::ordering::order_of;
+use crate::refusal::Refusal;
 use crate::witness::{Extent, Witness};
 use filter_bdd::{Answer, Budget, Operation, Stop};
-use filter_symbols::Refusal;
 use std::alloc::Global;
 
 /// What is so of two filters. Each claim is so where the one before it is.
@@ -106,6 +106,7 @@ impl Builder {
     /// What is claimed of packets of which no more was captured than was on the wire, by a node of what both accept and one of where they
     /// clash.
     #[tactic(auto, using(crate::proofs::Builders::extends_more, crate::proofs::Builders::extends_same, crate::proofs::Builders::inside_extended))]
+    #[inline(never)]
     fn find_captured(&mut self, alloc: Global, agree: u32, clash: u32) -> Result<Finding, Stop>
         requires header { IfSome self.old.symbols.header (λ n. n < 16) }
         requires agree { agree < length self.old.symbols.words.diagrams }
@@ -169,6 +170,25 @@ impl Builder {
     }
 }
 
+impl Builder {
+    /// Compares two filters on the packets of the header length.
+    #[inline(never)]
+    fn find_filters(
+        &mut self,
+        alloc: Global,
+        first: Filter<'_>,
+        second: Filter<'_>,
+    ) -> Result<Finding, Refusal>
+        requires { IfSome self.old.symbols.header (λ n. n < 16) }
+        ensures { IfOk result (λ found. ClaimsOf self.old.symbols.header (filter_test first.entry) (filter_test second.entry) found.claim) }
+    {
+        let left = first.node(self, alloc)?;
+        let right = second.node(self, alloc)?;
+        let found = self.find(alloc, left, right)?;
+        Ok(found)
+    }
+}
+
 /// Compares two filters on the packets of one header length, or on all where none is given and none is asked for. It leaves of the budget
 /// what was not spent.
 fn find(
@@ -183,11 +203,13 @@ fn find(
 {
     let order = order_of(alloc, header, first, second)?;
     let mut builder = Builder::new(alloc, header, *budget, order);
-    let left = first.node(&mut builder, alloc)?;
-    let right = second.node(&mut builder, alloc)?;
-    let found = builder.find(alloc, left, right)?;
-    *budget = builder.symbols.words.diagrams.budget();
-    Ok(found)
+    match builder.find_filters(alloc, first, second) {
+        Ok(found) => {
+            *budget = builder.symbols.words.diagrams.budget();
+            Ok(found)
+        }
+        Err(refusal) => Err(refusal.of(&builder)),
+    }
 }
 
 /// The same of all header lengths, one after the other, the usual one first.

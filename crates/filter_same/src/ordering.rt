@@ -96,12 +96,23 @@ impl Survey {
         }
     }
 
-    /// What an operator makes of two numbers.
+    /// What an operator makes of two numbers. By how much one is shifted, and the smaller factor of a product, comes first: then the rest is
+    /// a shift or a product by a constant.
     #[inline(never)]
-    fn calculated(&mut self, operator: Operator, first: Shape, second: Shape) -> Shape {
+    fn calculated(
+        &mut self,
+        operator: Operator,
+        first: Shape,
+        second: Shape,
+    ) -> Result<Shape, Stop> {
+        if let Some((ahead, rest)) = ahead_of(operator, first, second) {
+            self.standings.index(&ahead)?;
+            self.standings.stand(&rest);
+            return Ok(rest);
+        }
         let whole = Shape::calculated(operator, first, second);
         self.standings.join(&whole);
-        whole
+        Ok(whole)
     }
 
     /// A value.
@@ -111,12 +122,12 @@ impl Survey {
             Value::Length => Ok(Shape::field(0, WIRE)),
             Value::Negation(operand) => {
                 let negated = self.value(operand)?;
-                Ok(self.calculated(Operator::Minus, Shape::number(0), negated))
+                self.calculated(Operator::Minus, Shape::number(0), negated)
             }
             Value::Binary(operator, left, right) => {
                 let first = self.value(left)?;
                 let second = self.value(right)?;
-                Ok(self.calculated(*operator, first, second))
+                self.calculated(*operator, first, second)
             }
             Value::Accessor(layer, index, size) => {
                 let place = self.value(index)?;
@@ -182,13 +193,11 @@ impl Survey {
             },
             Source::Calculated(operator, operand) => {
                 let second = shapes.operand(operand, insn.k);
-                Ok(self.calculated(operator, shapes.accumulator, second))
+                self.calculated(operator, shapes.accumulator, second)
             }
-            Source::Negated => Ok(self.calculated(
-                Operator::Minus,
-                Shape::number(0),
-                shapes.accumulator,
-            )),
+            Source::Negated => {
+                self.calculated(Operator::Minus, Shape::number(0), shapes.accumulator)
+            }
             Source::Register(from) => Ok(shapes.register(from)),
         }
     }
@@ -236,6 +245,24 @@ impl Survey {
     }
 }
 
+/// The number whose bits come first if an operator goes between two that are no constants, and the other one.
+fn ahead_of(operator: Operator, first: Shape, second: Shape) -> Option<(Shape, Shape)> {
+    if second.number.is_some() {
+        return None;
+    }
+    match operator {
+        Operator::ShiftLeft | Operator::ShiftRight => Some((second, first.unknown())),
+        Operator::Times if first.number.is_none() => {
+            if first.bits() < second.bits() {
+                Some((first, second))
+            } else {
+                Some((second, first))
+            }
+        }
+        _ => None,
+    }
+}
+
 /// Puts off a part of an expression.
 fn wait<'a>(waiting: &mut Vec<&'a Expr>, part: &'a Expr) -> Result<(), Stop> {
     if waiting.push(part).is_err() {
@@ -245,6 +272,7 @@ fn wait<'a>(waiting: &mut Vec<&'a Expr>, part: &'a Expr) -> Result<(), Stop> {
 }
 
 /// The order in which the bits of packets of a header length are best asked for, to compare two filters.
+#[inline(never)]
 pub(crate) fn order_of(
     alloc: Global,
     header: Option<u32>,

@@ -7,9 +7,9 @@ ghost use Rattle.filter_symbols.specs.Symbols.{SaysOf, Extends};
 
 use crate::builder::Builder;
 use crate::fields::{AT_LEAST, AT_MOST, Bytes, GREATER};
+use crate::refusal::Refusal;
 use filter_bdd::Stop;
 use filter_meaning::protocol_number;
-use filter_symbols::Refusal;
 use filter_tree::headers::{
     ARP_SPA, ARP_TPA, ETHER_DST, ETHER_SRC, ETHER_TYPE, ETHERTYPE_ARP, ETHERTYPE_IP,
     ETHERTYPE_REVARP, IP_DST, IP_OFF, IP_OFFMASK, IP_P, IP_SRC, IPPROTO_ICMP, IPPROTO_SCTP,

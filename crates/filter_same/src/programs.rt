@@ -8,12 +8,12 @@ ghost use Rattle.filter_same.specs.Walks.{AreNodes, AreSpots, IsVisited};
 
 use crate::actions::action_of;
 use crate::builder::Builder;
+use crate::refusal::Refusal;
 use crate::spots::{Spot, Spots};
 use crate::state::State;
 use crate::steps::Step;
 use bpfvm::{Insn, Program};
 use filter_bdd::Stop;
-use filter_symbols::Refusal;
 use std::alloc::Global;
 
 /// What became of a spot.
@@ -36,6 +36,7 @@ impl Builder {
 
     /// The node of a spot, by those of the spots after it; or else a spot after it whose node is not known.
     #[tactic(auto, using(crate::proofs::Builders::extends_more, crate::proofs::Builders::extends_same, crate::proofs::Builders::inside_extended))]
+    #[inline(never)]
     fn node_of(&mut self, spots: &Spots, insns: &[Insn], spot: &Spot) -> Result<Visited, Refusal>
         requires header { IfSome self.old.symbols.header (λ n. n < 16) }
         requires words { AreWords self.old.symbols.words.diagrams spot.now.state }
@@ -44,11 +45,11 @@ impl Builder {
         ensures extends { Extends self.old.symbols self.new.symbols }
     {
         if spot.place >= insns.len() {
-            return Err(Refusal::Budget);
+            return Err(Refusal::Places);
         }
         let insn = &insns[spot.place];
         let Some(action) = action_of(insn.code) else {
-            return Err(Refusal::Budget);
+            return Err(Refusal::Places);
         };
         let next = spot.place + 1;
         let step = self.step(&spot.state, insn, action)?;
@@ -84,6 +85,7 @@ impl Builder {
 
     /// The node of a spot, which is kept, or else a spot after it whose node is not known.
     #[tactic(auto, using(crate::proofs::Builders::extends_more, crate::proofs::Builders::extends_same, crate::proofs::Builders::inside_extended))]
+    #[inline(never)]
     fn visit(&mut self, spots: &mut Spots, insns: &[Insn], spot: &Spot) -> Result<Visited, Refusal>
         requires header { IfSome self.old.symbols.header (λ n. n < 16) }
         requires words { AreWords self.old.symbols.words.diagrams spot.now.state }
@@ -111,12 +113,13 @@ impl Builder {
     {
         match spots.known(start) {
             Some(node) => Ok(node),
-            None => Err(Refusal::Budget),
+            None => Err(Refusal::Places),
         }
     }
 
     /// Visits a spot, and returns the one that is to be visited next, if one is. A spot waits while those after it are visited.
     #[tactic(auto, using(crate::proofs::Builders::extends_more, crate::proofs::Builders::extends_same, crate::proofs::Builders::inside_extended))]
+    #[inline(never)]
     fn next_spot(
         &mut self,
         spots: &mut Spots,
@@ -146,6 +149,7 @@ impl Builder {
 
     /// A node that says what a program says. It is walked from the first instruction on, each place after those that its run goes on at.
     #[tactic(auto, using(crate::proofs::Builders::extends_more, crate::proofs::Builders::extends_same, crate::proofs::Builders::inside_extended))]
+    #[inline(never)]
     pub fn program(&mut self, alloc: Global, program: &Program) -> Result<u32, Refusal>
         requires { IfSome self.old.symbols.header (λ n. n < 16) }
         ensures means { IfOk result (SaysOf self.new.symbols (program_test program.now)) }
@@ -164,6 +168,6 @@ impl Builder {
             };
             spot = after;
         }
-        Err(Refusal::Budget)
+        Err(Refusal::Places)
     }
 }

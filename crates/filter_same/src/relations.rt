@@ -6,8 +6,8 @@ ghost use Rattle.filter_meaning.specs.Meaning.{in_layer, in_layers, relation_tes
 ghost use Rattle.filter_symbols.specs.Symbols.{SaysOf, Extends};
 
 use crate::builder::Builder;
+use crate::refusal::Refusal;
 use filter_bdd::{Answer, Stop};
-use filter_symbols::Refusal;
 use filter_tree::headers::{
     ETHERTYPE_ARP, ETHERTYPE_IP, ETHERTYPE_REVARP, IPPROTO_ICMP, IPPROTO_TCP, IPPROTO_UDP,
 };

@@ -10,11 +10,12 @@ ghost use Rattle.filter_same.specs.Findings.{Claims};
 use crate::depth::{CALCULATED, LOOKED_AT, Limits};
 use crate::filters::Filter;
 use crate::find::{Claim, Finding, find_all};
+use crate::heavy::Heavy;
+use crate::refusal::Refusal;
 use crate::witness::Witness;
 use bpfvm::NoMemory;
 use filter_bdd::Budget;
 use filter_meaning::Verdict;
-use filter_symbols::Refusal;
 use filter_tree::Expr;
 use std::alloc::Global;
 
@@ -23,8 +24,20 @@ use std::alloc::Global;
 pub enum Cause {
     /// Their diagrams differ, and no packet was found that shows how the filters do.
     Graphs,
-    /// The budget is spent.
-    Budget,
+    /// The budget's nodes are spent, and nothing below stands in the filters.
+    Nodes,
+    /// The budget's steps are spent, and nothing below stands in the filters.
+    Steps,
+    /// The budget is spent, and a filter has a product of two numbers that are no constants.
+    Product,
+    /// The budget is spent, and a filter has a quotient or a remainder by a number that is no constant.
+    Quotient,
+    /// The budget is spent, and a filter has bytes at an offset that is no constant.
+    Load,
+    /// A byte may be asked for that is 2^17 bytes or more from the first one.
+    Far,
+    /// A program is walked at too many places, each with other numbers.
+    Places,
     /// An expression has more levels than are compared.
     Levels,
 }
@@ -99,8 +112,8 @@ pub fn decide(
 /// any bytes of it, and aborts if it reads past the captured bytes or divides by 0. Filters with the same tree, or the same instructions, are
 /// the same, whatever they calculate.
 ///
-/// `budget` is how many nodes the diagrams of one header length may have, and half of the steps that are taken in all. It is spent too if a
-/// byte is wanted that is 2^17 bytes or more from the first one, or if 32,768 places of a program are walked, or 8,192 for a header length.
+/// `budget` is how many nodes the diagrams of one header length may have, and half of the steps that are taken in all. No byte is looked at
+/// that is 2^17 bytes or more from the first one, and at most 32,768 places of a program are walked, or 8,192 for each header length.
 /// Expressions have at most 1,000 levels, of which one of a value counts as eight, and values at most 64; the same tree twice may have more.
 /// `NoMemory` if memory is refused.
 pub fn decide_filters(
@@ -124,7 +137,22 @@ pub fn decide_filters(
     match find_all(alloc, first, second, whole) {
         Ok(found) => Ok(sameness_of(first, second, found)),
         Err(Refusal::Memory) => Err(NoMemory),
-        Err(_) => Ok(Sameness::NotDecided(Cause::Budget)),
+        Err(refusal) => Ok(Sameness::NotDecided(cause_of(refusal, first, second))),
+    }
+}
+
+/// Why two filters are not decided, if they were refused.
+fn cause_of(refusal: Refusal, first: Filter<'_>, second: Filter<'_>) -> Cause {
+    let heavy = first.heavy().or(second.heavy());
+    let far = first.looks_far() || second.looks_far();
+    match (refusal, heavy) {
+        (Refusal::Places, _) => Cause::Places,
+        (Refusal::Budget, _) if far => Cause::Far,
+        (_, Some(Heavy::Product)) => Cause::Product,
+        (_, Some(Heavy::Quotient)) => Cause::Quotient,
+        (_, Some(Heavy::Load)) => Cause::Load,
+        (Refusal::Nodes, None) => Cause::Nodes,
+        (_, None) => Cause::Steps,
     }
 }
 

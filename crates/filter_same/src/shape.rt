@@ -98,6 +98,25 @@ impl Shape {
         }
     }
 
+    /// The same fields. Which number it is is not known.
+    pub fn unknown(self) -> Shape {
+        let parts = self.parts;
+        Shape {
+            number: None,
+            parts,
+        }
+    }
+
+    /// How many bits its fields have.
+    pub fn bits(&self) -> u32 {
+        let mut bits = 0u32;
+        for part in self.parts {
+            let bytes = part.map_or(0, |part| part.bytes);
+            bits = bits.saturating_add(bytes.min(8) * 8);
+        }
+        bits
+    }
+
     /// The fields of both.
     pub fn with(self, other: Shape) -> Shape {
         let mut all = self;

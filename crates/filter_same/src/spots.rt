@@ -7,6 +7,7 @@ ghost use Rattle.filter_same.specs.States.{AreWords, IsPart};
 ghost use Rattle.filter_same.specs.Walks.{IsNodeOf, AreNodes};
 
 use crate::live::{Live, live_of};
+use crate::refusal::Refusal;
 use crate::state::State;
 use bpfvm::Insn;
 use filter_bdd::Stop;
@@ -117,21 +118,21 @@ impl Spots {
     }
 
     /// Keeps the node of a spot, and returns it.
-    pub fn keep(&mut self, spot: Spot, node: u32) -> Result<u32, Stop>
+    pub fn keep(&mut self, spot: Spot, node: u32) -> Result<u32, Refusal>
         ensures node { IfOk result (λ i. i ≡ node) }
         ensures kept { IfOk result (λ i. (b : Symbols) → (insns : List Insn) → AreNodes b insns self.old
             → IsNodeOf b insns spot node → AreNodes b insns self.new) }
     {
         let place = self.nodes.len();
         if place >= self.most {
-            return Err(Stop::Budget);
+            return Err(Refusal::Places);
         }
         let digest = spot.state.digest(spot.place);
         let Ok(()) = self.nodes.push((spot, node)) else {
-            return Err(Stop::Memory);
+            return Err(Refusal::Memory);
         };
         let Ok(_) = self.places.insert(digest, place) else {
-            return Err(Stop::Memory);
+            return Err(Refusal::Memory);
         };
         Ok(node)
     }

@@ -142,9 +142,13 @@ impl Standings {
 
     /// Fields of a number are asked for in turn, if they have bits at the same places.
     pub fn join(&mut self, shape: &Shape) {
-        if !shape.is_joined() {
-            return;
+        if shape.is_joined() {
+            self.stand(shape);
         }
+    }
+
+    /// Fields of a number are not asked for before the others, also if protocols are told apart by them.
+    pub fn stand(&mut self, shape: &Shape) {
         let origin = self.origin_of(shape);
         for part in shape.parts {
             if let Some(part) = part {

@@ -6,7 +6,7 @@ ghost use Rattle.filter_same.specs.States.{cell, word_in, HasWord, HasCell, IsKe
 
 use crate::actions::Register;
 use crate::live::Live;
-use filter_symbols::Refusal;
+use crate::refusal::Refusal;
 use filter_words::Word;
 
 /// The numbers that the registers and the cells of the scratch memory hold, as words. What is not read again has none.
@@ -23,7 +23,7 @@ pub(crate) fn kept(word: Option<Word>) -> Result<Word, Refusal>
 {
     match word {
         Some(word) => Ok(word),
-        None => Err(Refusal::Budget),
+        None => Err(Refusal::Places),
     }
 }
 
@@ -103,7 +103,7 @@ impl State {
         ensures { IfOk result (HasCell self.now place word) }
     {
         if place >= 16 {
-            return Err(Refusal::Budget);
+            return Err(Refusal::Places);
         }
         let mut next = *self;
         next.memory[place as usize] = Some(word);

@@ -12,10 +12,11 @@ ghost use Rattle.filter_same.specs.Walks.{IsOperand, IsLoad, IsOn, IsJump, IsSte
 
 use crate::actions::{Action, Operand, Source, Test};
 use crate::builder::Builder;
+use crate::refusal::Refusal;
 use crate::state::{State, kept};
 use bpfvm::Insn;
 use filter_bdd::{Answer, Stop};
-use filter_symbols::{Refusal, Symbol};
+use filter_symbols::Symbol;
 use filter_tree::headers::ETHER_HDR_LEN;
 use filter_tree::{Operator, Size};
 use filter_words::Word;
@@ -109,6 +110,7 @@ impl Builder {
 
     /// The number that an instruction loads.
     #[tactic(auto, using(crate::proofs::Builders::extends_more, crate::proofs::Builders::extends_same, crate::proofs::Builders::inside_extended, crate::proofs::Instructions::word_extended))]
+    #[inline(never)]
     fn load_of(&mut self, state: &State, insn: &Insn, source: Source) -> Result<Symbol, Refusal>
         requires { AreWords self.old.symbols.words.diagrams state.now }
         ensures load { IfOk result (IsLoad self.old.symbols self.new.symbols state.now (number_from source) insn.now) }
@@ -198,6 +200,7 @@ impl Builder {
 
     /// What an instruction does.
     #[tactic(auto, using(crate::proofs::Builders::extends_more, crate::proofs::Builders::extends_same, crate::proofs::Builders::inside_extended, crate::proofs::Instructions::word_extended, crate::proofs::Instructions::words_extended))]
+    #[inline(never)]
     pub fn step(&mut self, state: &State, insn: &Insn, action: Action) -> Result<Step, Refusal>
         requires { AreWords self.old.symbols.words.diagrams state.now }
         ensures step { IfOk result (IsStepOf self.old.symbols self.new.symbols state.now insn.now action) }

@@ -6,8 +6,8 @@ ghost use Rattle.filter_meaning.specs.Meaning.{meaning, primitive_test};
 ghost use Rattle.filter_symbols.specs.Symbols.{SaysOf, Extends};
 
 use crate::builder::Builder;
+use crate::refusal::Refusal;
 use filter_bdd::Answer;
-use filter_symbols::Refusal;
 use filter_tree::Expr;
 
 impl Builder {

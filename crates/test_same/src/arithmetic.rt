@@ -5,7 +5,7 @@ use crate::same::same;
 use filter_same::Sameness;
 
 /// Pairs that accept the same packets, of every captured length.
-static SAME: [(&str, &str); 22] = [
+static SAME: [(&str, &str); 25] = [
     ("ip[0] + 1 = 70", "ip[0] = 69"),
     ("len - 14 = 100", "len = 114"),
     ("len * 2 = 200", "len = 100 or len = 2147483748"),
@@ -21,6 +21,16 @@ static SAME: [(&str, &str); 22] = [
     ("ip[8] | 1 = 255", "ip[8] >= 254"),
     ("-ip[8] = 0 - 5", "ip[8] = 5"),
     ("ip[ip[0] & 0xf] = 7", "ip[ip[0] % 16] = 7"),
+    // By how much a number is shifted, and the smaller factor of a product, are asked for first.
+    (
+        "ip[12:4] << (ip[8] & 31) = 256",
+        "(ip[12:4] << (ip[8] & 31)) - 256 = 0",
+    ),
+    (
+        "(ip[6:2] & 0x1fff) << ip[1] != 1",
+        "1 != (ip[6:2] & 0x1fff) << ip[1]",
+    ),
+    ("ip[8] * ip[9] > 600", "600 < ip[9] * ip[8]"),
     (
         "tcp[((tcp[12] & 0xf0) >> 2):4] = 0x48545450",
         "tcp[(tcp[12] / 16 * 4):4] = 0x48545450",

@@ -110,14 +110,14 @@ fn what_is_not_decided_has_a_cause(rt: HostRuntime) {
         "tcp",
         "ip proto 6",
         3,
-        Sameness::NotDecided(Cause::Budget),
+        Sameness::NotDecided(Cause::Nodes),
     );
     decided(
         &rt,
         "ip[12:4] * ip[16:4] = 3",
         "3 = ip[16:4] * ip[12:4]",
         1000,
-        Sameness::NotDecided(Cause::Budget),
+        Sameness::NotDecided(Cause::Product),
     );
 }
 

@@ -1,0 +1,150 @@
+//! What in a filter takes many nodes, by its form.
+
+use crate::actions::{Action, Operand, Source, action_of};
+use crate::filters::Filter;
+use bpfvm::Insn;
+use filter_tree::{Expr, Operator, Value};
+
+/// An offset of a layer that is far from its first byte.
+const FAR: u32 = 1 << 16;
+
+/// What takes many nodes. Nearly all bits of a product or a quotient rest on nearly all bits of both operands.
+#[derive(Clone, Copy, Debug, PartialEq, Eq)]
+pub(crate) enum Heavy {
+    /// A product of two numbers that are no constants.
+    Product,
+    /// A quotient or a remainder by a number that is no constant.
+    Quotient,
+    /// Bytes at an index that is no constant.
+    Load,
+}
+
+/// What is heavy of an operator between two numbers that are no constants.
+fn heavy_operator(operator: Operator) -> Option<Heavy> {
+    match operator {
+        Operator::Times => Some(Heavy::Product),
+        Operator::Divide | Operator::Modulo => Some(Heavy::Quotient),
+        _ => None,
+    }
+}
+
+/// Whether a value is the same number of every packet.
+fn is_constant(value: &Value) -> bool {
+    match value {
+        Value::Number(_) => true,
+        Value::Length | Value::Accessor(_, _, _) => false,
+        Value::Negation(operand) => is_constant(operand),
+        Value::Binary(_, left, right) => is_constant(left) && is_constant(right),
+    }
+}
+
+/// What is heavy of an operator between two values. A quotient of a constant is, and one by a constant is not.
+fn heavy_between(operator: Operator, left: &Value, right: &Value) -> Option<Heavy> {
+    let heavy = heavy_operator(operator)?;
+    let by_constant = is_constant(right) || heavy == Heavy::Product && is_constant(left);
+    if by_constant { None } else { Some(heavy) }
+}
+
+/// The first of two that there is.
+fn first_of(one: Option<Heavy>, other: Option<Heavy>) -> Option<Heavy> {
+    if one.is_some() { one } else { other }
+}
+
+/// What is heavy in a value, its operators before their operands.
+fn heavy_value(value: &Value) -> Option<Heavy> {
+    match value {
+        Value::Number(_) | Value::Length => None,
+        Value::Negation(operand) => heavy_value(operand),
+        Value::Binary(operator, left, right) => {
+            let inner = first_of(heavy_value(left), heavy_value(right));
+            first_of(heavy_between(*operator, left, right), inner)
+        }
+        Value::Accessor(_, index, _) => {
+            let load = if is_constant(index) {
+                None
+            } else {
+                Some(Heavy::Load)
+            };
+            first_of(heavy_value(index), load)
+        }
+    }
+}
+
+/// Whether a value looks at bytes that may be far from the first one.
+fn looks_far(value: &Value) -> bool {
+    match value {
+        Value::Number(_) | Value::Length => false,
+        Value::Negation(operand) => looks_far(operand),
+        Value::Binary(_, left, right) => looks_far(left) || looks_far(right),
+        Value::Accessor(_, index, _) => !is_near(index) || looks_far(index),
+    }
+}
+
+/// Whether an index is a small number.
+fn is_near(index: &Value) -> bool {
+    match index {
+        Value::Number(number) => *number < FAR,
+        _ => false,
+    }
+}
+
+/// Whether an expression looks at bytes that may be far from the first one.
+fn expression_looks_far(expr: &Expr) -> bool {
+    match expr {
+        Expr::Everything | Expr::Test(_) => false,
+        Expr::Relation(_, left, right) => looks_far(left) || looks_far(right),
+        Expr::Not(operand) => expression_looks_far(operand),
+        Expr::And(left, right) | Expr::Or(left, right) => {
+            expression_looks_far(left) || expression_looks_far(right)
+        }
+    }
+}
+
+/// Whether an instruction looks at bytes that may be far from the first one.
+fn instruction_looks_far(insn: &Insn) -> bool {
+    match action_of(insn.code) {
+        Some(Action::Load(_, Source::Indirect(_))) => true,
+        Some(Action::Load(_, Source::Absolute(_) | Source::HeaderLength)) => insn.k >= FAR,
+        _ => false,
+    }
+}
+
+/// What is heavy in an expression, from the left.
+fn heavy_expression(expr: &Expr) -> Option<Heavy> {
+    match expr {
+        Expr::Everything | Expr::Test(_) => None,
+        Expr::Relation(_, left, right) => first_of(heavy_value(left), heavy_value(right)),
+        Expr::Not(operand) => heavy_expression(operand),
+        Expr::And(left, right) | Expr::Or(left, right) => {
+            first_of(heavy_expression(left), heavy_expression(right))
+        }
+    }
+}
+
+/// What is heavy of an instruction, if the index register is no constant there.
+fn heavy_instruction(insn: &Insn) -> Option<Heavy> {
+    match action_of(insn.code) {
+        Some(Action::Load(_, Source::Calculated(operator, Operand::InIndex))) => {
+            heavy_operator(operator)
+        }
+        _ => None,
+    }
+}
+
+impl Filter<'_> {
+    /// What is heavy in the filter, if something is known to be.
+    pub(crate) fn heavy(self) -> Option<Heavy> {
+        match self {
+            Filter::Expression(expr) => heavy_expression(expr),
+            Filter::Program(program) => program.insns().iter().find_map(heavy_instruction),
+        }
+    }
+
+    /// Whether the filter looks at bytes that may be far from the first one.
+    pub(crate) fn looks_far(self) -> bool {
+        match self {
+            Filter::Expression(expr) => expression_looks_far(expr),
+            Filter::Program(program) => program.insns().iter().any(instruction_looks_far),
+        }
+    }
+}
