@@ -35,34 +35,47 @@ def order_of(line):
 
 
 def cut_all(client, ranges, words):
-    """Cuts parts on the cluster, and returns their lines. It shows how many are done."""
+    """Cuts parts on the cluster, and returns their lines. It shows how many are done. If one can't be cut, the others are given up."""
     futures = [client.submit(cut_part, *words, part, retries=3, pure=False) for part in ranges]
     lines = []
-    for future in as_completed(futures):
-        lines.append(future.result())
-        print(f"\r{len(lines)} of {len(ranges)} parts", end="", file=sys.stderr, flush=True)
-    print(file=sys.stderr)
+    try:
+        for future in as_completed(futures):
+            lines.append(future.result())
+            print(f"\r{len(lines)} of {len(ranges)} parts", end="", file=sys.stderr, flush=True)
+    finally:
+        print(file=sys.stderr)
+        client.cancel(futures)
     return lines
 
 
-def cut_capture(client, program, path, to, count, options):
-    """Cuts a capture in parts, and joins them; cuts again what was parted at a wrong place. Returns the status of the program."""
-    path, to = os.path.abspath(path), os.path.abspath(to)
-    folder = pathlib.Path(f"{to}.parts")
-    folder.mkdir()
-    words = (program, options, path, str(folder))
-    ranges = subprocess.run([program, "parts", str(count), path], stdout=subprocess.PIPE, text=True)
-    if ranges.returncode:
-        return ranges.returncode
-    lines, again = [], ranges.stdout.split()
+def cut_and_join(client, words, ranges, to):
+    """Cuts these parts, and again what was parted at a wrong place, and joins them. Returns the status of the program."""
+    program, folder = words[0], pathlib.Path(words[3])
+    lines, again = [], ranges
     while again:
         lines += cut_all(client, again, words)
         listed = folder / "lines.txt"
         listed.write_text("".join(sorted(lines, key=order_of)))
         joined = subprocess.run([program, "join", str(listed), to], stdout=subprocess.PIPE, text=True)
         again = joined.stdout.split() if joined.returncode == 4 else []
-    shutil.rmtree(folder)
     return joined.returncode
+
+
+def cut_capture(client, program, path, to, count, options):
+    """Cuts a capture in parts, and joins them. Returns the status of the program. The cuts are in a folder beside OUT, which is removed in the end."""
+    path, to = os.path.abspath(path), os.path.abspath(to)
+    parted = subprocess.run([program, "parts", str(count), path], stdout=subprocess.PIPE, text=True)
+    if parted.returncode:
+        return parted.returncode
+    folder = pathlib.Path(f"{to}.parts.{uuid.uuid4().hex}")
+    folder.mkdir()
+    try:
+        return cut_and_join(client, (program, options, path, str(folder)), parted.stdout.split(), to)
+    except RuntimeError as error:
+        print(error, file=sys.stderr)
+        return 3
+    finally:
+        shutil.rmtree(folder, ignore_errors=True)
 
 
 def main(words):

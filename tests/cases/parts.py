@@ -1,4 +1,5 @@
 """`bpftap parts`, `cut --bytes` and `join`: the cuts of the parts, joined, beside one cut of the whole, whatever was guessed."""
+import os
 import random
 import re
 import struct
@@ -100,16 +101,45 @@ def joined_parts_are_one_cut(scene):
             (scene.folder / "joined.pcap").unlink()
 
 
+def capture_of(frames):
+    """A capture of these frames, and the places at which their records begin."""
+    text, places = HEADER, []
+    for n, data in enumerate(frames):
+        places.append(len(text))
+        text += struct.pack("<IIII", 1700000000 + n // 100, n % 100, len(data), len(data)) + data
+    return text, places
+
+
+def nested_frames(rng, count):
+    """Frames that carry a capture of small packets, as it is sent over the net."""
+    carried, _ = capture_of([rng.randbytes(rng.randrange(40, 120)) for _ in range(count * 15)])
+    return [bytes(54) + carried[at : at + 1460] for at in range(0, len(carried), 1460)]
+
+
+@case
+def guesses_are_right_in_zeros_and_nested_captures(scene):
+    """Where packets are zeros, random bytes or parts of a capture, each range begins at a record, and as many are printed as are asked for."""
+    rng = random.Random(7)
+    zeros = [bytes(rng.randrange(60, 1515)) for _ in range(400)]
+    noise = [rng.randbytes(rng.randrange(60, 1515)) for _ in range(400)]
+    for name, frames in (("zeros", zeros), ("random bytes", noise), ("a nested capture", nested_frames(rng, 400))):
+        text, places = capture_of(frames)
+        scene.put({"in.pcap": text})
+        ranges = ranges_of(scene.run("parts 7 in.pcap").out)
+        scene.check(f"how many parts of {name}", len(ranges), 7)
+        scene.check(f"wrong places of {name}", {first for first, _ in ranges} - set(places), set())
+
+
 def frame(rng):
     return b"\2\0\0\0\0\1\2\0\0\0\0\2\x08\0\x45\0" + bytes(7) + bytes([rng.choice((6, 17))]) + rng.randbytes(rng.randrange(100))
 
 
 def random_capture(rng, depth=1):
-    """A capture whose packets may carry captures."""
+    """A capture whose packets may carry captures, or be zeros."""
     order, nano = rng.choice("<>"), rng.random() < 0.5
     text = struct.pack(order + "IHHIIII", 0xA1B23C4D if nano else 0xA1B2C3D4, 2, 4, 0, 0, 262144, 1)
     for n in range(rng.randrange(1, 60)):
-        data = frame(rng)
+        data = bytes(rng.randrange(14, 300)) if rng.random() < 0.2 else frame(rng)
         if depth and rng.random() < 0.4:
             data += random_capture(rng, 0)[rng.randrange(24) :]
         text += struct.pack(order + "IIII", 1700000000 + n, rng.randrange(10**9 if nano else 10**6), len(data), len(data)) + data
@@ -144,7 +174,7 @@ def try_random(scene, rng):
 
 @case
 def wrong_guesses_cost_no_packet(scene):
-    """Random captures, torn and damaged ones among them and some that carry captures, in parts that begin anywhere."""
+    """Random captures, torn and damaged ones among them and some that carry captures or zeros, in parts that begin anywhere."""
     rng = random.Random(83)
     for _ in range(40):
         try_random(scene, rng)
@@ -180,13 +210,8 @@ def parts_that_do_not_belong_together_are_refused(scene):
     scene.put({**PARTS, "other.pcap": header(60) + ARP_RECORD})
     for lines, fault in REFUSED:
         scene.put({"lines.txt": "".join(f"{line}\n" for line in lines)})
-        if fault == "OtherPart other.pcap":
-            # Its header is seen only once the parts before it were copied.
-            scene.expect("join lines.txt out.pcap", 1, fault_lines(fault))
-            scene.check("before another header", scene.read("out.pcap"), HEADER + ARP_RECORD)
-            (scene.folder / "out.pcap").unlink()
-        else:
-            scene.refuse("join lines.txt out.pcap", 1, fault)
+        scene.refuse("join lines.txt out.pcap", 1, fault)
+        scene.check(f"no OUT of {fault}", scene.read("out.pcap"), None)
     scene.put({"lines.txt": "".join(f"{line}\n" for line in LINES)})
     scene.refuse("join lines.txt 2.pcap", 1, "SameFile 2.pcap")
     scene.refuse("join lines.txt lines.txt", 1, "SameFile lines.txt")
@@ -224,10 +249,32 @@ def a_torn_part_is_no_clean_one(scene):
     scene.check("a torn end", scene.read("out.pcap"), HEADER + ARP_RECORD * 3)
 
 
+def line_of(first, end, ended="Clean"):
+    """The line of a part of a capture of 1,624 bytes."""
+    return f"{first}-{end} of 1624 packets 1 kept 0 bytes 24 {ended} none.pcap\n"
+
+
+@case
+def all_that_is_cut_again_is_printed_at_once(scene):
+    """A stretch that ends inside a record is asked for again, longer by half at least, and so is each part after it that ends so."""
+    torn = {124, 224, 524, 924}
+    lines = [line_of(first, first + 100, "TornRecord 1" if first in torn else "Clean") for first in range(24, 1624, 100)]
+    scene.put({"lines.txt": "".join(lines)})
+    scene.expect("join lines.txt out.pcap", 4, out="124-324\n524-724\n924-1124\n")
+    scene.put({"lines.txt": "".join([lines[0], line_of(124, 324, "TornRecord 2"), *lines[1:]])})
+    scene.expect("join lines.txt out.pcap", 4, out="124-524\n524-724\n924-1124\n")
+    scene.put({"lines.txt": "".join([lines[0], line_of(124, 524), *lines[1:]])})
+    scene.expect("join lines.txt out.pcap", 4, out="524-724\n924-1124\n")
+
+
 @case
 def a_part_is_one_of_a_regular_file(scene):
     """A range outside the file, a pipe, a device and a folder are refused, and so are bad words; OUT is not made."""
     scene.put({"in.pcap": TORN, "empty.pcap": "", "text.pcap": "no savefile, but a text of some length"})
+    # A fifo that nobody writes would keep a call that opens it waiting.
+    os.mkfifo(scene.folder / "fifo")
+    for words in ("parts 2 fifo", "cut --bytes 24-30 -s 0 fifo out.pcap"):
+        scene.refuse(words, 1, "NotRegular")
     for bytes_wanted in (f"24-{len(TORN) + 1}", "0-30", f"{len(TORN) + 1}-{len(TORN) + 1}", "23-24"):
         scene.refuse(f"cut --bytes {bytes_wanted} -s 0 in.pcap out.pcap", 1, "BadRange")
     for words in ("parts 2 .", "parts 2 /dev/null", "cut --bytes 24-30 -s 0 /dev/null out.pcap"):
@@ -244,3 +291,22 @@ def a_part_is_one_of_a_regular_file(scene):
         seen = scene.run(words)
         scene.check(f"bad words {words}", (seen.out, seen.err[:7], seen.status), (b"", b"error: ", 1))
     scene.check("no OUT", scene.read("out.pcap"), None)
+
+
+# Words, and what the hint below their fault says.
+HINTS = [
+    ("cut --bytes 24-70 -s 0 in.pcap out.pcap", "the range ends inside this record, and the capture goes on: join prints the range to cut in its place"),
+    ("cut --bytes 24-200 -s 0 in.pcap out.pcap", "the packets of in.pcap lie from byte 24 to 84"),
+    ("cut --bytes 24-30 -s 0 short.pcap out.pcap", "short.pcap has 10 bytes, and no whole header"),
+    ("join other.txt out.pcap", "its line says another size than the first one: did the capture grow? Cut all parts again"),
+]
+
+
+@case
+def hints_say_what_is_wrong(scene):
+    """Of a range that ends inside a record, one that is not in the capture, a file without a header, and a part of another capture."""
+    other = "".join(f"{line}\n" for line in (LINES[0], LINES[1].replace("114", "115")))
+    scene.put({**PARTS, "in.pcap": HEADER + ARP_RECORD * 2, "short.pcap": HEADER[:10], "other.txt": other})
+    for words, hint in HINTS:
+        seen = scene.run(f"--hints {words}")
+        scene.check(f"hint of {words}", seen.err.decode().splitlines()[1:], [f"  {hint}"])

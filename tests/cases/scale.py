@@ -27,14 +27,14 @@ import os, sys, threading, time, pathlib
 sys.path.insert(0, sys.argv[1])
 import cut
 from distributed import Client, LocalCluster
-def kill_one(client, folder):
-    while not list(folder.glob("*.pcap")):
+def kill_one(client, to):
+    while not list(to.parent.glob(f"{to.name}.parts.*/*.pcap")):
         time.sleep(0.01)
     os.kill(next(iter(client.run(os.getpid).values())), 9)
 if __name__ == "__main__":
     program, path, to = sys.argv[2:5]
     with LocalCluster(n_workers=3, threads_per_worker=1, dashboard_address=None) as cluster, Client(cluster) as client:
-        threading.Thread(target=kill_one, args=(client, pathlib.Path(f"{to}.parts")), daemon=True).start()
+        threading.Thread(target=kill_one, args=(client, pathlib.Path(to).resolve()), daemon=True).start()
         print(cut.cut_capture(client, program, path, to, 40, sys.argv[5:]))
 """
 
@@ -57,6 +57,36 @@ def dask_cuts_what_one_process_cuts(scene):
         scene.check(f"status of {name} on Dask", done.stdout.split()[-1:], [str(status)])
         scene.run(f"cut -s 0 -e udp {name}.pcap {name}-cut.pcap")
         scene.check(f"{name} on Dask", scene.read(f"{name}-joined.pcap"), scene.read(f"{name}-cut.pcap"))
+
+
+# Cuts a capture on one worker. It prints the status.
+ALONE = """
+import sys
+sys.path.insert(0, sys.argv[1])
+import cut
+from distributed import Client, LocalCluster
+if __name__ == "__main__":
+    program, path, to = sys.argv[2:5]
+    with LocalCluster(n_workers=1, threads_per_worker=1, dashboard_address=None) as cluster, Client(cluster) as client:
+        print(cut.cut_capture(client, program, path, to, 2, sys.argv[5:]))
+"""
+
+
+@case
+def dask_leaves_nothing_after_a_fault(scene):
+    """If no part can be cut there is one line, and no folder of parts; so the next run, with a better filter, does it."""
+    if subprocess.run([PYTHON, "-c", "import distributed"], capture_output=True).returncode:
+        scene.leave("python3-distributed is not installed")
+        return
+    scene.put({"alone.py": ALONE, "in.pcap": VETH.read_bytes()})
+    words = [PYTHON, "alone.py", str(ROOT / "examples" / "dask"), PROGRAM, "in.pcap", "out.pcap", "-s", "0", "-e"]
+    for expression, status in (("no filter", 3), ("udp", 0)):
+        done = subprocess.run([*words, expression], cwd=scene.folder, capture_output=True, text=True, timeout=LIMIT)
+        scene.check(f"status of {expression} on Dask", done.stdout.split()[-1:], [str(status)])
+        scene.check(f"no traceback of {expression}", "Traceback" in done.stderr, False)
+        scene.check(f"what is left of {expression}", [it.name for it in scene.folder.glob("out.pcap.parts*")], [])
+    scene.run("cut -s 0 -e udp in.pcap whole.pcap")
+    scene.check("Dask after a fault", scene.read("out.pcap"), scene.read("whole.pcap"))
 
 
 # One node, whose daemons keep all that is theirs in a folder.

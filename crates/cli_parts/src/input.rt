@@ -15,7 +15,7 @@ use fault_report::Report;
 use fault_report::reporting::report_fault;
 use savefile::{Counted, HEADER_LEN};
 use std::alloc::Global;
-use std::fs::{Files, OpenFile};
+use std::fs::{Files, Metadata, OpenFile};
 use std::io::{Chain, Cursor, Read, Seek, SeekFrom, Take};
 use std::{fs, io};
 
@@ -32,31 +32,44 @@ pub struct OpenPart<I> {
     pub size: u64,
 }
 
-/// A regular file, and how many bytes it has; or reports why there is none.
+/// Reports that a path leads to no regular file, and returns the exit status.
+fn report_irregular<E: HintSink>(path: &str, err: &mut E) -> Status {
+    let status = report_fault(&Report::named("NotRegular"), Status::Refused, err);
+    give_hint(
+        format_args!(
+            "{} is no regular file, so it has no bytes to choose from",
+            EscapedPath(path)
+        ),
+        err,
+    );
+    status
+}
+
+/// How many bytes a regular file has; or reports that there is none.
+fn regular_size<E: HintSink>(
+    metadata: &io::Result<Metadata>,
+    path: &str,
+    err: &mut E,
+) -> Result<u64, Status> {
+    match metadata {
+        Ok(metadata) if metadata.is_file() => Ok(metadata.len()),
+        Ok(_) => Err(report_irregular(path, err)),
+        Err(error) => Err(report_io(error, path, err)),
+    }
+}
+
+/// A regular file, and how many bytes it has; or reports why there is none. Opening a fifo would wait for a writer, so what a path leads to is asked
+/// first.
 pub(crate) fn open_regular<R: Files, E: HintSink>(
     rt: &R,
     path: &str,
     err: &mut E,
 ) -> Result<OpenPart<R::File>, Status> {
-    let opened = match fs::open(rt, path) {
-        Ok(file) => file,
-        Err(error) => return Err(report_io(&error, path, err)),
-    };
-    match opened.metadata() {
-        Ok(metadata) if metadata.is_file() => Ok(OpenPart {
-            input: opened,
-            size: metadata.len(),
-        }),
-        Ok(_) => {
-            let status = report_fault(&Report::named("NotRegular"), Status::Refused, err);
-            give_hint(
-                format_args!(
-                    "{} is no regular file, so it has no bytes to choose from",
-                    EscapedPath(path)
-                ),
-                err,
-            );
-            Err(status)
+    regular_size(&fs::metadata(rt, path), path, err)?;
+    match fs::open(rt, path) {
+        Ok(input) => {
+            let size = regular_size(&input.metadata(), path, err)?;
+            Ok(OpenPart { input, size })
         }
         Err(error) => Err(report_io(&error, path, err)),
     }
@@ -90,6 +103,24 @@ fn header_and_range<F: Read + Seek + Drop>(
     Ok(Cursor::new(header).chain(Retried::new(file).take(count)))
 }
 
+/// Reports that a range is none of the packets of a capture of so many bytes, and returns the exit status.
+fn report_range<E: HintSink>(path: &str, size: u64, err: &mut E) -> Status {
+    let status = report_fault(&Report::named("BadRange"), Status::Refused, err);
+    let path = EscapedPath(path);
+    if size < HEADER_LEN as u64 {
+        give_hint(
+            format_args!("{path} has {size} bytes, and no whole header"),
+            err,
+        );
+    } else {
+        give_hint(
+            format_args!("the packets of {path} lie from byte {HEADER_LEN} to {size}"),
+            err,
+        );
+    }
+    status
+}
+
 /// Opens a part of the capture at a path: its header, and a range of the bytes after it; or reports why there is none.
 pub fn open_part<'w, 'r, R: Files + AllocGlobal + Screen, E: HintSink>(
     rt: &R,
@@ -100,15 +131,7 @@ pub fn open_part<'w, 'r, R: Files + AllocGlobal + Screen, E: HintSink>(
 ) -> Result<OpenPart<PartInput<'w, 'r, R>>, Status> {
     let OpenPart { input: file, size } = open_regular(rt, path, err)?;
     if !is_inside(bytes, size) {
-        let status = report_fault(&Report::named("BadRange"), Status::Refused, err);
-        give_hint(
-            format_args!(
-                "the packets of {} lie from byte {HEADER_LEN} to {size}",
-                EscapedPath(path)
-            ),
-            err,
-        );
-        return Err(status);
+        return Err(report_range(path, size, err));
     }
     match header_and_range(rt.alloc(), file, bytes) {
         Ok(input) => Ok(OpenPart {

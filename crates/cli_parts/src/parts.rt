@@ -1,5 +1,9 @@
 //! `bpftap parts`, over files.
 
+ghost use Rattle.std.specs.Prelude.{OnOk, if◌then◌else◌};
+ghost use Rattle.line_text.specs.declared.form.LineForm.TheVariants.{Json, Text};
+ghost use Rattle.cli_parts.specs.Ranges.{ArePrinted};
+
 use crate::guess::start_after;
 use crate::input::{OpenPart, header_bytes, open_regular};
 use crate::line::print_range;
@@ -36,22 +40,24 @@ enum PartingFault {
 }
 
 /// Prints the ranges of a capture with this header: from the header to its end, each from where the one before ends.
+#[tactic(auto, using(crate::proofs::Printed::none_printed, crate::proofs::Printed::one_more))]
 fn print_ranges<F: Read + Seek, O: Write>(
     alloc: Global,
     capture: &mut OpenPart<F>,
     header: Header,
     words: &PartsWords<'_>,
     out: &mut O,
-) -> Result<(), PartingFault> {
-    let OpenPart { input, size } = capture;
-    let (count, form) = (words.count, LineForm::asked(words.json));
+) -> Result<(), PartingFault>
+    ensures { OnOk result (ArePrinted (O.contents out.old) (O.contents out.new) (if words.now.json then Json else Text) capture.old.size) }
+{
+    let (size, count, form) = (capture.size, words.count, LineForm::asked(words.json));
     let mut first = FIRST_RECORD;
     for number in 1..count {
-        let earliest = part_start(*size, count, number);
+        let earliest = part_start(size, count, number);
         if earliest <= first {
             continue;
         }
-        let start = match start_after(alloc, input, header, earliest) {
+        let start = match start_after(alloc, &mut capture.input, header, earliest) {
             Ok(start) => start,
             Err(error) => return Err(PartingFault::Input(error)),
         };
@@ -62,7 +68,7 @@ fn print_ranges<F: Read + Seek, O: Write>(
             first = start;
         }
     }
-    match print_range(alloc, form, first, *size, out) {
+    match print_range(alloc, form, first, size, out) {
         Ok(()) => Ok(()),
         Err(error) => Err(PartingFault::Output(error)),
     }

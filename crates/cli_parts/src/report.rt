@@ -1,79 +1,91 @@
-//! What is reported of parts that are not joined, and of the whole.
+//! What is reported of parts that are not joined.
+
+ghost use Rattle.std.specs.Prelude.{◌≡◌, OnOk};
+ghost use Rattle.std.specs.Io.KnownBytes.{Appends};
+ghost use Rattle.line_text.specs.declared.form.LineForm.TheVariants.{Text};
+ghost use Rattle.cli_parts.specs.Ranges.{stretch_lines};
 
 use crate::line::print_range;
+use crate::lines::LinesFault;
 use cli_report::HintSink;
+use cli_report::files::hint_bad_line;
 use cli_report::stream::give_hint;
 use cli_text::Status;
 use cli_text::report::EscapedPath;
 use fault_report::reporting::{report_fault, report_memory, report_output};
 use fault_report::{Report, Subject, Word};
 use line_text::LineForm;
+use pcap_parts::again::Stretch;
 use pcap_parts::join::Misfit;
-use pcap_parts::part::PartCut;
-use pcap_parts::select::SelectionFault;
 use savefile::Fault;
 use std::alloc::Global;
+use std::io;
 use std::io::Write;
+
+/// The form of a line of LINES of `bpftap join`.
+const PART_LINE: &str =
+    "as cut --bytes prints it: FIRST-END of SIZE packets N kept N bytes N Clean FILE";
 
 /// How LINES is put in order.
 const ORDER: &str = "sort LINES by sort -t- -k1,1n -k2,2nr; is a part missing?";
 
-/// The end of the next part after one that ends at this byte; `size` if there is none.
-fn next_end(parts: &[PartCut<'_>], end: u64, size: u64) -> u64 {
-    let later = parts.iter().find(|part| part.end > end);
-    match later {
-        Some(part) => part.end,
-        None => size,
+/// What is wrong with a part whose line has another size.
+const OTHER_CAPTURE: &str =
+    "its line says another size than the first one: did the capture grow? Cut all parts again";
+
+/// Prints the stretches that have to be cut again, a line each.
+fn print_stretches<O: Write>(alloc: Global, again: &[Stretch], out: &mut O) -> io::Result<()>
+    ensures { OnOk result (Appends (O.contents out.old) (O.contents out.new) (stretch_lines Text again.now)) }
+{
+    for stretch in again {
+        if let Err(error) = print_range(alloc, LineForm::Text, stretch.first, stretch.end, out) {
+            return Err(error);
+        }
     }
+    Ok(())
 }
 
-/// Prints which range has to be cut again, in place of a part that ends inside a record and of the part after it.
-fn ask_again<O: Write, E: HintSink>(
-    alloc: Global,
-    parts: &[PartCut<'_>],
-    first: u64,
-    end: u64,
-    out: &mut O,
-    err: &mut E,
-) -> Status {
-    let size = match parts.first() {
-        Some(part) => part.size,
-        None => end,
-    };
-    let printed = print_range(
-        alloc,
-        LineForm::Text,
-        first,
-        next_end(parts, end, size),
-        out,
-    );
-    report_output(&printed, err).max(Status::Negative)
-}
-
-/// Reports why parts do not make a whole capture, or prints which range has to be cut again, and returns the exit status.
-pub(crate) fn report_selection<O: Write, E: HintSink>(
-    alloc: Global,
-    parts: &[PartCut<'_>],
-    fault: SelectionFault,
-    out: &mut O,
-    err: &mut E,
-) -> Status {
-    let report = match fault {
-        SelectionFault::Misfit(Misfit::CutOff(first, end)) => {
-            return ask_again(alloc, parts, first, end, out, err);
-        }
-        SelectionFault::Misfit(Misfit::Missing(at)) => {
-            Report::placed("MissingPart", Word::Number(at))
-        }
-        SelectionFault::Misfit(Misfit::OtherSize(first)) => {
-            Report::placed("OtherCapture", Word::Number(first))
-        }
-        SelectionFault::Misfit(Misfit::CountFull) => Report::named(Fault::CountFull.name()),
-        SelectionFault::NoMemory => return report_memory(err),
+/// Reports why parts do not make a whole capture, and returns the exit status.
+fn report_misfit<E: HintSink>(misfit: Misfit, err: &mut E) -> Status {
+    let (report, hint) = match misfit {
+        Misfit::Missing(at) => (Report::placed("MissingPart", Word::Number(at)), Some(ORDER)),
+        Misfit::OtherSize(first) => (
+            Report::placed("OtherCapture", Word::Number(first)),
+            Some(OTHER_CAPTURE),
+        ),
+        // `LinesFault::Again` comes in its place.
+        Misfit::CutOff(first, _) => (Report::placed("MissingPart", Word::Number(first)), None),
+        Misfit::CountFull => (Report::named(Fault::CountFull.name()), None),
     };
     let status = report_fault(&report, Status::Refused, err);
-    give_hint(ORDER, err);
+    if let Some(hint) = hint {
+        give_hint(hint, err);
+    }
     status
+}
+
+/// Reports why LINES, of this text, has no parts that are joined, or prints what has to be cut again; returns the exit status.
+pub(crate) fn report_lines<O: Write, E: HintSink>(
+    alloc: Global,
+    fault: &LinesFault,
+    text: &[u8],
+    out: &mut O,
+    err: &mut E,
+) -> Status {
+    match fault {
+        LinesFault::Line(number) => {
+            let report = Report::placed("Lines", Word::count(*number));
+            let status = report_fault(&report, Status::Refused, err);
+            hint_bad_line(text, *number, PART_LINE, err);
+            status
+        }
+        LinesFault::Misfit(misfit) => report_misfit(*misfit, err),
+        LinesFault::Again(again) => {
+            let printed = print_stretches(alloc, again.as_slice(), out);
+            report_output(&printed, err).max(Status::Negative)
+        }
+        LinesFault::NoMemory => report_memory(err),
+    }
 }
 
 /// Reports that a file is not the one whose part a line has, and returns the exit status.

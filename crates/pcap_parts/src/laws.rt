@@ -2,6 +2,7 @@
 
 ghost use Rattle.pcap_parts.specs.Parts.{ReadsByParts, CutsByParts};
 ghost use Rattle.pcap_parts.specs.Whole.{CutsItsParts, HoldsItsParts};
+ghost use Rattle.pcap_parts.specs.Writing.{JoinsTheCut};
 
 /// Where the header with a part ends clean, what comes after the part is read as a capture of its own behind the same header: the whole has
 /// the packets of both, and the fault of the rest, at its place in the whole. So a part may end wherever somebody guessed that a record
@@ -24,4 +25,10 @@ pub fn holds_its_parts()
 /// The cut of a capture is the cut of its first part, and then those of the others without their headers.
 pub fn cuts_its_parts()
     ensures { CutsItsParts }
+{}
+
+/// If the file of each part is the cut of its packets, what is written of all parts is the cut of the packets of all: byte for byte what one cut of
+/// the whole capture writes.
+pub fn joins_the_cut()
+    ensures { JoinsTheCut }
 {}
