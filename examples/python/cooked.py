@@ -1,25 +1,32 @@
 # SPDX-License-Identifier: MIT OR Apache-2.0
-"""Writes a Linux-cooked capture (of the interface `any`; SLL or SLL2) as one of Ethernet: `python3 cooked.py IN OUT`. The receiver's address, which
-such a capture lacks, is 0; frames that were cut stay cut."""
+"""Writes a Linux-cooked capture (of the interface `any`; SLL or SLL2), or one of raw IP (of a tunnel), as one of Ethernet: `python3 cooked.py IN OUT`.
+Addresses that such a capture lacks are 0; frames that were cut stay cut."""
 import struct
 import sys
 
-# The link type, how long the cooked header is, and where it has the protocol and the sender's address.
-COOKED = {113: (16, 14, 6), 276: (20, 0, 12)}
+# The link type, how long the cooked header is, and where it has the protocol and the sender's address. Raw IP has no header.
+COOKED = {113: (16, 14, 6), 276: (20, 0, 12), 101: (0, None, None)}
+# The Ethernet types of raw IP, by its version.
+VERSIONS = {4: b"\x08\x00", 6: b"\x86\xdd"}
 
 
 def ethernet(frame, form):
-    """A cooked frame with an Ethernet header in place of its own; one without a whole header is cut to nothing."""
+    """A frame with an Ethernet header in place of its own; one without a whole header is cut to nothing."""
     size, protocol, sender = form
-    if len(frame) < size:
+    if len(frame) < max(size, 1):
         return b""
+    if not size:
+        return bytes(12) + VERSIONS.get(frame[0] >> 4, bytes(2)) + frame
     return bytes(6) + frame[sender : sender + 6] + frame[protocol : protocol + 2] + frame[size:]
 
 
 def convert(text):
     """A cooked capture as one of Ethernet."""
     order = "<" if text[:4] in (b"\xd4\xc3\xb2\xa1", b"\x4d\x3c\xb2\xa1") else ">"
-    form = COOKED[struct.unpack(order + "I", text[20:24])[0]]
+    link = struct.unpack(order + "I", text[20:24])[0]
+    if link not in COOKED:
+        sys.exit(f"cooked.py: the link type {link} is neither cooked (113, 276) nor raw IP (101)")
+    form = COOKED[link]
     out, place = [text[:20], struct.pack(order + "I", 1)], 24
     while place + 16 <= len(text):
         seconds, fraction, captured, length = struct.unpack(order + "4I", text[place : place + 16])
@@ -31,5 +38,9 @@ def convert(text):
 
 
 if __name__ == "__main__":
-    with open(sys.argv[1], "rb") as cooked, open(sys.argv[2], "wb") as made:
-        made.write(convert(cooked.read()))
+    if len(sys.argv) != 3:
+        sys.exit("usage: python3 cooked.py IN OUT")
+    with open(sys.argv[1], "rb") as cooked:
+        ethernets = convert(cooked.read())
+    with open(sys.argv[2], "wb") as made:
+        made.write(ethernets)

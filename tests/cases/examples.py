@@ -91,6 +91,24 @@ COOKED = {
 
 
 @case
+def a_capture_of_raw_ip_becomes_one_of_ethernet(scene):
+    """A frame of raw IP gets the Ethernet type of its version; a capture of another link type is refused in a line, and nothing is written."""
+    frames = [record for record in records(VETH.read_bytes()) if record[28:30] == b"\x08\x00"]
+    raw = [record[:8] + (len(record) - 30).to_bytes(4, "little") * 2 + record[30:] for record in frames]
+    wanted = [record[:8] + (len(record) - 16).to_bytes(4, "little") * 2 + bytes(12) + record[28:] for record in frames]
+    head = VETH.read_bytes()[:20]
+    scene.start({"raw.pcap": head + (101).to_bytes(4, "little") + b"".join(raw), "loop.pcap": head + bytes(4)})
+    script = EXAMPLES / "python" / "cooked.py"
+    for name, said in (("raw.pcap", b""), ("loop.pcap", b"cooked.py: the link type 0 is neither cooked (113, 276) nor raw IP (101)\n")):
+        words = [sys.executable, script, name, f"{name}.out"]
+        done = subprocess.run(words, cwd=scene.folder, stdout=subprocess.PIPE, stderr=subprocess.STDOUT, timeout=LIMIT)
+        scene.check(name, (done.stdout, done.returncode), (said, int(bool(said))))
+    scene.expect("cut -s 0 raw.pcap.out again.pcap")
+    scene.check("frames of raw IP", records(scene.read("again.pcap")), wanted)
+    scene.check("what is refused", (scene.folder / "loop.pcap.out").exists(), False)
+
+
+@case
 def a_cooked_capture_becomes_one_of_ethernet(scene):
     """What the script writes of a capture of either form, in both byte orders, is the capture with 0 for the receiver's address."""
     wanted = [record[:16] + bytes(6) + record[22:] for record in records(VETH.read_bytes())]

@@ -152,7 +152,7 @@ def an_answer_about_two_filters_is_an_object(scene):
     scene.expect("compare --json tcp 'ip proto 6'", out='{"answer":"same"}\n')
     scene.expect("compare --json -q tcp udp", 4)
     scene.expect("compare --json -f ip.bpf ip", out='{"answer":"same"}\n')
-    undecided = '{"answer":"not decided","cause":"it takes more than 2000000 nodes"}\n'
+    undecided = '{"answer":"not decided","cause":"too large, with a product of two fields"}\n'
     scene.expect("compare --json -f product.bpf 'ether[26:4] * ether[30:4] != 0'", 5, out=undecided)
     for first, second in SHOWN:
         text = scene.run(["compare", first, second])

@@ -133,7 +133,7 @@ def what_is_linked_in_has_its_notice(scene):
 
 def pages():
     """All pages of the repository."""
-    named = [ROOT / name for name in ("README.md", "CONTRIBUTING.md", "CHANGELOG.md", "tests/README.md")]
+    named = [ROOT / name for name in ("README.md", "SECURITY.md", "CONTRIBUTING.md", "CHANGELOG.md", "tests/README.md")]
     return named + [page for place in ("docs/*.md", "crates/*/README.md", "examples/**/*.md")
                     for page in sorted(ROOT.glob(place))]
 

@@ -120,12 +120,20 @@ def report(listener, received, matched, end="Clean", written=None):
             f"received {received} matched {matched} dropped 0 written {written} {end}\n")
 
 
+def named(fault, captures):
+    """The lines of a fault: of several captures, the path of the one that has it stands below."""
+    words, interfaces = fault.split(), [paths.split() for paths in captures.split("+")]
+    is_several = words[2] == "Capture" and sum(map(len, interfaces)) > 1
+    return f"{fault}\n  {interfaces[int(words[1])][int(words[3])]}" if is_several else fault
+
+
 def replays(scene, listeners, captures, reports, files, *faults, status=0):
     """A run prints these reports and these faults, makes these files, and leaves all others."""
     scene.start({**CAPTURES, "listeners.txt": listeners})
     before = scene.files()
     words = f"run listeners.txt {captures}"
-    scene.expect(words, status, fault_lines(*faults), "".join(reports))
+    below = [named(fault, captures) for fault in faults]
+    scene.expect(words, status, fault_lines(*below), "".join(reports))
     scene.check(f"files after {words}", scene.files(), {**before, **files})
 
 

@@ -38,6 +38,9 @@ PAIRS = {
         # Fields that are compared with one another.
         ("ip[12:4] = ip[16:4]", "ip[12:4] - ip[16:4] = 0"), ("tcp[8:4] > tcp[4:4]", "tcp[4:4] < tcp[8:4]"), ("len - 14 != ip[2:2]", "len != ip[2:2] + 14"),
         ("udp[4:2] != ip[2:2] - ((ip[0] & 15) << 2)", "ip[2:2] - 4 * (ip[0] % 16) != udp[4:2]"),
+        # What one field shifts or multiplies another one by.
+        ("ip[12:4] << (ip[8] & 31) = 256", "(ip[12:4] << (ip[8] & 31)) - 256 = 0"), ("ip[12:4] >> ip[8] > 9", "9 < ip[12:4] >> ip[8]"),
+        ("(ip[6:2] & 0x1fff) << ip[1] != 1", "1 != (ip[6:2] & 0x1fff) << ip[1]"), ("ip[2:2] * ip[9] = 6", "6 = ip[9] * ip[2:2]"),
         # The same tree twice, whatever it calculates, and however deep it is.
         (" or ".join(["tcp"] * 1150), " or ".join(["tcp"] * 1150)),
         ("ip[2:2] - ((ip[0] & 15) << 2) != 0", "(ip[2:2] - ((ip[0] & 15) << 2)) != 0"), ("ip[8] / 64 * 64 = ip[8]", "ip[8] / 64 * 64 = ip[8]"),
@@ -220,7 +223,7 @@ def what_is_not_decided_is_status_5(scene):
     product = "5\n32 0 0 26\n7 0 0 0\n32 0 0 30\n44 0 0 0\n22 0 0 0\n"
     scene.start({"ip.bpf": IP, "product.bpf": product})
     before = scene.files()
-    much = "not decided: it takes more than 2000000 nodes\n"
+    much = "not decided: too large, with a product of two fields\n"
     scene.expect("compare -f product.bpf 'ether[26:4] * ether[30:4] != 0'", 5, out=much)
     scene.expect("compare -q -f product.bpf 'ether[26:4] * ether[30:4] != 0'", 5)
     scene.expect("compare -w out.pcap -f product.bpf 'ether[26:4] * ether[30:4] != 0'", 5, out=much)
@@ -233,13 +236,28 @@ def what_is_not_decided_is_status_5(scene):
 
 
 @case
+def what_is_not_decided_has_its_cause(scene):
+    """What in the filters is too large, by their form; an offset below 0 is one past 2^31."""
+    deep = " or ".join(["tcp"] * 1001)
+    scene.start({})
+    for first, second, cause in [
+        ("ip[2:2] * ip[4:2] = 12", "12 = ip[2:2] * ip[4:2]", "too large, with a product of two fields"),
+        ("ip[2:2] / ip[9] = 3", "3 = ip[2:2] / ip[9]", "too large, with a division by a field"),
+        ("ip[ip[2:2]] = 1", "1 = ip[ip[2:2]]", "too large, with bytes at an offset that is calculated"),
+        ("ip[ip[8] - 1] = 1", "1 = ip[ip[8] - 1]", "a byte at offset 131072 or later may be looked at"),
+        (deep, "ip proto 6", "an expression has too many levels"),
+    ]:
+        scene.expect(["compare", first, second], 5, out=f"not decided: {cause}\n")
+
+
+@case
 def a_small_stack_suffices(scene):
-    """1 MiB is enough, for fields that are compared with one another and for texts that ask for a thousand bytes each."""
+    """256 KiB are enough, for fields that are compared with one another and for texts that ask for a thousand bytes each."""
     chance = random.Random(256)
     wide = [" or ".join(f"ether[{4 * n}:4] = {chance.randrange(1 << 32)}" for n in range(250)) for _ in range(2)]
     scene.start({})
     pairs = [("tcp", "udp"), ("ip[12:4] = ip[16:4]", "ip[12:4] - ip[16:4] = 0"), wide]
-    seen = [scene.run(["compare", "-q", *pair], first="ulimit -s 1024") for pair in pairs]
+    seen = [scene.run(["compare", "-q", *pair], first="ulimit -s 256") for pair in pairs]
     scene.check("statuses", [ended.status for ended in seen[:2]], [4, 0])
     scene.check("of a thousand bytes", seen[2].status in (4, 5), True)
 

@@ -91,6 +91,19 @@ def each_out_is_what_cut_writes(scene):
 
 
 @case
+def counts_need_no_file(scene):
+    """Several lines may have `/dev/null` as OUT: each has its count. Any other OUT stands in one line."""
+    scene.put({**CAPTURES, "lines.txt": "0 /dev/null tcp\n0 udp.pcap udp\n0 /dev/null\n64 /dev/null arp\n"})
+    counts = "/dev/null 2 of 3\nudp.pcap 1 of 3\n/dev/null 3 of 3\n/dev/null 0 of 3\n"
+    scene.expect("split lines.txt tu.pcap t.pcap", out=counts)
+    scene.check("udp", scene.read("udp.pcap"), HEADER + U)
+    scene.put({"lines.txt": "0 /dev/null\n0 kept.pcap\n0 /dev/null\n0 kept.pcap\n"})
+    scene.refuse("split lines.txt t.pcap", 1, "Lines 4")
+    scene.put({"lines.txt": "0 /dev/null tcp\n0 kept.pcap\n0 /dev/null\n"})
+    scene.refuse("split lines.txt t.pcap /dev/null", 1, "SameFile /dev/null")
+
+
+@case
 def captured_bytes_are_cut_by_their_own_line(scene):
     """A packet of which less was captured than it had on the wire keeps that length, and each line cuts for itself."""
     short = bytes.fromhex("03000000 00000000 0e000000 ea050000") + IP_RECORD[16:]

@@ -68,7 +68,7 @@ def a_full_device_is_reported(scene):
     scene.put({"tu.pcap": HEADER + TCP_RECORD + UDP_RECORD})
     for words in ["check ip", "steps l.txt s.txt whole.pcap"]:
         scene.expect(words, 3, fault_lines(FULL), streams=">/dev/full")
-    scene.expect("run two.txt tu.pcap torn.pcap", 3, fault_lines(FULL, "Interface 0 Capture 1 TornRecord 1"), streams=">/dev/full")
+    scene.expect("run two.txt tu.pcap torn.pcap", 3, fault_lines(FULL, "Interface 0 Capture 1 TornRecord 1\n  torn.pcap"), streams=">/dev/full")
     scene.check("one OUT", scene.read("tcp.pcap"), header(64) + TCP_RECORD)
     scene.check("the other OUT", scene.read("all.pcap"), HEADER + TCP_RECORD + UDP_RECORD + WHOLE[24:])
 

@@ -19,8 +19,8 @@ SEEN = [0x0800, 0x0806, 0x8847, 0x8864, 0x86dc, 0x86de, 0x8101, 0x0081, 0xdd86, 
 def line(unseen, frames):
     """The line about frames that no filter looks into."""
     are = "is" if unseen == 1 else "are"
-    return (f"  {unseen} of {frames} frames {are} IPv6 or VLAN: filters here do not look inside; with libpcap's program they do: "
-            "tcpdump -y EN10MB -ddd EXPR > f.bpf, then -f f.bpf\n")
+    return (f"  {unseen} of {frames} frames {are} IPv6 or VLAN: filters here do not look inside; with libpcap's program they do, into VLAN by "
+            "'EXPR or (vlan and (EXPR))': tcpdump -y EN10MB -ddd EXPR > f.bpf, then -f f.bpf\n")
 
 
 def record(number, captured=14, order="little", fraction=0):

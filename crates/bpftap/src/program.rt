@@ -2,9 +2,19 @@
 
 use clap::Error;
 use clap::error::ErrorKind;
+use cli_args::check::{CheckWords, GraphWords};
 use cli_args::command_line::{Request, read_words};
+use cli_args::compare::CompareWords;
+use cli_args::counting::CountWords;
+use cli_args::cut::CutWords;
+use cli_args::explain::ExplainWords;
+use cli_args::info::InfoWords;
+use cli_args::parts::PartsWords;
 use cli_args::refusal::{printed_error, with_way};
 use cli_args::report::{print_page, report_words_fault};
+use cli_args::run::RunWords;
+use cli_args::split::SplitWords;
+use cli_args::steps::StepsWords;
 use cli_compare::command::compare_command;
 use cli_count::command::count_command;
 use cli_cut::command::{check_command, cut_command};
@@ -54,6 +64,12 @@ pub fn run<
     status
 }
 
+/// What the words ask for. As each command below it is a function of its own, since else one frame on the stack has the locals of all.
+#[inline(never)]
+fn request_of<'a, S: AsStr>(alloc: Global, words: &'a [S]) -> Result<Request<'a>, Error> {
+    read_words(alloc, words)
+}
+
 /// [`run`], once all standard streams are open.
 fn dispatch<
     R: Files + AllocGlobal + NamesFiles + Screen + Threads + Wait + Sync,
@@ -61,61 +77,168 @@ fn dispatch<
     O: Write,
     W: Write,
 >(rt: &R, words: &[S], out: &mut O, err: &mut ErrorStream<W>) -> Status {
-    match read_words(rt.alloc(), words) {
-        Ok(Request::Check(words)) => {
-            err.set_form(LineForm::asked(words.json));
-            check_command(rt, &words, out, err)
-        }
-        Ok(Request::Graph(words)) => graph_command(rt, &words, out, err),
+    match request_of(rt.alloc(), words) {
+        Ok(Request::Check(asked)) => check(rt, &asked, out, err),
+        Ok(Request::Graph(asked)) => graph(rt, &asked, out, err),
         Ok(Request::Explain(asked)) => {
-            err.set_form(LineForm::asked(asked.json));
-            let status = explain_command(rt, &asked, out, err);
+            let status = explain(rt, &asked, out, err);
             hint_several(rt.alloc(), words, asked.inputs.as_slice(), status, err)
         }
         Ok(Request::Count(asked)) => {
-            err.set_form(LineForm::asked(asked.json));
-            let status = count_command(rt, &asked, out, err);
+            let status = count(rt, &asked, out, err);
             hint_several(rt.alloc(), words, asked.inputs.as_slice(), status, err)
         }
-        Ok(Request::Compare(words)) => {
-            err.set_form(LineForm::asked(words.json));
-            compare_command(rt, &words, out, err)
-        }
+        Ok(Request::Compare(asked)) => compare(rt, &asked, out, err),
         Ok(Request::Cut(asked)) => {
-            err.set_form(LineForm::asked(asked.json));
-            let status = match asked.bytes {
-                Some(bytes) => cut_part_command(rt, &asked, bytes, out, err),
-                None => cut_command(rt, &asked, err),
-            };
+            let status = cut(rt, &asked, out, err);
             if status == Status::Clean || status == Status::Damaged {
                 hint_dash_output(asked.output, err);
             }
             hint_several(rt.alloc(), words, asked.inputs.as_slice(), status, err)
         }
-        Ok(Request::Info(words)) => {
-            err.set_form(LineForm::asked(words.json));
-            info_command(rt, &words, out, err)
-        }
-        Ok(Request::Steps(words)) => {
-            err.set_form(LineForm::asked(words.json));
-            steps_command(rt, &words, out, err)
-        }
-        Ok(Request::Run(words)) => {
-            err.set_form(LineForm::asked(words.json));
-            run_command(rt, &words, out, err)
-        }
-        Ok(Request::Split(words)) => {
-            err.set_form(LineForm::asked(words.json));
-            split_command(rt, &words, out, err)
-        }
-        Ok(Request::Parts(words)) => {
-            err.set_form(LineForm::asked(words.json));
-            parts_command(rt, &words, out, err)
-        }
-        Ok(Request::Join(words)) => join_command(rt, &words, out, err),
+        Ok(Request::Info(asked)) => info(rt, &asked, out, err),
+        Ok(Request::Steps(asked)) => steps(rt, &asked, out, err),
+        Ok(Request::Run(asked)) => replay(rt, &asked, out, err),
+        Ok(Request::Split(asked)) => split(rt, &asked, out, err),
+        Ok(Request::Parts(asked)) => parts(rt, &asked, out, err),
+        Ok(Request::Join(asked)) => join_command(rt, &asked, out, err),
         Ok(Request::Topic(page)) => print_page(page, out, err),
         Err(error) => report_usage(rt.alloc(), words, error, out, err),
     }
+}
+
+/// `check`.
+#[inline(never)]
+fn check<R: Files + AllocGlobal + Screen, O: Write, W: Write>(
+    rt: &R,
+    words: &CheckWords<'_>,
+    out: &mut O,
+    err: &mut ErrorStream<W>,
+) -> Status {
+    err.set_form(LineForm::asked(words.json));
+    check_command(rt, words, out, err)
+}
+
+/// `check --dot`.
+#[inline(never)]
+fn graph<R: Files + AllocGlobal + Screen, O: Write, W: Write>(
+    rt: &R,
+    words: &GraphWords<'_>,
+    out: &mut O,
+    err: &mut ErrorStream<W>,
+) -> Status {
+    graph_command(rt, words, out, err)
+}
+
+/// `explain`.
+#[inline(never)]
+fn explain<R: Files + AllocGlobal + Screen, O: Write, W: Write>(
+    rt: &R,
+    words: &ExplainWords<'_>,
+    out: &mut O,
+    err: &mut ErrorStream<W>,
+) -> Status {
+    err.set_form(LineForm::asked(words.json));
+    explain_command(rt, words, out, err)
+}
+
+/// `explain -c`.
+#[inline(never)]
+fn count<R: Files + AllocGlobal + Screen, O: Write, W: Write>(
+    rt: &R,
+    words: &CountWords<'_>,
+    out: &mut O,
+    err: &mut ErrorStream<W>,
+) -> Status {
+    err.set_form(LineForm::asked(words.json));
+    count_command(rt, words, out, err)
+}
+
+/// `compare`.
+#[inline(never)]
+fn compare<R: Files + AllocGlobal + Screen, O: Write, W: Write>(
+    rt: &R,
+    words: &CompareWords<'_>,
+    out: &mut O,
+    err: &mut ErrorStream<W>,
+) -> Status {
+    err.set_form(LineForm::asked(words.json));
+    compare_command(rt, words, out, err)
+}
+
+/// `cut`.
+#[inline(never)]
+fn cut<R: Files + AllocGlobal + Screen, O: Write, W: Write>(
+    rt: &R,
+    words: &CutWords<'_>,
+    out: &mut O,
+    err: &mut ErrorStream<W>,
+) -> Status {
+    err.set_form(LineForm::asked(words.json));
+    match words.bytes {
+        Some(bytes) => cut_part_command(rt, words, bytes, out, err),
+        None => cut_command(rt, words, err),
+    }
+}
+
+/// `info`.
+#[inline(never)]
+fn info<R: Files + AllocGlobal + Screen, O: Write, W: Write>(
+    rt: &R,
+    words: &InfoWords<'_>,
+    out: &mut O,
+    err: &mut ErrorStream<W>,
+) -> Status {
+    err.set_form(LineForm::asked(words.json));
+    info_command(rt, words, out, err)
+}
+
+/// `steps`.
+#[inline(never)]
+fn steps<R: Files + AllocGlobal + Screen, O: Write, W: Write>(
+    rt: &R,
+    words: &StepsWords<'_>,
+    out: &mut O,
+    err: &mut ErrorStream<W>,
+) -> Status {
+    err.set_form(LineForm::asked(words.json));
+    steps_command(rt, words, out, err)
+}
+
+/// `run`.
+#[inline(never)]
+fn replay<R: Files + AllocGlobal + NamesFiles + Screen + Threads + Wait + Sync, O: Write, W: Write>(
+    rt: &R,
+    words: &RunWords<'_>,
+    out: &mut O,
+    err: &mut ErrorStream<W>,
+) -> Status {
+    err.set_form(LineForm::asked(words.json));
+    run_command(rt, words, out, err)
+}
+
+/// `split`.
+#[inline(never)]
+fn split<R: Files + AllocGlobal + Screen, O: Write, W: Write>(
+    rt: &R,
+    words: &SplitWords<'_>,
+    out: &mut O,
+    err: &mut ErrorStream<W>,
+) -> Status {
+    err.set_form(LineForm::asked(words.json));
+    split_command(rt, words, out, err)
+}
+
+/// `parts`.
+#[inline(never)]
+fn parts<R: Files + AllocGlobal, O: Write, W: Write>(
+    rt: &R,
+    words: &PartsWords<'_>,
+    out: &mut O,
+    err: &mut ErrorStream<W>,
+) -> Status {
+    err.set_form(LineForm::asked(words.json));
+    parts_command(rt, words, out, err)
 }
 
 /// Hints on arguments of which several are taken for captures, if the command failed: they may be an expression without quotes. Returns the
@@ -143,6 +266,7 @@ fn usage_error<S: AsStr>(alloc: Global, words: &[S], error: Error) -> Error {
 }
 
 /// Reports what is wrong with the words, or prints help, and answers the exit status.
+#[inline(never)]
 fn report_usage<S: AsStr, O: Write, E: HintSink>(
     alloc: Global,
     words: &[S],

@@ -3,3 +3,5 @@ pub mod Seeking
 pub mod Rows
 pub mod Visits
 pub mod Counting
+pub mod Opening
+pub mod Closing

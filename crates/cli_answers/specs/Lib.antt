@@ -1,4 +1,5 @@
 pub mod Filter
+pub mod Asked
 pub mod Printed
 pub mod Verdicts
 pub mod Answers

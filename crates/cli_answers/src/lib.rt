@@ -2,6 +2,7 @@
 #![tactic(auto)]
 
 pub mod ahead;
+pub mod asked;
 pub mod captures;
 pub mod counts;
 pub mod dump;
@@ -10,6 +11,7 @@ pub mod form;
 pub mod hints;
 pub mod json;
 pub mod line;
+pub mod opened;
 pub mod plan;
 pub mod printing;
 pub mod report;

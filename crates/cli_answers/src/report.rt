@@ -3,9 +3,15 @@
 ghost use Rattle.std.specs.Prelude.{◌≡◌};
 ghost use Rattle.cli_text.specs.Status.{greater};
 ghost use Rattle.cli_text.specs.Telling.{fault_status};
+ghost use Rattle.cli_text.specs.declared.status.Status.TheVariants.{Refused};
+ghost use Rattle.cli_answers.specs.Asked.{IsUnaskedStatus};
 ghost use Rattle.cli_answers.specs.Telling.{printed_status, stop_status};
 
+use crate::asked::Unasked;
 use crate::printing::Unprinted;
+use cli_files::paths::report_path;
+use cli_files::reading::{report_io, report_long_text};
+use cli_filter::{FilterFault, filter_or_report};
 use cli_report::HintSink;
 use cli_report::failures::name_source;
 use cli_text::Status;
@@ -15,6 +21,7 @@ use fault_report::captures::{capture_fault, device, nth_capture_fault};
 use fault_report::reporting::{report_fault, report_memory, report_unwritten};
 use fault_report::{FaultSink, Report, Subject};
 use savefile::Fault;
+use std::alloc::Global;
 
 /// Reports why not all was printed, if it was not.
 pub fn report_printed<E: FaultSink>(printed: &Result<(), Unprinted>, err: &mut E) -> Status
@@ -76,4 +83,38 @@ pub fn report_captures<E: HintSink>(
 {
     let status = report_printed(printed, err);
     status.max(report_stop(read, paths, err))
+}
+
+/// Reports why nothing is asked of captures, with hints, and returns the exit status.
+pub fn report_unasked<E: HintSink>(
+    alloc: Global,
+    reason: &Unasked<'_>,
+    expr: Option<&str>,
+    err: &mut E,
+) -> Status
+    ensures { IsUnaskedStatus reason.now result }
+{
+    match reason {
+        Unasked::Filter(listing, fault) => {
+            let listing = listing.as_ref().map(|text| text.as_slice());
+            report_unfit(alloc, listing, expr, *fault, err)
+        }
+        Unasked::TextTooLong(path) => report_long_text(*path, err),
+        Unasked::Paths(fault) => report_path(fault, err),
+        Unasked::File(path, error) => report_io(error, *path, err),
+    }
+}
+
+/// Reports why there is no filter, with hints, and returns the exit status.
+fn report_unfit<E: HintSink>(
+    alloc: Global,
+    listing: Option<&[u8]>,
+    expr: Option<&str>,
+    fault: FilterFault,
+    err: &mut E,
+) -> Status
+    ensures { result ≡ Refused }
+{
+    let _ = filter_or_report(alloc, listing, expr, Err(fault), err);
+    Status::Refused
 }

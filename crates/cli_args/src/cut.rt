@@ -42,10 +42,11 @@ const CUT_EXAMPLES: &str = "Examples:
   bpftap cut -s 64 examples/veth.pcap headers.pcap     # the first 64 bytes of every packet
   bpftap cut -s 0 -e arp -w arp.pcap examples/veth.pcap examples/veth-big-nano.pcap
 
-OUT is the word after IN, or that of -w. Several IN take -w: three words without it are refused.
-They are read in order, up to the first fault; -c counts the packets of all. -u micro cuts
-nanoseconds off, and -u nano keeps them. -e and -f exclude each other. Write an expression that
-begins with - in parentheses, or after -e=, as in -e='-1 + len > 60'.
+OUT is the word after IN, or that of -w. Several IN take -w: three words without it are refused. Two
+are IN and OUT, so with names from the shell, as *.pcap, always write -w. Several IN are read in
+order, up to the first fault; -c counts the packets of all. -u micro cuts nanoseconds off, and -u
+nano keeps them. -e and -f exclude each other. Write an expression that begins with - in
+parentheses, or after -e=, as in -e='-1 + len > 60'.
 
 Exit status: 0 clean; 1 bad usage, invalid input, or out of memory; 2 a torn or bad record, after
 the packets before it; 3 a file or device failed.";

@@ -47,8 +47,9 @@ fault, and the counts are of all; -p explains the packet at PLACE of each. With 
 that is accepted ends the reading, as with grep -q:
   if bpftap explain -q -e 'tcp port 8080' examples/veth.pcap; then echo seen; fi
 -c prints only the counts: of each IN after its path, and of several IN, not of one, their sum last.
--l prints the paths of those IN that have an accepted packet. --exactly, --at-least and --at-most
-ask how many packets of all IN are accepted; then all IN are read.
+-l prints the paths of those IN that have an accepted packet. Both end at the first fault: to pass
+over a torn IN, call them for each. --exactly, --at-least and --at-most ask how many packets of all
+IN are accepted; then all IN are read.
 With --json each packet is an object on a line of its own, and so are the counts; -p has no JSON:
   bpftap explain --json -e 'tcp port 8080' examples/veth.pcap | jq -r '.answer // empty' | sort | uniq -c
 
@@ -89,7 +90,7 @@ static ARGUMENTS: [Argument; 12] = [
     Argument::Flag(
         "listed",
         'l',
-        "Print only the path of each IN that has an accepted packet, as grep -l does",
+        "Print only the path of each IN that has an accepted packet",
     ),
     Argument::Quiet(
         "Print nothing; end with status 0 if a packet is accepted, or as a bound says; else 4",

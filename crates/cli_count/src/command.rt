@@ -1,38 +1,41 @@
 //! `bpftap explain` with `-c`, `-l`, or a bound, over files.
 
+ghost use Rattle.std.specs.Prelude.{◌≡◌};
+ghost use Rattle.cli_store.specs.Files.{Keeps};
+
 use crate::captures::{CountJob, CountTotals, CountedCaptures, count_captures};
 use crate::filter::CountedFilter;
 use crate::list::{ListJob, ListedCaptures, list_captures};
-use crate::paths::check_paths;
-use crate::plan::read_filter;
 use crate::report::{report_counts, report_listed};
 use cli_answers::PacketForm;
+use cli_answers::asked::{Asked, Unasked, ask};
 use cli_answers::counts::print_counts;
-use cli_answers::hints::hint_stop;
+use cli_answers::hints::hint_ended;
+use cli_answers::opened::close_captures;
 use cli_answers::printing::Unprinted;
+use cli_answers::report::report_unasked;
 use cli_args::counting::{CountShown, CountWords};
 use cli_files::captures::output_buffer;
+use cli_files::paths::PathFault;
 use cli_report::HintSink;
 use cli_report::failures::hint_output;
-use cli_report::probe::ProbedInput;
+use cli_store::{DiskFiles, FileStore};
 use cli_text::Status;
-use cli_watch::captures::watched_inputs;
 use cli_watch::hints::{is_asked, report_unseen};
 use cli_watch::output::WatchedOutput;
 use cli_watch::{Screen, Watch};
-use fault_report::reporting::report_memory;
 use line_text::LineForm;
 use std::alloc::Global;
 use std::fs::Files;
-use std::io::{Read, Write};
+use std::io::Write;
 
-/// What one call has: its arguments, its filter, and what is seen of its captures.
+/// What one call has: its arguments, its filter, and its captures.
 #[derive(Drop)]
-struct Job<'w, 'a, 'r, R> {
+struct Job<'w, 'a, I> {
     alloc: Global,
     words: &'w CountWords<'a>,
     filter: CountedFilter,
-    watch: Watch<'r, R>,
+    captures: Vec<I>,
 }
 
 /// Whether it is reported into how many frames the expression does not look: where counts are printed.
@@ -40,20 +43,28 @@ fn counts_frames(words: &CountWords<'_>) -> bool {
     words.shown == CountShown::Counts && words.expr.is_some_and(is_asked)
 }
 
-/// Accepts the filter and compares the paths, in this order.
-fn prepare<'w, 'a, 'r, R: Files + AllocGlobal + Screen, E: HintSink>(
-    rt: &'r R,
-    words: &'w CountWords<'a>,
-    err: &mut E,
-) -> Result<Job<'w, 'a, 'r, R>, Status> {
-    let filter = read_filter(rt, words, err)?;
-    check_paths(rt, words, err)?;
-    Ok(Job {
-        alloc: rt.alloc(),
-        words,
-        filter,
-        watch: Watch::new(rt, words.inputs.as_slice(), err.takes_hints()),
-    })
+/// Accepts the filter, compares the paths, and opens the captures late, in this order.
+fn prepare<'w, 'p, F: FileStore<'p>>(
+    alloc: Global,
+    files: &mut F,
+    words: &'w CountWords<'p>,
+) -> Result<Job<'w, 'p, F::Input>, Unasked<'p>>
+    ensures kept { Keeps (F.place files.old) (F.place files.new) (F.text files.old) (F.text files.new) (F.pending files.old) (F.pending files.new) }
+{
+    let inputs = words.inputs.as_slice();
+    let Asked { filter, captures } = ask(alloc, files, words.listing, words.expr, inputs)?;
+    match CountedFilter::of(alloc, filter) {
+        Ok(filter) => Ok(Job {
+            alloc,
+            words,
+            filter,
+            captures,
+        }),
+        Err(_) => {
+            let _ = close_captures(files, captures, Ok(()));
+            Err(Unasked::Paths(PathFault::NoMemory))
+        }
+    }
 }
 
 /// Prints the sum of the counts of several captures, if a header was read, and all that the writer has gathered.
@@ -73,17 +84,24 @@ fn finish_counts<O: Write>(
 }
 
 /// Counts the packets, prints the counts if they are asked for, and reports how that ended.
-fn count_all<F: Screen, R: Read + Drop, O: Write, E: HintSink>(
-    job: &Job<'_, '_, '_, F>,
-    captures: Vec<ProbedInput<R>>,
+fn count_all<'p, F: FileStore<'p>, O: Write, E: HintSink>(
+    files: &mut F,
+    job: Job<'_, 'p, F::Input>,
     out: &mut O,
     err: &mut E,
-) -> Status {
-    let words = job.words;
+) -> Status
+    ensures kept { Keeps (F.place files.old) (F.place files.new) (F.text files.old) (F.text files.new) (F.pending files.old) (F.pending files.new) }
+{
+    let Job {
+        alloc,
+        words,
+        filter,
+        captures,
+    } = job;
     let paths = words.inputs.as_slice();
     let counting = CountJob {
-        alloc: job.alloc,
-        filter: &job.filter,
+        alloc,
+        filter: &filter,
         paths,
         is_shown: words.shown == CountShown::Counts,
         form: LineForm::asked(words.json),
@@ -93,13 +111,11 @@ fn count_all<F: Screen, R: Read + Drop, O: Write, E: HintSink>(
         totals,
         read,
     } = count_captures(&counting, captures, out);
-    job.watch.erase();
+    let noted = close_captures(files, sources, read);
     let (accepted, frames) = (totals.counts.yes, totals.counts.frames());
-    let printed = finish_counts(job.alloc, words, totals, out);
+    let printed = finish_counts(alloc, words, totals, out);
     let status = report_counts(&printed, read, accepted, words.bounds, paths, err);
-    if let Err(stop) = read {
-        hint_stop(paths, stop, sources.as_slice(), err);
-    }
+    hint_ended(paths, read, &noted, err);
     if counts_frames(words) {
         let _ = report_unseen(frames, status, err);
     }
@@ -107,80 +123,77 @@ fn count_all<F: Screen, R: Read + Drop, O: Write, E: HintSink>(
 }
 
 /// Prints the paths of the captures that have an accepted packet, and reports how that ended.
-fn list_all<F: Screen, R: Read + Drop, O: Write, E: HintSink>(
-    job: &Job<'_, '_, '_, F>,
-    captures: Vec<ProbedInput<R>>,
+fn list_all<'p, F: FileStore<'p>, O: Write, E: HintSink>(
+    files: &mut F,
+    job: Job<'_, 'p, F::Input>,
     out: &mut O,
     err: &mut E,
-) -> Status {
-    let paths = job.words.inputs.as_slice();
+) -> Status
+    ensures kept { Keeps (F.place files.old) (F.place files.new) (F.text files.old) (F.text files.new) (F.pending files.old) (F.pending files.new) }
+{
+    let Job {
+        alloc,
+        words,
+        filter,
+        captures,
+    } = job;
+    let paths = words.inputs.as_slice();
     let listing = ListJob {
-        alloc: job.alloc,
-        test: &job.filter,
+        alloc,
+        test: &filter,
         paths,
-        form: LineForm::asked(job.words.json),
+        form: LineForm::asked(words.json),
     };
     let ListedCaptures {
         sources,
         totals,
         read,
     } = list_captures(&listing, captures, out);
-    job.watch.erase();
+    let noted = close_captures(files, sources, read);
     let printed = match totals.printed {
         Ok(()) => out.flush().map_err(Unprinted::Output),
         Err(unprinted) => Err(unprinted),
     };
     let status = report_listed(&printed, read, totals.found, paths, err);
-    if let Err(stop) = read {
-        hint_stop(paths, stop, sources.as_slice(), err);
-    }
+    hint_ended(paths, read, &noted, err);
     status
 }
 
-/// Prints what the arguments ask for of the captures, with a buffer in front of the output.
-fn count_and_report<F: Screen, R: Read + Drop, O: Write, E: HintSink>(
-    job: &Job<'_, '_, '_, F>,
-    captures: Vec<ProbedInput<R>>,
+/// `bpftap explain` with `-c`, `-l`, or a bound, whatever the files are: the filter is accepted and the paths are compared before a capture is
+/// opened, and no capture is the file that is printed to. No file changes.
+pub fn count_and_report<'p, F: FileStore<'p>, O: Write, E: HintSink>(
+    alloc: Global,
+    files: &mut F,
+    words: &CountWords<'p>,
     out: &mut O,
     err: &mut E,
-) -> Status {
-    let out = WatchedOutput::new(&mut *out, &job.watch);
-    let mut out = match output_buffer(job.alloc, out, err) {
-        Ok(out) => out,
-        Err(status) => return status,
-    };
-    let status = match job.words.shown {
-        CountShown::Paths => list_all(job, captures, &mut out, err),
-        CountShown::Counts | CountShown::Nothing => count_all(job, captures, &mut out, err),
-    };
-    hint_output(out.get_ref(), err);
-    status
-}
-
-/// Does what the arguments ask for.
-fn run_job<'r, R: Files + Screen, O: Write, E: HintSink>(
-    rt: &'r R,
-    job: &Job<'_, '_, 'r, R>,
-    out: &mut O,
-    err: &mut E,
-) -> Status {
-    let paths = job.words.inputs.as_slice();
-    match watched_inputs(rt, job.alloc, paths, &job.watch) {
-        Ok(captures) => count_and_report(job, captures, out, err),
-        Err(_) => report_memory(err),
+) -> Status
+    ensures kept { Keeps (F.place files.old) (F.place files.new) (F.text files.old) (F.text files.new) (F.pending files.old) (F.pending files.new) }
+{
+    match prepare(alloc, files, words) {
+        Ok(job) => match words.shown {
+            CountShown::Paths => list_all(files, job, out, err),
+            CountShown::Counts | CountShown::Nothing => count_all(files, job, out, err),
+        },
+        Err(reason) => report_unasked(alloc, &reason, words.expr, err),
     }
 }
 
-/// `bpftap explain` with `-c`, `-l`, or a bound: the filter is accepted and the paths are compared before a capture is opened, and no capture is
-/// the file that is printed to.
+/// [`count_and_report`] over the files of the system, with a buffer in front of the output.
 pub fn count_command<R: Files + AllocGlobal + Screen, O: Write, E: HintSink>(
     rt: &R,
     words: &CountWords<'_>,
     out: &mut O,
     err: &mut E,
 ) -> Status {
-    match prepare(rt, words, err) {
-        Ok(job) => run_job(rt, &job, out, err),
-        Err(status) => status,
-    }
+    let watch = Watch::new(rt, words.inputs.as_slice(), err.takes_hints());
+    let out = WatchedOutput::new(&mut *out, &watch);
+    let mut out = match output_buffer(rt.alloc(), out, err) {
+        Ok(out) => out,
+        Err(status) => return status,
+    };
+    let mut files = DiskFiles::new(rt, &watch);
+    let status = count_and_report(rt.alloc(), &mut files, words, &mut out, err);
+    hint_output(out.get_ref(), err);
+    status
 }

@@ -7,8 +7,6 @@ pub mod count;
 pub mod filter;
 mod line;
 pub mod list;
-mod paths;
-mod plan;
 pub mod report;
 
 pub use filter::CountedFilter;

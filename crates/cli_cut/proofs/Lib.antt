@@ -1,3 +1,4 @@
 pub mod Elements
 pub mod Ending
 pub mod Whole
+pub mod Several

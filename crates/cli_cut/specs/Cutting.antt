@@ -1,5 +1,7 @@
 -- What `bpftap cut` of one capture does to the files. Read it from the last definition up.
-use Rattle.std.specs.Prelude.{◌≡◌, ◌≢◌, ◌⊎◌, ℕ, ◌-◌, ◌^◌, ◌<◌, ◌≤◌, length, Bool, true, List, ◌++◌, Option, Some, None, IfSome, option_copied, ⊤}
+use Rattle.std.specs.Prelude.{◌≡◌, ◌≢◌, ◌⊎◌, ℕ, ◌-◌, ◌^◌, ◌<◌, ◌≤◌, length, Bool, true, List, [], ◌∷◌, ◌++◌, Option, Some, None, IfSome, option_copied, ⊤}
+use Rattle.std.specs.Borrow.{Bor}
+use Rattle.std.specs.List.{Any}
 use Rattle.bpfvm.specs.declared.insn.Insn.{Insn}
 use Rattle.savefile.specs.Savefile.{IsCapture, RefusesHeader}
 use Rattle.savefile.specs.Writer.{IsBeginning}
@@ -52,30 +54,31 @@ IsUnfit place text None expr snap fault = IsNoFilter None expr snap fault
 abbrev pub IsLongText : Places → Texts → List ℕ → Type 0
 IsLongText place text path = (whole : List ℕ) × (text (place path) ≡ Some whole) × (MAX_TEXT < length whole)
 
+-- the file at a path could not be read, opened or made, or memory was refused for that
+abbrev pub IsDenied : Places → Option (List ℕ) → List ℕ → Error → Type 0
+IsDenied place denied path error = IsRefusedMemory error ⊎ (denied ≡ Some (place path))
+
 -- why there is no program
-abbrev pub IsUngiven : Places → Texts → Bool → Option (List ℕ) → Option (List ℕ) → ℕ → Refusal → Type 0
-IsUngiven place text failed listing expr snap (refusal.Filter kept fault) = IsUnfit place text listing expr snap fault
-IsUngiven place text failed listing expr snap (refusal.TextTooLong path) = (listing ≡ Some path.now) × IsLongText place text path.now
-IsUngiven place text failed listing expr snap (refusal.File path error) = IsRefusedMemory error ⊎ (failed ≡ true)
-IsUngiven place text failed listing expr snap (refusal.Paths fault) = ⊥
+abbrev pub IsUngiven : Places → Texts → Option (List ℕ) → Option (List ℕ) → Option (List ℕ) → ℕ → Refusal → Type 0
+IsUngiven place text denied listing expr snap (refusal.Filter kept fault) = IsUnfit place text listing expr snap fault
+IsUngiven place text denied listing expr snap (refusal.TextTooLong path) = (listing ≡ Some path.now) × IsLongText place text path.now
+IsUngiven place text denied listing expr snap (refusal.File path error) = (listing ≡ Some path.now) × IsDenied place denied path.now error
+IsUngiven place text denied listing expr snap other = ⊥
 
 -- ---- The paths
 
--- OUT is the file of IN, or that of the listing
-abbrev pub IsTogether : Places → Option (List ℕ) → List ℕ → List ℕ → Type 0
-IsTogether place listing input output =
-    (place input ≡ place output) ⊎ ((path : List ℕ) × (listing ≡ Some path) × (place path ≡ place output))
+-- OUT is the file of an IN, or that of the listing
+abbrev pub IsTogether : Places → CutWords → List (Bor (List ℕ)) → Type 0
+IsTogether place words inputs =
+    Any (λ input. place input.now ≡ place words.output.now) inputs
+    ⊎ ((path : List ℕ) × (option_copied words.listing ≡ Some path) × (place path ≡ place words.output.now))
 
 -- why OUT may not be written
-abbrev pub IsSharedFor : Places → Bool → Option (List ℕ) → List ℕ → List ℕ → PathFault → Type 0
-IsSharedFor place failed listing input output (paths.Same path taken_for) = IsTogether place listing input output
-IsSharedFor place failed listing input output (paths.Printed path) = ⊥
-IsSharedFor place failed listing input output (paths.Unknown path error) = IsRefusedMemory error ⊎ (failed ≡ true)
-IsSharedFor place failed listing input output paths.NoMemory = ⊤
-
-abbrev pub IsShared : Places → Bool → Option (List ℕ) → List ℕ → List ℕ → Refusal → Type 0
-IsShared place failed listing input output (refusal.Paths fault) = IsSharedFor place failed listing input output fault
-IsShared place failed listing input output other = ⊥
+abbrev pub IsShared : Places → Bool → CutWords → List (Bor (List ℕ)) → PathFault → Type 0
+IsShared place failed words inputs (paths.Same path taken_for) = IsTogether place words inputs
+IsShared place failed words inputs (paths.Printed path) = ⊥
+IsShared place failed words inputs (paths.Unknown path error) = IsRefusedMemory error ⊎ (failed ≡ true)
+IsShared place failed words inputs paths.NoMemory = ⊤
 
 -- ---- What OUT has
 
@@ -124,17 +127,31 @@ Ends old new failed at text program snap order unit tally (Output fault) = ⊥
 
 -- ---- The command
 
--- Why nothing was done: there is no filter, OUT is IN or the listing's file, a device failed, or memory was refused.
-abbrev pub IsReason : Places → Texts → Bool → CutWords → List ℕ → Refusal → Type 0
-IsReason place text failed words input (refusal.Paths fault) =
-    IsSharedFor place failed (option_copied words.listing) input words.output.now fault
-IsReason place text failed words input other =
-    IsUngiven place text failed (option_copied words.listing) (option_copied words.expr) words.snap other
+-- a file that is read: an IN, or the listing
+abbrev pub IsRead : CutWords → List (Bor (List ℕ)) → List ℕ → Type 0
+IsRead words inputs path = Any (λ input. input.now ≡ path) inputs ⊎ (option_copied words.listing ≡ Some path)
 
--- OUT could not be made: a device failed, or memory was refused
-abbrev pub IsUnmade : Bool → Refusal → Type 0
-IsUnmade failed (refusal.File path error) = IsRefusedMemory error ⊎ (failed ≡ true)
-IsUnmade failed other = ⊥
+-- Why nothing was done: there is no filter, OUT is an IN or the listing's file, memory was refused, or a file that is named could not be read,
+-- opened or made.
+abbrev pub IsReason : Places → Texts → Bool → Option (List ℕ) → CutWords → List (Bor (List ℕ)) → Refusal → Type 0
+IsReason place text failed denied words inputs (refusal.Paths fault) = IsShared place failed words inputs fault
+IsReason place text failed denied words inputs (refusal.File path error) =
+    (IsRead words inputs path.now ⊎ (path.now ≡ words.output.now)) × IsDenied place denied path.now error
+IsReason place text failed denied words inputs refusal.NoMemory = ⊤
+IsReason place text failed denied words inputs other =
+    IsUngiven place text denied (option_copied words.listing) (option_copied words.expr) words.snap other
+
+-- the paths are refused, or could not be compared
+abbrev pub IsUncompared : Places → Bool → CutWords → List (Bor (List ℕ)) → Refusal → Type 0
+IsUncompared place failed words inputs (refusal.Paths fault) = IsShared place failed words inputs fault
+IsUncompared place failed words inputs refusal.NoMemory = ⊤
+IsUncompared place failed words inputs other = ⊥
+
+-- OUT could not be made
+abbrev pub IsUnmade : Places → Option (List ℕ) → CutWords → Refusal → Type 0
+IsUnmade place denied words (refusal.File path error) = (path.now ≡ words.output.now) × IsDenied place denied path.now error
+IsUnmade place denied words refusal.NoMemory = ⊤
+IsUnmade place denied words other = ⊥
 
 -- IN was cut into OUT by the program that is asked for.
 pub record CutsInto (place : Places) (old new : Texts) (failed : Bool) (words : CutWords) (input : List ℕ) (tally : Tally) (end : End) : Type 0 where
@@ -146,15 +163,15 @@ pub record CutsInto (place : Places) (old new : Texts) (failed : Bool) (words : 
   pub ends : Ends old new failed (place words.output.now) text program words.snap words.order words.«unit» tally end
 
 -- nothing was done and the refusal says why, or IN was cut
-abbrev pub ComesTo : Places → Texts → Texts → Bool → CutWords → List ℕ → CutOutcome → Type 0
-ComesTo place old new failed words input (Refused reason) =
-    IsReason place old failed words input reason × ((p : List ℕ) → new p ≡ old p)
-ComesTo place old new failed words input (Ended report) = CutsInto place old new failed words input report.tally report.end
+abbrev pub ComesTo : Places → Texts → Texts → Bool → Option (List ℕ) → CutWords → Bor (List ℕ) → CutOutcome → Type 0
+ComesTo place old new failed denied words input (Refused reason) =
+    IsReason place old failed denied words (input ∷ []) reason × ((p : List ℕ) → new p ≡ old p)
+ComesTo place old new failed denied words input (Ended report) = CutsInto place old new failed words input.now report.tally report.end
 
--- A call of `bpftap cut`: no file but OUT changed.
-pub record CutsFiles (place : Places) (old new : Texts) (failed : Bool) (words : CutWords) (input : List ℕ) (outcome : CutOutcome) : Type 0 where
+-- A call of `bpftap cut` of one capture: no file but OUT changed.
+pub record CutsFiles (place : Places) (old new : Texts) (failed : Bool) (denied : Option (List ℕ)) (words : CutWords) (input : Bor (List ℕ)) (outcome : CutOutcome) : Type 0 where
   pub others : (p : List ℕ) → p ≢ place words.output.now → new p ≡ old p
-  pub came_to : ComesTo place old new failed words input outcome
+  pub came_to : ComesTo place old new failed denied words input outcome
 
 -- ---- The exit status
 
@@ -167,6 +184,7 @@ IsRefusalStatus (refusal.Filter kept fault) ended = ended ≡ status.Refused
 IsRefusalStatus (refusal.TextTooLong path) ended = ended ≡ status.Refused
 IsRefusalStatus (refusal.Paths fault) ended = IsPathStatus fault ended
 IsRefusalStatus (refusal.File path error) ended = IsFileStatus error ended
+IsRefusalStatus refusal.NoMemory ended = ended ≡ status.Refused
 
 abbrev pub IsStatusOf : CutOutcome → Status → Type 0
 IsStatusOf (Refused reason) ended = IsRefusalStatus reason ended

@@ -1,33 +1,163 @@
-//! `bpftap cut` of several captures, one after the other: a split into one OUT.
+//! `bpftap cut` of several captures, over files that contracts can know: a split into one OUT.
 
-ghost use Rattle.std.specs.Prelude.{◌≡◌, slice_get};
+ghost use Rattle.std.specs.Prelude.{◌≡◌, ◌≢◌, ℕ, List, [], ◌++◌, true, IfOk, IfErr, OnOk, All, length, map, slice_get};
+ghost use Rattle.std.specs.List.{AllZip};
 ghost use Rattle.line_text.specs.Sending.{Takes};
-ghost use Rattle.cli_cut.specs.Captures.{first_told, part_told, total_told};
+ghost use Rattle.cli_split.specs.Opened.{IsLate};
+ghost use Rattle.cli_split.specs.Statuses.{split_status, written_status};
+ghost use Rattle.cli_text.specs.declared.status.Status.TheVariants.{Failed};
+ghost use Rattle.cli_store.specs.Files.{Keeps};
+ghost use Rattle.cli_cut.specs.Captures.{CutsAll, CutsPackets, HasSpace, IsUnopened, first_told, listing_path, part_told, total_told};
+ghost use Rattle.cli_cut.specs.Cutting.{IsUncompared, IsUnmade};
 
-use crate::paths::{LateOutput, check_paths, late_output};
-use crate::plan::read_filter;
+use crate::outcome::Refusal;
+use crate::plan::program;
 use crate::report::report_tally;
 use bpfvm::Program;
 use cli_args::cut::CutWords;
+use cli_files::paths::Opening;
 use cli_report::HintSink;
-use cli_report::probe::ProbedOutput;
-use cli_split::command::split_flushed;
-use cli_split::hints::hint_split;
+use cli_split::closing::close_files;
+use cli_split::hints::hint_ended;
+use cli_split::opening::late_captures;
+use cli_split::outcome::{ClosedEnd, ClosedPart, Refusal as SplitRefusal};
 use cli_split::part::{Part, PartEnd};
 use cli_split::plan::SplitLine;
 use cli_split::report::{SplitFiles, report_faults, was_begun};
-use cli_split::split::SplitEnd;
-use cli_store::disk::is_standard_output;
+use cli_split::split::{Room, SplitEnd, split_in};
+use cli_store::FileStore;
 use cli_text::Status;
-use cli_watch::captures::{WatchedInput, watched_inputs};
-use cli_watch::{Screen, Watch};
-use fault_report::reporting::report_memory;
 use line_text::LineForm;
-use savefile::{Counted, Source};
-use std::alloc::Global;
-use std::fs::Files;
+use savefile::Fault;
+use savefile::laws::packets_take_room;
+use std::alloc::{AllocError, Global};
 use std::io;
 use std::io::{ErrorKind, Write};
+
+/// The paths of all files that are read.
+fn read_paths<'p>(alloc: Global, words: &CutWords<'p>) -> Result<Vec<&'p str>, AllocError>
+    ensures { IfOk result (λ paths. paths.items ≡ words.now.inputs.items ++ listing_path words.now.listing) }
+{
+    let mut paths = Vec::from_slice(alloc, words.inputs.as_slice())?;
+    if let Some(listing) = words.listing {
+        paths.push(listing)?;
+    }
+    Ok(paths)
+}
+
+/// Refuses an OUT that is a file which is read, as each IN is while OUT is written.
+fn check_paths<'p, F: FileStore<'p>>(
+    alloc: Global,
+    files: &mut F,
+    words: &CutWords<'p>,
+) -> Result<(), Refusal<'p>>
+    ensures kept { Keeps (F.place files.old) (F.place files.new) (F.text files.old) (F.text files.new) (F.pending files.old) (F.pending files.new) }
+    ensures opened { F.opened files.new ≡ F.opened files.old }
+    ensures apart { F.known ≡ true → OnOk result (All (λ input. F.place files.old input.now ≢ F.place files.old words.now.output.now) words.now.inputs.items) }
+    ensures refused { F.known ≡ true → IfErr result (IsUncompared (F.place files.old) (F.failed files.new) words.now words.now.inputs.items) }
+{
+    let Ok(read) = read_paths(alloc, words) else {
+        return Err(Refusal::NoMemory);
+    };
+    match files.check_apart(Opening::Late, false, read.as_slice(), &[words.output]) {
+        Ok(()) => Ok(()),
+        Err(fault) => Err(Refusal::Paths(fault)),
+    }
+}
+
+/// The captures, each of which is opened when it is read first.
+fn open_captures<'p, F: FileStore<'p>>(
+    alloc: Global,
+    files: &mut F,
+    paths: &[&'p str],
+) -> Result<Vec<F::Input>, Refusal<'p>>
+    ensures kept { Keeps (F.place files.old) (F.place files.new) (F.text files.old) (F.text files.new) (F.pending files.old) (F.pending files.new) }
+    ensures opened { F.known ≡ true → OnOk result (F.opened files.new ≡ F.opened files.old ++ map (λ path. F.place files.old path.now) paths.now) }
+    ensures late { F.known ≡ true → IfOk result (λ captures. AllZip (IsLate F.Input.left F.Input.failures (F.place files.old) (F.text files.old)) paths.now captures.items) }
+    ensures refused { F.known ≡ true → IfErr result (IsUnopened (F.place files.old) (F.denied files.new) paths.now) }
+{
+    match late_captures(alloc, files, paths) {
+        Ok(captures) => Ok(captures),
+        Err(SplitRefusal::File(path, error)) => Err(Refusal::File(path, error)),
+        Err(_) => Err(Refusal::NoMemory),
+    }
+}
+
+/// The memory that a cut needs once OUT is made: so it is not made in vain.
+#[derive(Drop)]
+struct Space<R, W> {
+    room: Room<R, W>,
+    parts: Vec<Part<W>>,
+    closed: Vec<ClosedPart>,
+}
+
+/// Reserves the space for so many captures.
+fn reserve<R: Drop, W: Drop>(alloc: Global, captures: usize) -> Result<Space<R, W>, AllocError>
+    ensures { IfOk result (HasSpace captures) }
+{
+    Ok(Space {
+        room: Room::reserve(alloc, captures, 1)?,
+        parts: Vec::with_capacity(alloc, 1)?,
+        closed: Vec::with_capacity(alloc, 1)?,
+    })
+}
+
+/// Cuts the captures into OUT.
+fn cut_opened<'p, F: FileStore<'p>>(
+    alloc: Global,
+    files: &mut F,
+    words: &CutWords<'p>,
+    program: Program,
+    captures: Vec<F::Input>,
+) -> Result<ClosedEnd, Refusal<'p>>
+    requires late { F.known ≡ true → AllZip (IsLate F.Input.left F.Input.failures (F.place files.old) (F.text files.old)) words.now.inputs.items captures.items }
+    requires apart { F.known ≡ true → All (λ read. read ≢ F.place files.old words.now.output.now) (F.opened files.old) }
+    ensures others { F.known ≡ true → (p : List ℕ) → p ≢ F.place files.old words.now.output.now → F.text files.new p ≡ F.text files.old p }
+    ensures cuts { F.known ≡ true → IfOk result (CutsPackets (F.place files.old) (F.text files.old) (F.text files.new) (F.failed files.new) words.now program) }
+    ensures closed { F.known ≡ true → F.pending files.new ≡ F.pending files.old }
+    ensures refused { F.known ≡ true → IfErr result (λ refusal. (F.text files.new ≡ F.text files.old) × IsUnmade (F.place files.old) (F.denied files.new) words.now refusal) }
+{
+    packets_take_room();
+    let Ok(space) = reserve(alloc, captures.len()) else {
+        return Err(Refusal::NoMemory);
+    };
+    let Space {
+        room,
+        mut parts,
+        closed,
+    } = space;
+    let sink = match files.create(words.output) {
+        Ok(sink) => sink,
+        Err(error) => return Err(Refusal::File(words.output, error)),
+    };
+    parts.push_reserved(Part {
+        program,
+        snap: words.snap,
+        sink,
+    });
+    let end = split_in(alloc, room, captures, parts, words.order, words.unit);
+    Ok(close_files(alloc, files, end, closed))
+}
+
+/// `bpftap cut` of several captures, whatever the files are. The filter is accepted, and the paths are compared, before a capture is opened; each
+/// is opened when it is read first, and OUT is made at its first byte. No other file changes.
+pub fn cut_several<'p, F: FileStore<'p>>(
+    alloc: Global,
+    files: &mut F,
+    words: &CutWords<'p>,
+) -> Result<ClosedEnd, Refusal<'p>>
+    requires none_open { F.opened files.old ≡ [] }
+    ensures cuts { F.known ≡ true → CutsAll (F.place files.old) (F.text files.old) (F.text files.new) (F.failed files.new) (F.denied files.new) words.now result }
+    // Each file that was made is closed.
+    ensures closed { F.known ≡ true → F.pending files.new ≡ F.pending files.old }
+{
+    let program = program(alloc, files, words.listing, words.expr, words.snap)?;
+    check_paths(alloc, files, words)?;
+    match open_captures(alloc, files, words.inputs.as_slice()) {
+        Ok(captures) => cut_opened(alloc, files, words, program, captures),
+        Err(refusal) => Err(refusal),
+    }
+}
 
 /// Reports how many of the packets were written, if OUT was written whole.
 fn report_part<W, E: Write>(part: &PartEnd<W>, form: LineForm, err: &mut E) -> io::Result<()>
@@ -58,49 +188,35 @@ pub fn report_total<R, W, E: Write>(
     }
 }
 
-/// What a cut of several captures came to, over files.
-type FilesEnd<'w, 'r, 'p, R> = SplitEnd<WatchedInput<'w, 'r, 'p, R>, LateOutput<'r, 'p, R>>;
-
-/// Cuts the captures. OUT is made at its first write.
-fn cut_captures<I: Source + Drop, W: Write + Drop>(
-    alloc: Global,
-    words: &CutWords<'_>,
-    program: Program,
-    captures: Vec<I>,
-    sink: Counted<W>,
-) -> io::Result<SplitEnd<I, Counted<W>>> {
-    let mut parts = Vec::with_capacity(alloc, 1)?;
-    parts.push(Part {
-        program,
-        snap: words.snap,
-        sink,
-    })?;
-    split_flushed(alloc, captures, parts, words.order, words.unit)
-}
-
-/// Whether OUT failed since it is a pipe that nobody reads any more.
-fn is_unread<R, W: Write + Drop>(end: &SplitEnd<R, ProbedOutput<W>>) -> bool {
-    end.parts.iter().any(is_part_unread)
-}
-
-fn is_part_unread<W: Write + Drop>(part: &PartEnd<ProbedOutput<W>>) -> bool {
-    match (part.written, part.sink.inner.get_ref().failure()) {
-        (Err(_), Some(error)) => error.kind() == ErrorKind::BrokenPipe,
+/// Whether the OUT of a part failed since it is a pipe that nobody reads any more.
+fn is_part_unread(part: &ClosedPart) -> bool
+    ensures { result ≡ true → written_status part.now.written ≡ Failed }
+{
+    match (part.written, &part.sink) {
+        (Err(Fault::Device), Some(error)) => error.kind() == ErrorKind::BrokenPipe,
         _ => false,
     }
 }
 
-/// Reports how a cut of several captures ended, as a split into this OUT, and returns the exit status. That nobody reads standard output
-/// any more is not reported.
-fn report_captures<R: Files + Screen, E: HintSink>(
-    rt: &R,
-    words: &CutWords<'_>,
-    end: &FilesEnd<'_, '_, '_, R>,
-    err: &mut E,
-) -> Status {
-    if is_unread(end) && is_standard_output(rt, words.output) {
-        return Status::Failed;
+/// Whether OUT, the only part, failed so.
+pub(crate) fn is_unread(end: &ClosedEnd) -> bool
+    ensures { result ≡ true → split_status end.now ≡ Failed }
+{
+    match end.parts.split_first() {
+        Some((part, _)) => is_part_unread(part),
+        None => false,
     }
+}
+
+/// Reports how a cut of several captures ended, as a split into this OUT, with hints, and returns the exit status. The count comes after the
+/// faults and their hints.
+pub(crate) fn report_captures<E: HintSink>(
+    end: &ClosedEnd,
+    words: &CutWords<'_>,
+    err: &mut E,
+) -> Status
+    ensures { result ≡ split_status end.now }
+{
     let lines = [SplitLine {
         snap: words.snap,
         output: words.output,
@@ -111,44 +227,9 @@ fn report_captures<R: Files + Screen, E: HintSink>(
         lines: &lines,
     };
     let status = report_faults(files, end, err);
-    hint_split(files.captures, &lines, end, err);
-    status
-}
-
-/// `bpftap cut` of several captures: the filter is accepted, and the paths are compared, before one is opened. Each is opened when it is
-/// read first, and OUT made at its first write.
-pub(crate) fn cut_several<'r, R: Files + AllocGlobal + Screen, E: HintSink>(
-    rt: &'r R,
-    words: &CutWords<'_>,
-    watch: &Watch<'r, R>,
-    err: &mut E,
-) -> Status {
-    match cut_captures_of(rt, words, watch, err) {
-        Ok(status) | Err(status) => status,
-    }
-}
-
-/// Cuts the captures at the paths, and reports how that ended.
-fn cut_captures_of<'r, R: Files + AllocGlobal + Screen, E: HintSink>(
-    rt: &'r R,
-    words: &CutWords<'_>,
-    watch: &Watch<'r, R>,
-    err: &mut E,
-) -> Result<Status, Status> {
-    let program = read_filter(rt, words, watch, err)?;
-    check_paths(rt, words, err)?;
-    let sink = late_output(rt, words.output, err)?;
-    let paths = words.inputs.as_slice();
-    let Ok(captures) = watched_inputs(rt, rt.alloc(), paths, watch) else {
-        return Err(report_memory(err));
-    };
-    let Ok(end) = cut_captures(rt.alloc(), words, program, captures, sink) else {
-        return Err(report_memory(err));
-    };
-    watch.erase();
-    let status = report_captures(rt, words, &end, err);
+    hint_ended(files.captures, &lines, end, err);
     if words.counted {
-        let _ = report_total(&end, LineForm::asked(words.json), err);
+        let _ = report_total(end, LineForm::asked(words.json), err);
     }
-    Ok(status)
+    status
 }

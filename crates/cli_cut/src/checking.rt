@@ -10,6 +10,7 @@ use crate::plan::{program, program_of_listing};
 use crate::print::{PrintFault, ProgramForm, show, show_read};
 use bpfvm::Program;
 use cli_args::check::CheckWords;
+use cli_files::paths::Opening;
 use cli_store::FileStore;
 use std::alloc::Global;
 use std::io::Write;
@@ -33,12 +34,12 @@ fn read_program<'p, F: FileStore<'p>>(
 ) -> Result<Program, Refusal<'p>>
     ensures kept { Keeps (F.place files.old) (F.place files.new) (F.text files.old) (F.text files.new) (F.pending files.old) (F.pending files.new) }
     ensures given { F.known ≡ true → IfOk result (IsAskedFor (F.place files.old) (F.text files.old) (F.printed files.old) (option_copied words.now.listing) (option_copied words.now.expr) words.now.snap) }
-    ensures refused { F.known ≡ true → IfErr result (IsUnasked (F.place files.old) (F.text files.old) (F.printed files.old) (F.failed files.new) (option_copied words.now.listing) (option_copied words.now.expr) words.now.snap) }
+    ensures refused { F.known ≡ true → IfErr result (IsUnasked (F.place files.old) (F.text files.old) (F.printed files.old) (F.failed files.new) (F.denied files.new) (option_copied words.now.listing) (option_copied words.now.expr) words.now.snap) }
 {
     let Some(path) = words.listing else {
         return program(alloc, files, None, words.expr, words.snap);
     };
-    match files.check_printed(path) {
+    match files.check_apart(Opening::First, true, &[path], &[]) {
         Ok(()) => program_of_listing(alloc, files, path),
         Err(fault) => Err(Refusal::Paths(fault)),
     }
@@ -54,7 +55,7 @@ pub fn check_files<'p, F: FileStore<'p>, O: Write>(
 ) -> Result<Result<(), PrintFault>, Refusal<'p>>
     ensures kept { Keeps (F.place files.old) (F.place files.new) (F.text files.old) (F.text files.new) (F.pending files.old) (F.pending files.new) }
     ensures checks { F.known ≡ true → IfOk result (Checks (F.place files.old) (F.text files.old) (F.printed files.old) (O.contents out.old) (O.contents out.new) words.now) }
-    ensures refused { F.known ≡ true → IfErr result (IsUnasked (F.place files.old) (F.text files.old) (F.printed files.old) (F.failed files.new) (option_copied words.now.listing) (option_copied words.now.expr) words.now.snap) }
+    ensures refused { F.known ≡ true → IfErr result (IsUnasked (F.place files.old) (F.text files.old) (F.printed files.old) (F.failed files.new) (F.denied files.new) (option_copied words.now.listing) (option_copied words.now.expr) words.now.snap) }
     ensures silent { OnErr result (out.new ≡ out.old) }
 {
     match (words.expr, words.json, words.read) {

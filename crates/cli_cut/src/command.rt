@@ -1,11 +1,13 @@
 //! `bpftap cut` and `bpftap check`, over files.
 
-ghost use Rattle.std.specs.Prelude.{◌≡◌, [], true};
+ghost use Rattle.std.specs.Prelude.{◌≡◌, [], true, Result};
+ghost use Rattle.cli_cut.specs.Captures.{Closed, CutsAll, IsStatusOfAll};
 ghost use Rattle.cli_cut.specs.Cutting.{CutsFiles, IsStatusOf};
 ghost use Rattle.cli_cut.specs.Telling.{status_of};
 ghost use Rattle.cli_cut.specs.declared.outcome.CutOutcome.{CutOutcome};
+ghost use Rattle.cli_cut.specs.declared.outcome.Refusal.{Refusal};
 
-use crate::captures::cut_several;
+use crate::captures::{cut_several, is_unread, report_captures};
 use crate::checking::check_files;
 use crate::hints::{counts_frames, hint_cut, hint_print};
 use crate::one::cut_one;
@@ -50,7 +52,7 @@ pub fn cut_and_report<'p, F: FileStore<'p>, E: HintSink>(
     err: &mut E,
 ) -> Status
     requires none_open { F.opened files.old ≡ [] }
-    ensures cuts { F.known ≡ true → (outcome : CutOutcome) × CutsFiles (F.place files.old) (F.text files.old) (F.text files.new) (F.failed files.new) words.now path.now outcome
+    ensures cuts { F.known ≡ true → (outcome : CutOutcome) × CutsFiles (F.place files.old) (F.text files.old) (F.text files.new) (F.failed files.new) (F.denied files.new) words.now path.entry outcome
         × IsStatusOf outcome result }
     ensures closed { F.known ≡ true → F.pending files.new ≡ F.pending files.old }
 {
@@ -61,6 +63,29 @@ pub fn cut_and_report<'p, F: FileStore<'p>, E: HintSink>(
                 return Status::Failed;
             }
             report_cut(&report, words, path, err)
+        }
+    }
+}
+
+/// Cuts several IN, and reports how that ended, as [`cut_and_report`] does.
+pub fn cut_several_and_report<'p, F: FileStore<'p>, E: HintSink>(
+    alloc: Global,
+    files: &mut F,
+    words: &CutWords<'p>,
+    err: &mut E,
+) -> Status
+    requires none_open { F.opened files.old ≡ [] }
+    ensures cuts { F.known ≡ true → (outcome : Result Closed Refusal) × CutsAll (F.place files.old) (F.text files.old) (F.text files.new) (F.failed files.new) (F.denied files.new) words.now outcome
+        × IsStatusOfAll outcome result }
+    ensures closed { F.known ≡ true → F.pending files.new ≡ F.pending files.old }
+{
+    match cut_several(alloc, files, words) {
+        Err(refusal) => report_refusal(alloc, &refusal, words.expr, err),
+        Ok(end) => {
+            if is_unread(&end) && files.is_standard_output(words.output) {
+                return Status::Failed;
+            }
+            report_captures(&end, words, err)
         }
     }
 }
@@ -82,7 +107,7 @@ pub fn cut_command<R: Files + AllocGlobal + Screen, E: HintSink>(
             *input,
             err,
         ),
-        _ => cut_several(rt, words, &watch, err),
+        _ => cut_several_and_report(rt.alloc(), &mut DiskFiles::new(rt, &watch), words, err),
     };
     if counts_frames(words) {
         let _ = report_unseen(watch.frames(), status, err);

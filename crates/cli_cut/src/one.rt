@@ -2,7 +2,7 @@
 
 ghost use Rattle.std.specs.Prelude.{◌≡◌, ◌≢◌, ◌⊎◌, ℕ, List, [], ◌∷◌, true, Option, Some, None, IfOk, IfErr, All, option_copied};
 ghost use Rattle.cli_store.specs.Files.{Keeps};
-ghost use Rattle.cli_cut.specs.Cutting.{CutsFiles, Ends, IsShared, IsUnmade};
+ghost use Rattle.cli_cut.specs.Cutting.{CutsFiles, Ends, IsUncompared, IsUnmade};
 ghost use Rattle.cli_cut.specs.declared.outcome.CutOutcome.TheVariants.{Ended, Refused};
 
 use crate::outcome::{CutOutcome, CutReport, Refusal};
@@ -25,10 +25,10 @@ fn check_paths<'p, F: FileStore<'p>>(
     ensures kept { Keeps (F.place files.old) (F.place files.new) (F.text files.old) (F.text files.new) (F.pending files.old) (F.pending files.new) }
     ensures opened { F.opened files.new ≡ F.opened files.old }
     ensures apart { F.known ≡ true → IfOk result (λ _. (F.text files.old (F.place files.old input.now) ≡ None) ⊎ (F.place files.old input.now ≢ F.place files.old words.now.output.now)) }
-    ensures refused { F.known ≡ true → IfErr result (IsShared (F.place files.old) (F.failed files.new) (option_copied words.now.listing) input.now words.now.output.now) }
+    ensures refused { F.known ≡ true → IfErr result (IsUncompared (F.place files.old) (F.failed files.new) words.now (input.entry ∷ [])) }
 {
     let read = [words.listing.unwrap_or(input), input];
-    match files.check_apart(Opening::First, &read, words.output) {
+    match files.check_apart(Opening::First, false, &read, &[words.output]) {
         Ok(()) => Ok(()),
         Err(fault) => Err(Refusal::Paths(fault)),
     }
@@ -48,7 +48,7 @@ fn cut_opened<'p, F: FileStore<'p>>(
     ensures ends { F.known ≡ true → (text : List ℕ) → F.Input.left source ≡ Some text →
         IfOk result (λ report. Ends (F.text files.old) (F.text files.new) (F.failed files.new) (F.place files.old words.now.output.now) text program.now words.now.snap words.now.order words.now.«unit» report.tally report.end) }
     ensures closed { F.known ≡ true → F.pending files.new ≡ F.pending files.old }
-    ensures refused { F.known ≡ true → IfErr result (λ refusal. (F.text files.new ≡ F.text files.old) × IsUnmade (F.failed files.new) refusal) }
+    ensures refused { F.known ≡ true → IfErr result (λ refusal. (F.text files.new ≡ F.text files.old) × IsUnmade (F.place files.old) (F.denied files.new) words.now refusal) }
 {
     packets_take_room();
     let sink = match files.create(words.output) {
@@ -99,8 +99,8 @@ fn cut_accepted<'p, F: FileStore<'p>>(
 ) -> Result<CutReport, Refusal<'p>>
     requires none_open { F.opened files.old ≡ [] }
     ensures closed { F.known ≡ true → F.pending files.new ≡ F.pending files.old }
-    ensures cut { F.known ≡ true → IfOk result (λ report. CutsFiles (F.place files.old) (F.text files.old) (F.text files.new) (F.failed files.new) words.now input.now (Ended report)) }
-    ensures refused { F.known ≡ true → IfErr result (λ refusal. CutsFiles (F.place files.old) (F.text files.old) (F.text files.new) (F.failed files.new) words.now input.now (Refused refusal)) }
+    ensures cut { F.known ≡ true → IfOk result (λ report. CutsFiles (F.place files.old) (F.text files.old) (F.text files.new) (F.failed files.new) (F.denied files.new) words.now input.entry (Ended report)) }
+    ensures refused { F.known ≡ true → IfErr result (λ refusal. CutsFiles (F.place files.old) (F.text files.old) (F.text files.new) (F.failed files.new) (F.denied files.new) words.now input.entry (Refused refusal)) }
 {
     let program = program(alloc, files, words.listing, words.expr, words.snap)?;
     check_paths(files, words, input)?;
@@ -119,7 +119,7 @@ pub fn cut_one<'p, F: FileStore<'p>>(
     input: &'p str,
 ) -> CutOutcome<'p>
     requires none_open { F.opened files.old ≡ [] }
-    ensures cuts { F.known ≡ true → CutsFiles (F.place files.old) (F.text files.old) (F.text files.new) (F.failed files.new) words.now input.now result }
+    ensures cuts { F.known ≡ true → CutsFiles (F.place files.old) (F.text files.old) (F.text files.new) (F.failed files.new) (F.denied files.new) words.now input.entry result }
     // Each file that was made is closed.
     ensures closed { F.known ≡ true → F.pending files.new ≡ F.pending files.old }
 {

@@ -24,6 +24,7 @@ pub enum Refusal<'p> {
     Paths(PathFault<'p>),
     /// This file could not be read, opened or made.
     File(&'p str, io::Error),
+    NoMemory,
 }
 
 /// How a cut ended that was begun.

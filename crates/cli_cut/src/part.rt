@@ -1,9 +1,13 @@
 //! `bpftap cut --bytes`, over files: one part of a capture.
 
+ghost use Rattle.std.specs.Prelude.{◌≡◌};
+ghost use Rattle.cli_cut.specs.Telling.{status_of};
+
 use crate::command::report_cut;
 use crate::outcome::CutReport;
 use crate::paths::late_output;
 use crate::plan::read_filter;
+use crate::report::{report_count, report_end};
 use bpfvm::Program;
 use cli_args::cut::CutWords;
 use cli_args::places::ByteRange;
@@ -12,10 +16,12 @@ use cli_parts::input::{OpenPart, open_part};
 use cli_parts::line::print_part;
 use cli_report::HintSink;
 use cli_report::probe::{ProbedInput, ProbedOutput};
+use cli_report::stream::give_hint;
 use cli_store::disk::is_standard_output;
 use cli_text::Status;
 use cli_watch::{Screen, Watch};
 use fault_report::reporting::report_output;
+use line_text::LineForm;
 use pcap_cut::cut::{CutEnd, End, cut};
 use pcap_parts::part::PartCut;
 use savefile::{Counted, Fault};
@@ -68,18 +74,42 @@ fn cut_job<R: Read + Drop, W: Write + Drop>(
     flush(end)
 }
 
-/// Reports how a cut ended. That nobody reads standard output any more is not reported.
+/// What a torn record is if IN goes on after the range.
+const INSIDE: &str =
+    "the range ends inside this record, and the capture goes on: join prints the range to cut in its place";
+
+/// Reports that a range ends inside a record: nothing is wrong with IN then.
+fn report_inside<E: HintSink>(
+    report: &CutReport,
+    words: &CutWords<'_>,
+    from: &str,
+    err: &mut E,
+) -> Status
+    ensures { result ≡ status_of report.now.end }
+{
+    let status = report_end(report.end, from, words.output, err);
+    give_hint(INSIDE, err);
+    if words.counted {
+        let _ = report_count(report.end, report.tally, LineForm::asked(words.json), err);
+    }
+    status
+}
+
+/// Reports how a cut of a range ended, after which IN goes on or not. That nobody reads standard output any more is not reported.
 fn report_part<F: Files, E: HintSink>(
     rt: &F,
     report: &CutReport,
     words: &CutWords<'_>,
-    from: &str,
+    (from, goes_on): (&str, bool),
     err: &mut E,
 ) -> Status {
     if report.is_unread() && is_standard_output(rt, words.output) {
         return Status::Failed;
     }
-    report_cut(report, words, from, err)
+    match report.end {
+        End::Input(Fault::TornRecord(_)) if goes_on => report_inside(report, words, from, err),
+        _ => report_cut(report, words, from, err),
+    }
 }
 
 /// Cuts a part, prints its line if the part was read to its end or to a torn or bad record and all was written, and reports how that ended.
@@ -104,7 +134,8 @@ fn cut_and_print<
         Some(part) => report_output(&print_part(rt.alloc(), part, out), err),
         None => Status::Clean,
     };
-    report_part(rt, &CutReport::of(end), words, path, err).max(printed)
+    let from = (path, bytes.end < size);
+    report_part(rt, &CutReport::of(end), words, from, err).max(printed)
 }
 
 /// Accepts the filter, compares the paths, and opens the part, in this order; then cuts it.

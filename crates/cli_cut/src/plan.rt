@@ -26,7 +26,7 @@ pub(crate) fn program_of_listing<'p, F: FileStore<'p>>(
     ensures kept { Keeps (F.place files.old) (F.place files.new) (F.text files.old) (F.text files.new) (F.pending files.old) (F.pending files.new) }
     ensures opened { F.opened files.new ≡ F.opened files.old }
     ensures given { F.known ≡ true → IfOk result (IsGiven (F.place files.old) (F.text files.old) (Some path.entry.now) None 0) }
-    ensures refused { F.known ≡ true → IfErr result (IsUngiven (F.place files.old) (F.text files.old) (F.failed files.new) (Some path.entry.now) None 0) }
+    ensures refused { F.known ≡ true → IfErr result (IsUngiven (F.place files.old) (F.text files.old) (F.denied files.new) (Some path.entry.now) None 0) }
 {
     match files.read(path, MAX_TEXT + 1) {
         Err(error) => Err(Refusal::File(path, error)),
@@ -49,7 +49,7 @@ pub(crate) fn program<'p, F: FileStore<'p>>(
     ensures kept { Keeps (F.place files.old) (F.place files.new) (F.text files.old) (F.text files.new) (F.pending files.old) (F.pending files.new) }
     ensures opened { F.opened files.new ≡ F.opened files.old }
     ensures given { F.known ≡ true → IfOk result (IsGiven (F.place files.old) (F.text files.old) (option_copied listing.entry) (option_copied expr.entry) snap) }
-    ensures refused { F.known ≡ true → IfErr result (IsUngiven (F.place files.old) (F.text files.old) (F.failed files.new) (option_copied listing.entry) (option_copied expr.entry) snap) }
+    ensures refused { F.known ≡ true → IfErr result (IsUngiven (F.place files.old) (F.text files.old) (F.denied files.new) (option_copied listing.entry) (option_copied expr.entry) snap) }
 {
     match (listing, expr) {
         (Some(path), None) => program_of_listing(alloc, files, path),

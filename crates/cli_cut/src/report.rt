@@ -61,6 +61,7 @@ pub(crate) fn report_refusal<E: HintSink>(
         Refusal::TextTooLong(path) => report_long_text(*path, err),
         Refusal::Paths(fault) => report_path(fault, err),
         Refusal::File(path, error) => report_io(error, *path, err),
+        Refusal::NoMemory => report_memory(err),
     }
 }
 

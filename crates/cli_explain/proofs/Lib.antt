@@ -2,3 +2,4 @@ pub mod Answered
 pub mod Printing
 pub mod Ranging
 pub mod Visits
+pub mod Stopping

@@ -4,3 +4,4 @@ pub mod Explained
 pub mod Telling
 pub mod Captures
 pub mod Range
+pub mod Explaining

@@ -4,12 +4,13 @@
 pub mod captures;
 pub mod command;
 pub mod each;
+pub mod files;
 mod form;
+pub mod full;
 mod hints;
 pub mod line;
 pub mod one;
-mod paths;
-mod plan;
+pub mod outcome;
 pub mod program;
 pub mod range;
 pub mod report;

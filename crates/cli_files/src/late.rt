@@ -117,6 +117,16 @@ impl<'r, 'p, R: Files> LateInput<'r, 'p, R> {
         }
     }
 
+    /// Opens the file at once.
+    pub fn opened(rt: &'r R, path: &'p str) -> io::Result<Self> {
+        let file = Retried::new(fs::open(rt, path)?);
+        Ok(LateInput {
+            rt,
+            path,
+            state: InputState::Opened(file),
+        })
+    }
+
     fn open_and_read(&mut self, to: &mut [u8]) -> io::Result<usize>
         ensures { ReadsAtMost result to.new }
     {

@@ -1,5 +1,6 @@
 -- The plan of a file of lines, each of which names a capture to write, by its OUT, and a filter. `Is` says what a line says; `output`,
--- `expression` and `snap` are what that has of OUT, of the filter and of the snapshot length.
+-- `expression` and `snap` are what that has of OUT, of the filter and of the snapshot length. `shared` says of an OUT whether several
+-- lines may have it.
 use Rattle.std.specs.Prelude.{◌≡◌, ◌≢◌, ℕ, ◌+◌, ◌⊎◌, Bool, true, false, if◌then◌else◌, List, [], ◌∷◌, ◌++◌, length, take, Any, AllPairs, Some, codes, slice_get}
 use Rattle.std.specs.Fmt.{decimal}
 use Rattle.std.specs.List.{AllZip}
@@ -30,32 +31,32 @@ pub record AreLastFields (rest output expression : List ℕ) : Type 0 where
   pub output_text : IsUtf8 output
   pub expression_text : IsUtf8 expression
 
--- no two have the same OUT
-abbrev pub HaveOwnOutputs : {X : Type 0} → (X → List ℕ) → List X → Type 0
-HaveOwnOutputs output asked = AllPairs (λ earlier later. output earlier ≢ output later) asked
+-- no two have the same OUT, but for one that several may have
+abbrev pub HaveOwnOutputs : {X : Type 0} → (X → List ℕ) → (List ℕ → Bool) → List X → Type 0
+HaveOwnOutputs output shared asked = AllPairs (λ earlier later. shared (output later) ≡ false → output earlier ≢ output later) asked
 
 -- Each line of a text says something, with an OUT of its own; the first of these, `most` at most, are kept.
-abbrev pub AreLines : {X : Type 0} → (List ℕ → X → Type 0) → (X → List ℕ) → ℕ → List ℕ → List X → Type 0
-AreLines {X} Is output most text kept = (asked : List X) × IsFileOf Is text asked × HaveOwnOutputs output asked × (kept ≡ take most asked)
+abbrev pub AreLines : {X : Type 0} → (List ℕ → X → Type 0) → (X → List ℕ) → (List ℕ → Bool) → ℕ → List ℕ → List X → Type 0
+AreLines {X} Is output shared most text kept = (asked : List X) × IsFileOf Is text asked × HaveOwnOutputs output shared asked × (kept ≡ take most asked)
 
--- the n-th line of a text, from 1, is the first that lacks the form, or has the OUT of an earlier line
-pub record IsFirstBadLine {X : Type 0} (Is : List ℕ → X → Type 0) (output : X → List ℕ) (text : List ℕ) (n : ℕ) : Type 0 where
+-- the n-th line of a text, from 1, is the first that lacks the form, or has the OUT of an earlier line, which several may not have
+pub record IsFirstBadLine {X : Type 0} (Is : List ℕ → X → Type 0) (output : X → List ℕ) (shared : List ℕ → Bool) (text : List ℕ) (n : ℕ) : Type 0 where
   pub before : List (List ℕ)
   pub line : List ℕ
   pub behind : List (List ℕ)
   pub lines : further_lines text ≡ before ++ line ∷ behind
   pub said : List X
   pub good : Say Is before said
-  pub own : HaveOwnOutputs output said
-  pub bad : (asked : X) → Is line asked → Any (λ earlier. output earlier ≡ output asked) said
+  pub own : HaveOwnOutputs output shared said
+  pub bad : (asked : X) → Is line asked → (shared (output asked) ≡ false) × Any (λ earlier. output earlier ≡ output asked) said
   pub place : n ≡ length before + 1
 
 -- why the lines are refused: the first bad line, or out of memory
-abbrev pub AreNoLines : {X : Type 0} → (List ℕ → X → Type 0) → (X → List ℕ) → List ℕ → PlanFault → Type 0
-AreNoLines Is output text (Line n) = IsFirstBadLine Is output text n
-AreNoLines Is output text (Expression n why) = ⊥
-AreNoLines Is output text TooMany = ⊥
-AreNoLines Is output text NoMemory = Unit {0}
+abbrev pub AreNoLines : {X : Type 0} → (List ℕ → X → Type 0) → (X → List ℕ) → (List ℕ → Bool) → List ℕ → PlanFault → Type 0
+AreNoLines Is output shared text (Line n) = IsFirstBadLine Is output shared text n
+AreNoLines Is output shared text (Expression n why) = ⊥
+AreNoLines Is output shared text TooMany = ⊥
+AreNoLines Is output shared text NoMemory = Unit {0}
 
 -- the program stands for a line's expression at its snapshot length
 abbrev pub IsCompiled : {X : Type 0} → (X → List ℕ) → (X → ℕ) → X → List Insn → Type 0
@@ -77,12 +78,12 @@ AreUncompiled expression snap lines TooMany = ⊥
 AreUncompiled expression snap lines NoMemory = Unit {0}
 
 -- why there is no plan: the first bad line; else the first expression that has no program; or out of memory
-abbrev pub IsRefusedPlan : {X : Type 0} → (List ℕ → X → Type 0) → (X → List ℕ) → (X → List ℕ) → (X → ℕ) → ℕ → List ℕ → PlanFault → Type 0
-IsRefusedPlan Is output expression snap most text (Line n) = IsFirstBadLine Is output text n
-IsRefusedPlan {X} Is output expression snap most text (Expression n why) =
-    (lines : List X) × AreLines Is output most text lines × IsFirstUncompiled expression snap lines n why
-IsRefusedPlan Is output expression snap most text TooMany = ⊥
-IsRefusedPlan Is output expression snap most text NoMemory = Unit {0}
+abbrev pub IsRefusedPlan : {X : Type 0} → (List ℕ → X → Type 0) → (X → List ℕ) → (List ℕ → Bool) → (X → List ℕ) → (X → ℕ) → ℕ → List ℕ → PlanFault → Type 0
+IsRefusedPlan Is output shared expression snap most text (Line n) = IsFirstBadLine Is output shared text n
+IsRefusedPlan {X} Is output shared expression snap most text (Expression n why) =
+    (lines : List X) × AreLines Is output shared most text lines × IsFirstUncompiled expression snap lines n why
+IsRefusedPlan Is output shared expression snap most text TooMany = ⊥
+IsRefusedPlan Is output shared expression snap most text NoMemory = Unit {0}
 
 -- whether it is memory that lacks, which is no fault of the expression
 abbrev pub lacks_memory : ExpressionFault → Bool

@@ -44,7 +44,10 @@ fn hint_filter<E: HintSink>(
         FilterFault::Expression(fault) => hint_expression(alloc, expr.unwrap_or(""), fault, err),
         FilterFault::Listing(fault) => hint_listing(listing.unwrap_or(&[]), fault, err),
         FilterFault::Assembly(fault) => hint_assembly(alloc, listing.unwrap_or(&[]), fault, err),
-        FilterFault::Twice => {}
+        FilterFault::Twice => give_hint(
+            "a filter is an expression or a listing: leave out -e or -f",
+            err,
+        ),
     }
 }
 

@@ -1,6 +1,6 @@
 //! The plan of a file of lines, each of which names a capture to write, by its OUT, and a filter.
 
-ghost use Rattle.std.specs.Prelude.{◌≡◌, ℕ, List, IfErr, IfNone, IfOk, IfSome, Some, length};
+ghost use Rattle.std.specs.Prelude.{◌≡◌, ◌||◌, ℕ, Bool, List, IfErr, IfNone, IfOk, IfSome, Some, length};
 ghost use Rattle.std.specs.List.{AllZip};
 ghost use Rattle.cli_filter.specs.Plan.{AreCut, AreLines, AreNoLines, AreLastFields, AreUncompiled, IsCompiled, IsRefusedPlan, lacks_memory, plan_fault_text, uncompiled_text};
 ghost use Rattle.line_text.specs.Fields.{IsWord};
@@ -31,6 +31,9 @@ pub trait PlanLine<'a>: Copy + Drop {
 
     ghost snap_of: { Self → ℕ };
 
+    /// Whether several lines may have this OUT.
+    ghost shared: { List ℕ → Bool };
+
     /// What a line says; `None` if it lacks the form.
     fn read(line: &'a [u8], terms: Self::Terms) -> Option<Self>
         ensures some { IfSome result (λ asked. says terms line.now asked) }
@@ -48,12 +51,16 @@ pub trait PlanLine<'a>: Copy + Drop {
     /// How many bytes of a packet are kept at most.
     fn snap(&self) -> u32
         ensures { result ≡ snap_of self.now };
+
+    /// Whether several lines may have this OUT.
+    fn is_shared(output: &str) -> bool
+        ensures { result ≡ shared output.now };
 }
 
 /// Why a file of lines is refused.
 #[derive(Clone, Copy, Debug, PartialEq, Eq)]
 pub enum PlanFault {
-    /// This line, from 1, lacks the form, or has the OUT of an earlier line.
+    /// This line, from 1, lacks the form, or has the OUT of an earlier line which several may not have.
     Line(usize),
     /// The expression of this line, from 0, has no program.
     Expression(usize, ExpressionFault),
@@ -190,9 +197,17 @@ pub fn output_and_expression(rest: &[u8]) -> Option<(&str, &str)>
     Some((output, expression))
 }
 
+/// Whether an OUT may stand in a further line: no earlier one has it, or several may.
+fn may_stand<'a, L: PlanLine<'a>>(output: &str, is_new: bool) -> bool
+    ensures { result ≡ (is_new || L.shared output.now) }
+{
+    is_new || L::is_shared(output)
+}
+
 /// Reads the lines of a text, and keeps the first of them, `most` at most.
 ///
-/// [`PlanFault::Line`] names the first line, from 1, that lacks the form or has the OUT of an earlier line, kept or not.
+/// [`PlanFault::Line`] names the first line, from 1, that lacks the form or has the OUT of an earlier line, kept or not, if several may not
+/// have it.
 /// [`PlanFault::NoMemory`] says that memory ran out.
 pub fn read_lines<'a, L: PlanLine<'a>>(
     alloc: Global,
@@ -200,8 +215,8 @@ pub fn read_lines<'a, L: PlanLine<'a>>(
     terms: L::Terms,
     most: usize,
 ) -> Result<Vec<L>, PlanFault>
-    ensures ok { IfOk result (λ lines. AreLines (L.says terms) L.output_of most text.now lines.items) }
-    ensures fault { IfErr result (λ fault. AreNoLines (L.says terms) L.output_of text.now fault) }
+    ensures ok { IfOk result (λ lines. AreLines (L.says terms) L.output_of L.shared most text.now lines.items) }
+    ensures fault { IfErr result (λ fault. AreNoLines (L.says terms) L.output_of L.shared text.now fault) }
 {
     let mut lines = Vec::new(alloc);
     let mut outputs = BTreeSet::new(alloc);
@@ -213,7 +228,9 @@ pub fn read_lines<'a, L: PlanLine<'a>>(
         let Some(asked) = L::read(line, terms) else {
             return Err(PlanFault::Line(number));
         };
-        if !outputs.insert(asked.output())? {
+        let path = asked.output();
+        let is_new = outputs.insert(path)?;
+        if !may_stand::<L>(path, is_new) {
             return Err(PlanFault::Line(number));
         }
         if lines.len() < most {
@@ -252,9 +269,9 @@ pub fn read_plan<'a, L: PlanLine<'a>>(
     terms: L::Terms,
     most: usize,
 ) -> Result<Plan<L>, PlanFault>
-    ensures lines { IfOk result (λ plan. AreLines (L.says terms) L.output_of most text.now plan.lines.items) }
+    ensures lines { IfOk result (λ plan. AreLines (L.says terms) L.output_of L.shared most text.now plan.lines.items) }
     ensures programs { IfOk result (λ plan. AllZip (IsCompiled L.expression_of L.snap_of) plan.lines.items plan.programs.items) }
-    ensures fault { IfErr result (λ fault. IsRefusedPlan (L.says terms) L.output_of L.expression_of L.snap_of most text.now fault) }
+    ensures fault { IfErr result (λ fault. IsRefusedPlan (L.says terms) L.output_of L.shared L.expression_of L.snap_of most text.now fault) }
     // What follows of `programs`, for callers that pair them.
     ensures all { IfOk result (λ plan. length plan.programs.items ≡ length plan.lines.items) }
 {

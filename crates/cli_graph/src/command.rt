@@ -1,14 +1,16 @@
 //! `bpftap check --dot`, over files.
 
-use crate::paths::check_paths;
 use crate::run::run_of;
 use bpfvm::Program;
+use cli_answers::asked::check_read;
 use cli_args::check::GraphWords;
+use cli_files::paths::report_path;
 use cli_filter::{program_of_expression, program_of_file};
 use cli_report::HintSink;
 use cli_report::failures::hint_unprinted;
+use cli_store::DiskFiles;
 use cli_text::Status;
-use cli_watch::Screen;
+use cli_watch::{Screen, Watch};
 use fault_report::reporting::{report_memory, report_output};
 use line_text::sending::send;
 use program_graph::write_graph;
@@ -24,6 +26,24 @@ fn read_program<R: Files + AllocGlobal, E: HintSink>(
     match words.listing {
         Some(path) => program_of_file(rt, path, err),
         None => program_of_expression(rt, words.expr, words.snap, err),
+    }
+}
+
+/// Refuses, with a line on `err`, a file that is read if standard output goes to it.
+fn check_paths<R: Files + AllocGlobal + Screen, E: HintSink>(
+    rt: &R,
+    words: &GraphWords<'_>,
+    err: &mut E,
+) -> Result<(), Status> {
+    let watch = Watch::new(rt, &[], false);
+    let mut files = DiskFiles::new(rt, &watch);
+    let checked = match words.packet {
+        Some(packet) => check_read(&mut files, words.listing, &[packet.input]),
+        None => check_read(&mut files, words.listing, &[]),
+    };
+    match checked {
+        Ok(()) => Ok(()),
+        Err(fault) => Err(report_path(&fault, err)),
     }
 }
 

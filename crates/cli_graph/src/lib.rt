@@ -2,5 +2,4 @@
 #![tactic(auto)]
 
 pub mod command;
-mod paths;
 mod run;

@@ -6,13 +6,19 @@ use crate::stream::{HintSink, give_hint};
 use std::convert::AsStr;
 
 /// How to do what commands of other tools do, by the name that one may try.
-static WAYS: [(&str, &str); 23] = [
+static WAYS: [(&str, &str); 29] = [
     ("count", COUNTS),
     (
         "filter",
         "to keep what a filter accepts: bpftap cut -s 0 -e EXPR IN OUT",
     ),
-    ("read", "to look at packets: bpftap explain -e EXPR IN"),
+    (
+        "extract",
+        "to keep what a filter accepts: bpftap cut -s 0 -e EXPR IN OUT",
+    ),
+    ("read", LOOK),
+    ("grep", LOOK),
+    ("why", LOOK),
     (
         "merge",
         "to merge by time: mergecap -F nsecpcap -w OUT IN.., and then bpftap cut",
@@ -27,10 +33,7 @@ static WAYS: [(&str, &str); 23] = [
     ("print", PRINT),
     ("show", PRINT),
     ("dump", PRINT),
-    (
-        "hexdump",
-        "to print the bytes of a packet: bpftap explain -p PLACE -e '' IN",
-    ),
+    ("hexdump", BYTES),
     (
         "diff",
         "to compare two filters: bpftap compare EXPR1 EXPR2 IN",
@@ -50,14 +53,29 @@ static WAYS: [(&str, &str); 23] = [
     ("stats", CONTENTS),
     ("summary", CONTENTS),
     ("capinfos", CONTENTS),
+    ("list", CONTENTS),
     ("count-packets", CONTENTS),
+    ("top", TALKERS),
+    ("talkers", TALKERS),
 ];
+
+/// How to look at packets.
+const LOOK: &str = "to look at packets: bpftap explain -e EXPR IN";
+
+/// How to see which hosts send most.
+const TALKERS: &str = "who talks most: tshark -r IN -q -z conv,ip";
 
 /// How to count packets.
 const COUNTS: &str = "to count packets: bpftap explain -c -e EXPR IN";
 
 /// How to print what captures have.
 const CONTENTS: &str = "what captures have: bpftap info IN";
+
+/// How to print the bytes of a packet.
+const BYTES: &str = "to print the bytes of a packet: bpftap explain -p PLACE -e '' IN";
+
+/// How the capture that is written is given.
+const OUT_IS_A_WORD: &str = "OUT is the word after IN, or that of -w";
 
 /// How to print packets.
 const PRINT: &str = "to print packets: tcpdump -nr IN";
@@ -70,7 +88,7 @@ const COMPLETIONS: &str =
     "completions for bash, zsh and fish are files: ./install puts them where shells look for them";
 
 /// How to do what options of other tools do.
-static OPTION_WAYS: [(&str, &str); 13] = [
+static OPTION_WAYS: [(&str, &str); 17] = [
     (
         "-F",
         "to read an expression from a file: -e \"$(cat FILE)\", or for check \"$(cat FILE)\"",
@@ -87,6 +105,10 @@ static OPTION_WAYS: [(&str, &str); 13] = [
     ("-i", "to capture: tcpdump -i INTERFACE -w OUT"),
     ("-y", "captures are of Ethernet here: leave this option out"),
     ("-c", COUNTS),
+    ("--count", COUNTS),
+    ("-X", BYTES),
+    ("-o", OUT_IS_A_WORD),
+    ("--output", OUT_IS_A_WORD),
     (
         "-l",
         "to name the captures that have such a packet: bpftap explain -l -e EXPR IN",
@@ -129,30 +151,59 @@ fn command_of<S: AsStr>(words: &[S]) -> Option<&str> {
 
 /// How to do what the name of a command that there is not stands for in other tools, if that is known; the program's name comes first.
 pub fn command_way<S: AsStr>(words: &[S]) -> Option<&'static str> {
-    way_of(&WAYS, command_of(words)?)
+    let command = command_of(words)?;
+    if is_capture_name(&command) {
+        return Some("a command comes first: bpftap info IN, bpftap explain -e EXPR IN");
+    }
+    way_of(&WAYS, command)
 }
 
-/// Whether these are arguments of a command that has this option itself.
+/// Whether these are arguments of a command that has this option itself, or of one to which it means nothing.
 fn takes_option<S: AsStr>(words: &[S], option: &str) -> bool {
     matches!(
         (command_of(words), option),
-        (Some("compare" | "cut"), "-w") | (Some("cut" | "explain"), "-c") | (Some("explain"), "-l")
+        (Some("compare" | "cut"), "-w")
+            | (Some("cut" | "explain"), "-c")
+            | (Some("explain"), "-l")
+            | (Some("info"), "-v")
+            | (Some("cut" | "split"), "-o")
     )
 }
 
 /// How to do what an option of another tool, or of another command, does.
 fn way_of_option<S: AsStr>(words: &[S], option: &str) -> Option<&'static str> {
-    if command_of(words) == Some("split") && option == "-e" {
-        Some(FILTERS_OF_SPLIT)
-    } else if takes_option(words, option) {
-        None
-    } else {
-        way_of(&OPTION_WAYS, option)
+    match (command_of(words), option) {
+        (Some("split"), "-e") => Some(FILTERS_OF_SPLIT),
+        (Some("compare"), "-e") => Some("compare takes its expressions as words, without -e"),
+        _ if takes_option(words, option) => None,
+        _ => way_of(&OPTION_WAYS, option),
     }
+}
+
+/// Whether an option comes where the command does.
+fn lacks_command<S: AsStr>(words: &[S]) -> bool {
+    match command_of(words) {
+        Some(word) => way_of(&OPTION_WAYS, word).is_some() || word == "-e" || word == "-f",
+        None => false,
+    }
+}
+
+/// Whether the name of a capture follows an option `-i` or `-o`.
+fn gives_capture<S: AsStr>(words: &[S], option: &str) -> bool {
+    words.windows(2).any(|pair| match pair {
+        [first, second] => first.as_str() == option && is_capture_name(second),
+        _ => false,
+    })
 }
 
 /// How to do what the first of the arguments does that is such an option.
 fn option_way<S: AsStr>(words: &[S]) -> Option<&'static str> {
+    if lacks_command(words) {
+        return Some("a command comes first: bpftap explain -e EXPR IN");
+    }
+    if gives_capture(words, "-i") {
+        return Some(WITHOUT_OPTION);
+    }
     for word in words {
         if let Some(way) = way_of_option(words, word.as_str()) {
             return Some(way);
@@ -194,7 +245,8 @@ fn hint_missing_of_cut<S: AsStr, E: HintSink>(words: &[S], err: &mut E)
     }
 }
 
-/// A hint on arguments of which one is missing: of `cut` the snapshot length, or OUT where packets are only counted; of `explain` the filter.
+/// A hint on arguments of which one is missing: of `cut` the snapshot length, or OUT where packets are only counted; of `explain` the filter,
+/// or IN.
 pub fn hint_missing<S: AsStr, E: HintSink>(words: &[S], err: &mut E)
     ensures quiet { E.takes_hints err.old ≡ false → err.new ≡ err.old }
 {
@@ -202,6 +254,18 @@ pub fn hint_missing<S: AsStr, E: HintSink>(words: &[S], err: &mut E)
         hint_missing_of_cut(words, err)
     } else if lacks_filter(words) {
         give_hint(every_packet(words), err)
+    } else if lacks_capture(words) {
+        give_hint("IN is missing: the name of a capture, or /dev/stdin", err)
+    }
+}
+
+/// Whether these are arguments of `explain` with a filter, or of `info`, and without a capture.
+fn lacks_capture<S: AsStr>(words: &[S]) -> bool {
+    let has_filter = has_word(words, "-e") || has_word(words, "-f");
+    match command_of(words) {
+        Some("explain") => has_filter && !words.iter().any(is_capture_name),
+        Some("info") => true,
+        _ => false,
     }
 }
 
@@ -248,21 +312,19 @@ fn counts_by_number<S: AsStr>(words: &[S]) -> bool {
     })
 }
 
-/// Whether these are arguments of a command whose first file has lines, and that file's name is such a line: a number, and more after a blank.
-fn gives_line<S: AsStr>(words: &[S]) -> bool {
-    let has_lines = matches!(command_of(words), Some("steps" | "split" | "run"));
-    let name = match words.get(2) {
-        Some(word) => word.as_str(),
-        None => "",
-    };
-    match name.split_once(" ") {
-        Some((first, _)) => has_lines && is_number(first),
-        None => false,
+/// What is said of the name of a file of lines that is such a line, or an expression: a name with a blank in it.
+fn line_way<S: AsStr>(words: &[S]) -> Option<&'static str> {
+    let command = command_of(words)?;
+    let (first, _) = words.get(2)?.as_str().split_once(" ")?;
+    match command {
+        "steps" | "split" | "run" if is_number(first) => Some("this is a line: put it into a file"),
+        "split" => Some("LINES is a file, of which each line is SNAP OUT EXPRESSION"),
+        _ => None,
     }
 }
 
-/// Hints on arguments with which a command failed to open a file: a `-` that was meant as a stream, a number after the `-c` of `cut`, or
-/// a line in place of a file that has it.
+/// Hints on arguments with which a command failed to open a file: a `-` that was meant as a stream, a number after `-c`, or a line or an
+/// expression in place of a file of lines.
 pub fn hint_failed_words<S: AsStr, E: HintSink>(words: &[S], err: &mut E)
     ensures quiet { E.takes_hints err.old ≡ false → err.new ≡ err.old }
 {
@@ -272,12 +334,12 @@ pub fn hint_failed_words<S: AsStr, E: HintSink>(words: &[S], err: &mut E)
             err,
         );
     }
-    if is_cut(words) && counts_by_number(words) {
+    if (is_cut(words) || command_of(words) == Some("explain")) && counts_by_number(words) {
         give_hint("-c takes no number: it counts packets", err);
         give_hint(FIRST_PACKETS, err);
     }
-    if gives_line(words) {
-        give_hint("this is a line: put it into a file", err);
+    if let Some(hint) = line_way(words) {
+        give_hint(hint, err);
     }
 }
 

@@ -50,7 +50,7 @@ bad-nowhere interfaces before behind line all said each own good bad =
     let found = bad cut.own cut.is in
     let here = same-outputs interfaces before said cut.front good cut.each found.0 found.1 found.2 in
     let place : length cut.front < length (cut.front ++ cut.own ∷ cut.rest) = omega (arith, length-append cut.front (cut.own ∷ cut.rest)) in
-    subst HaveOwnOutputs cut.whole own found.0 (length cut.front) found.1 here.0 place
+    subst HaveOwnOutputs cut.whole own found.0 (length cut.front) found.1 here.0 place refl
     (ap (λ (x : RunLine). x.output.now) (get_or_append_left cut.front (cut.own ∷ cut.rest) found.1 found.0 here.0)
     ∙ sym here.1 ∙ ap (λ (x : RunLine). x.output.now) found.3 ∙ found.4
     ∙ sym (ap (λ (x : RunLine). x.output.now) (get_or-append_seam cut.front cut.own cut.rest found.1)))
@@ -58,7 +58,7 @@ bad-nowhere interfaces before behind line all said each own good bad =
 pub none_bad : NoneIsBad
 none_bad interfaces text kept n right bad =
     bad-nowhere interfaces bad.before bad.behind bad.line right.0 bad.said (subst (λ (lines : List (List ℕ)). Say (IsRunLine interfaces) lines right.0) bad.lines right.1)
-    right.2 bad.good bad.bad
+    right.2 bad.good (λ x is. (bad.bad x is).1)
 
 -- of two cuts of a list that with the shorter front is one of the other's front
 cut-in : {X : Type 0} (a b : List X) (x y : X) (c d : List X) → a ++ x ∷ c ≡ b ++ y ∷ d → length a < length b → (e : List X) × (b ≡ a ++ x ∷ e)
@@ -76,7 +76,7 @@ not-before : (interfaces : ℕ) (text : List ℕ) (n m : ℕ) (one : IsFirstBadR
 not-before interfaces text n m one two shorter =
     let cut = cut-in one.before two.before one.line two.line one.behind two.behind (sym one.lines ∙ two.lines) shorter in
     bad-nowhere interfaces one.before cut.0 one.line two.said one.said (subst (λ (lines : List (List ℕ)). Say (IsRunLine interfaces) lines two.said) cut.1 two.good)
-    two.own one.good one.bad
+    two.own one.good (λ x is. (one.bad x is).1)
 
 pub first_bad_one : FirstBadIsOne
 first_bad_one interfaces text n m one two =

@@ -1,5 +1,5 @@
 -- The file LISTENERS.
-use Rattle.std.specs.Prelude.{◌≡◌, ℕ, ◌-◌, ◌^◌, ◌<◌, List, ◌∷◌, ◌++◌}
+use Rattle.std.specs.Prelude.{◌≡◌, ℕ, Bool, false, ◌-◌, ◌^◌, ◌<◌, List, ◌∷◌, ◌++◌}
 use Rattle.bpfvm.specs.Listing.{space, IsNumber}
 use Rattle.bpfvm.specs.declared.insn.Insn.{Insn}
 use Rattle.line_text.specs.Fields.{IsWord, IsSnap, IsCapacity}
@@ -44,17 +44,21 @@ expression_of line = line.expression.now
 abbrev pub snap_of : RunLine → ℕ
 snap_of line = line.snap
 
+-- no OUT may stand in several lines
+abbrev pub none_shared : List ℕ → Bool
+none_shared output = false
+
 -- no two have the same OUT
 abbrev pub HaveOwnOutputs : List RunLine → Type 0
-HaveOwnOutputs asked = plan.HaveOwnOutputs output_of asked
+HaveOwnOutputs asked = plan.HaveOwnOutputs output_of none_shared asked
 
 -- The lines of a text ask for listeners, each with an OUT of its own; of these the first 1,024 and one more are kept.
 abbrev pub AreRunLines : ℕ → List ℕ → List RunLine → Type 0
-AreRunLines interfaces text kept = plan.AreLines (IsRunLine interfaces) output_of 1025 text kept
+AreRunLines interfaces text kept = plan.AreLines (IsRunLine interfaces) output_of none_shared 1025 text kept
 
 -- the n-th line of a text, from 1, is the first that lacks the form, or has the OUT of an earlier line
 abbrev pub IsFirstBadRunLine : ℕ → List ℕ → ℕ → Type 0
-IsFirstBadRunLine interfaces text n = plan.IsFirstBadLine (IsRunLine interfaces) output_of text n
+IsFirstBadRunLine interfaces text n = plan.IsFirstBadLine (IsRunLine interfaces) output_of none_shared text n
 
 -- the program stands for a line's expression
 abbrev pub IsCompiled : RunLine → List Insn → Type 0
@@ -62,4 +66,4 @@ IsCompiled asked program = plan.IsCompiled expression_of snap_of asked program
 
 -- Why LISTENERS is not replayed: its first bad line; else its first expression that has no program; or out of memory.
 abbrev pub IsRefusedPlan : ℕ → List ℕ → PlanFault → Type 0
-IsRefusedPlan interfaces text fault = plan.IsRefusedPlan (IsRunLine interfaces) output_of expression_of snap_of 1025 text fault
+IsRefusedPlan interfaces text fault = plan.IsRefusedPlan (IsRunLine interfaces) output_of none_shared expression_of snap_of 1025 text fault

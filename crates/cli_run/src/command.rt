@@ -52,7 +52,6 @@ pub trait NamesFiles: Sized {
     /// The plan of LISTENERS with its files, once it is accepted and the paths are compared; or reports why it is refused.
     fn named_files<'w, 'r, 'i, 'o, E: HintSink>(
         &'r self,
-        alloc: Global,
         words: &RunWords<'i>,
         listeners: &'o [u8],
         watch: &'w Watch<'r, Self>,
@@ -63,12 +62,12 @@ pub trait NamesFiles: Sized {
 impl NamesFiles for HostRuntime {
     fn named_files<'w, 'r, 'i, 'o, E: HintSink>(
         &'r self,
-        alloc: Global,
         words: &RunWords<'i>,
         listeners: &'o [u8],
         watch: &'w Watch<'r, Self>,
         err: &mut E,
     ) -> Result<LateFiles<'w, 'r, 'i, 'o>, Status> {
+        let alloc = self.alloc();
         let plan = plan_of(alloc, listeners, words.inputs.len(), err)?;
         check_paths(self, alloc, words, plan.lines.as_slice(), err)?;
         match late_files(self, alloc, words, plan, watch) {
@@ -133,7 +132,7 @@ fn run_files<
     let alloc = rt.alloc();
     let listeners = read_text(rt, words.listeners, err)?;
     let watch = watch_of(rt, alloc, words, err)?;
-    let late = rt.named_files(alloc, words, listeners.as_slice(), &watch, err)?;
+    let late = rt.named_files(words, listeners.as_slice(), &watch, err)?;
     let mut out = output_buffer(alloc, &mut *out, err)?;
     let status = replay_files(rt, words, listeners.as_slice(), late, &mut out, err);
     hint_printed(out.get_ref(), err);

@@ -32,43 +32,44 @@ pub(crate) fn hint_refused<E: HintSink>(
             err,
         ),
         RunFault::Open(interface, listener, OpenFault::BadCapacity) => {
-            hint_unopened(alloc, listeners, interfaces, interface, listener, err);
+            if let Some(line) = line_of(alloc, listeners, interfaces, interface, listener) {
+                hint_unopened(&line, err);
+            }
         }
         _ => {}
     }
 }
 
-/// Hints on the listener, by its interface and its number there, that is not opened.
-fn hint_unopened<E: HintSink>(
+/// The line of the listener of this number of an interface.
+fn line_of<'p>(
     alloc: Global,
-    listeners: &[u8],
+    listeners: &'p [u8],
     interfaces: usize,
     interface: u32,
     listener: u32,
-    err: &mut E,
-) {
-    let lines: Result<Vec<RunLine<'_>>, PlanFault> = read_lines(
+) -> Option<RunLine<'p>> {
+    let lines: Result<Vec<RunLine<'p>>, PlanFault> = read_lines(
         alloc,
         listeners,
         interfaces,
         usize::MAX,
     );
-    let Ok(lines) = lines else {
-        return;
-    };
-    let found = lines
+    let lines = lines.ok()?;
+    let mut own = lines
         .iter()
-        .filter(|line| line.interface == interface as usize)
-        .nth(listener as usize);
-    if let Some(line) = found {
-        if line.spares < 1 || line.spares > MAX_SPARES {
-            give_hint(
-                format_args!("SPARES is 1 to {MAX_SPARES}, not {}", line.spares),
-                err,
-            );
-        } else {
-            hint_capacity(line.snap, line.capacity, err);
-        }
+        .filter(|line| line.interface == interface as usize);
+    own.nth(listener as usize).copied()
+}
+
+/// Hints on the line of a listener that is not opened.
+fn hint_unopened<E: HintSink>(line: &RunLine<'_>, err: &mut E) {
+    if line.spares < 1 || line.spares > MAX_SPARES {
+        give_hint(
+            format_args!("SPARES is 1 to {MAX_SPARES}, not {}", line.spares),
+            err,
+        );
+    } else {
+        hint_capacity(line.snap, line.capacity, err);
     }
 }
 

@@ -2,7 +2,7 @@
 
 ghost use Rattle.std.specs.Prelude.{◌≡◌, ◌<◌, ℕ, List, All, IfErr, IfNone, IfOk, IfSome, codes, length};
 ghost use Rattle.std.specs.List.{AllZip};
-ghost use Rattle.cli_run.specs.Listeners.{AreNumbers, AreRunLines, IsCompiled, IsRefusedPlan, IsRunLine};
+ghost use Rattle.cli_run.specs.Listeners.{AreNumbers, AreRunLines, IsCompiled, IsRefusedPlan, IsRunLine, none_shared};
 
 use cli_filter::plan;
 use cli_filter::plan::{Plan, PlanFault, PlanFaultText, PlanLine, output_and_expression};
@@ -78,6 +78,8 @@ impl<'a> PlanLine<'a> for RunLine<'a> {
 
     ghost snap_of = { λ asked. asked.snap };
 
+    ghost shared = { none_shared };
+
     /// `INTERFACE FLUSH SNAP CAPACITY SPARES OUT EXPRESSION`. The first five are decimal: INTERFACE is one of those that there are,
     /// FLUSH has at most 32 bits, SNAP is at most 262,144, CAPACITY and SPARES have at most 64 bits. CAPACITY may have an `i` after its
     /// digits, for the mode Immediate.
@@ -114,6 +116,13 @@ impl<'a> PlanLine<'a> for RunLine<'a> {
 
     fn snap(&self) -> u32 {
         self.snap
+    }
+
+    /// Each listener writes a capture of its own.
+    fn is_shared(_output: &str) -> bool
+        ensures { result ≡ none_shared _output.now }
+    {
+        false
     }
 }
 

@@ -7,9 +7,9 @@ ghost use Rattle.std.specs.List.{AllZip};
 ghost use Rattle.cli_run.specs.Flushing.{AreFlushed, IsFlushed, bytes_of, packets_of};
 ghost use Rattle.cli_run.specs.Replaying.{PrintsRun};
 
-use crate::report::{print_reports, report_ends, run_status};
+use crate::report::{print_reports, report_named_ends, run_status};
+use cli_report::HintSink;
 use cli_text::Status;
-use fault_report::FaultSink;
 use fault_report::reporting::report_output;
 use line_text::LineForm;
 use replay_types::{InterfaceReport, ListenerReport, TaskEnd};
@@ -213,7 +213,7 @@ pub fn flush_all<R, W: Write + Drop>(reports: &mut [InterfaceReport<R, Output<W>
 
 /// Empties the buffers in front of all captures that are written, prints the reports, and reports that standard output failed, and each
 /// interface that did not end clean; its captures are at the paths of the same place. Returns the greatest status of all.
-pub fn report_flushed<R, W: Write + Drop, O: Write, E: FaultSink>(
+pub fn report_flushed<R, W: Write + Drop, O: Write, E: HintSink>(
     form: LineForm,
     inputs: &[Vec<&str>],
     reports: &mut [InterfaceReport<R, Output<W>>],
@@ -226,6 +226,6 @@ pub fn report_flushed<R, W: Write + Drop, O: Write, E: FaultSink>(
     flush_all(reports);
     let printed = print_reports(form, reports, out);
     let status = report_output(&printed, err);
-    let _ = report_ends(err.fault_form(), inputs, reports, err);
+    let _ = report_named_ends(inputs, reports, err);
     status.max(run_status(reports))
 }

@@ -5,3 +5,6 @@ pub mod Steps
 pub mod Planned
 pub mod Splits
 pub mod Printing
+pub mod Texts
+pub mod Openings
+pub mod Closings

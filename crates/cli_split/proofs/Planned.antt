@@ -10,7 +10,7 @@ use Rattle.cli_filter.specs.Plan.{AreLastFields}
 use Rattle.cli_filter.specs.declared.plan.PlanFault.{PlanFault}
 use Rattle.cli_filter.specs.declared.plan.PlanFault.TheVariants.{Line, Expression, TooMany, NoMemory}
 use Rattle.cli_filter.proofs.Fields.{fields_once}
-use Rattle.cli_split.specs.Lines.{AreSplitLines, HaveOwnOutputs, IsRefusedPlan, IsSplitLine}
+use Rattle.cli_split.specs.Lines.{AreSplitLines, HaveOwnOutputs, IsRefusedPlan, IsSplitLine, is_null}
 use Rattle.cli_split.specs.declared.plan.SplitLine.{SplitLine}
 
 -- a line without a space says nothing
@@ -35,19 +35,19 @@ module _ (line snap rest : List ℕ) (cut : line ≡ snap ++ space ∷ rest) (wo
       (fields_once rest other.output.now other.expression.now output expression (subst (λ (t : List ℕ). AreLastFields t other.output.now other.expression.now) one.1 is.last) are).0
 
 -- of at most 1,025 lines that are kept, no more than 1,024 are all that a text has
-pub all_few : (text : List ℕ) (kept : List SplitLine) → length kept ≤ 1024 → plan.AreLines IsSplitLine (λ line. line.output.now) 1025 text kept → AreSplitLines text kept
+pub all_few : (text : List ℕ) (kept : List SplitLine) → length kept ≤ 1024 → plan.AreLines IsSplitLine (λ line. line.output.now) is_null 1025 text kept → AreSplitLines text kept
 all_few text kept few are =
     let kept_is : length kept ≡ length (take 1025 are.0) = ap (λ (xs : List SplitLine). length xs) are.3 in
     let asked_few : length are.0 ≤ 1025 = omega (arith, few, kept_is, length-take 1025 are.0) in
     let all : are.0 ≡ kept = sym (are.3 ∙ take_all 1025 are.0 asked_few) in
     (subst (λ (xs : List SplitLine). IsFileOf IsSplitLine text xs) all are.1, subst (λ (xs : List SplitLine). HaveOwnOutputs xs) all are.2)
 
-pub too_many : (text : List ℕ) (kept : List SplitLine) → 1024 < length kept → plan.AreLines IsSplitLine (λ line. line.output.now) 1025 text kept → IsRefusedPlan text TooMany
+pub too_many : (text : List ℕ) (kept : List SplitLine) → 1024 < length kept → plan.AreLines IsSplitLine (λ line. line.output.now) is_null 1025 text kept → IsRefusedPlan text TooMany
 too_many text kept many are =
     let kept_is : length kept ≡ length (take 1025 are.0) = ap (λ (xs : List SplitLine). length xs) are.3 in
     (are.0, (are.1, are.2), omega (arith, many, kept_is, length-take 1025 are.0))
 
-pub unread : (text : List ℕ) (fault : PlanFault) → plan.AreNoLines IsSplitLine (λ line. line.output.now) text fault → IsRefusedPlan text fault
+pub unread : (text : List ℕ) (fault : PlanFault) → plan.AreNoLines IsSplitLine (λ line. line.output.now) is_null text fault → IsRefusedPlan text fault
 unread text (Line n) why = why
 unread text (Expression n fault) why = absurd why
 unread text TooMany why = absurd why

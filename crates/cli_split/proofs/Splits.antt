@@ -29,21 +29,21 @@ pub none-there : {X : Type 0} (xs : List X) → length xs ≡ 0 → xs ≡ []
 none-there [] none = refl
 none-there (x ∷ xs) none = absurd (omega (arith, none))
 
-module _ {R W : Type 0} (left : R → Option (List ℕ)) (broken : R → ℕ) (taken : W → Option (List ℕ)) (failures : W → ℕ) (captures : List R) (parts : List (Part W)) (order : Order) (unit : TimeUnit)
+module _ {R W : Type 0} (left : R → Option (List ℕ)) (broken : R → ℕ) (taken : W → Option (List ℕ)) (name : W → List ℕ) (failures : W → ℕ) (captures : List R) (parts : List (Part W)) (order : Order) (unit : TimeUnit)
     (sources : Vec R Global) (ends : Vec (PartEnd W) Global) where
   -- what a split gives back
   abbrev ending : Result (Unit {0}) Stop → SplitEnd R W
   ending stop = record { sources = sources; parts = ends; end = stop }
 
   -- there is no capture
-  pub no-capture : captures ≡ [] → sources.items ≡ [] → AllZip IsLeft parts ends.items → Splits left broken taken failures captures parts order unit (ending (Ok tt))
-  no-capture none back each = subst (λ cs. Splits left broken taken failures cs parts order unit (ending (Ok tt))) (sym none)
+  pub no-capture : captures ≡ [] → sources.items ≡ [] → AllZip IsLeft parts ends.items → Splits left broken taken name failures captures parts order unit (ending (Ok tt))
+  no-capture none back each = subst (λ cs. Splits left broken taken name failures cs parts order unit (ending (Ok tt))) (sym none)
       (record { packets = []; reads = subst (λ ts. ReadsAll left broken 0 0 [] ts [] (Ok tt)) (sym back) (refl, refl); writes = each })
 
   -- the header of the first one was not read
   pub unread-first : (s t : R) (rest : List R) (fault : Fault) → captures ≡ s ∷ rest → sources.items ≡ t ∷ rest → ReadsOne left broken s t 0 0 [] (Err (AtHeader zero fault))
-      → AllZip IsLeft parts ends.items → Splits left broken taken failures captures parts order unit (ending (Err (AtHeader zero fault)))
-  unread-first s t rest fault some back r each = subst (λ cs. Splits left broken taken failures cs parts order unit (ending (Err (AtHeader zero fault)))) (sym some)
+      → AllZip IsLeft parts ends.items → Splits left broken taken name failures captures parts order unit (ending (Err (AtHeader zero fault)))
+  unread-first s t rest fault some back r each = subst (λ cs. Splits left broken taken name failures cs parts order unit (ending (Err (AtHeader zero fault)))) (sym some)
       (record {
         packets = [];
         reads = subst (λ ts. ReadsAll left broken 0 0 (s ∷ rest) ts [] (Err (AtHeader zero fault))) (sym back) ([], [], refl, inr (AtHeader zero fault, refl, r, refl, refl));
@@ -52,6 +52,6 @@ module _ {R W : Type 0} (left : R → Option (List ℕ)) (broken : R → ℕ) (t
 
   -- it was read
   pub read-first : (s : R) (rest : List R) (stop : Result (Unit {0}) Stop) (packets : List Packet) → captures ≡ s ∷ rest → ReadsAll left broken (length packets) 0 (s ∷ rest) sources.items packets stop
-      → passes_header stop ≡ true → AllZip (IsWritten taken failures order unit packets) parts ends.items → Splits left broken taken failures captures parts order unit (ending stop)
-  read-first s rest stop packets some reads passes each = subst (λ cs. Splits left broken taken failures cs parts order unit (ending stop)) (sym some)
-      (record { packets = packets; reads = reads; writes = subst (λ b. WritesAll taken failures order unit packets b parts ends.items) (sym passes) each })
+      → passes_header stop ≡ true → AllZip (IsWritten taken name failures order unit packets) parts ends.items → Splits left broken taken name failures captures parts order unit (ending stop)
+  read-first s rest stop packets some reads passes each = subst (λ cs. Splits left broken taken name failures cs parts order unit (ending stop)) (sym some)
+      (record { packets = packets; reads = reads; writes = subst (λ b. WritesAll taken name failures order unit packets b parts ends.items) (sym passes) each })

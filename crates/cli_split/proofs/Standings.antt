@@ -43,12 +43,12 @@ none-counted program (Ok done) tally read written = record { read = read; writte
 none-counted program (Err fault) tally read written = tt
 
 -- a part that was begun
-pub stands-begun : {W : Type 0} (taken : W → Option (List ℕ)) (failures : W → ℕ) (order : Order) (unit : TimeUnit) (part : Part W) (outlet : Outlet W) (n : ℕ) →
+pub stands-begun : {W : Type 0} (taken : W → Option (List ℕ)) (name : W → List ℕ) (failures : W → ℕ) (order : Order) (unit : TimeUnit) (part : Part W) (outlet : Outlet W) (n : ℕ) →
     outlet.program ≡ part.program → outlet.snap ≡ n → n ≡ effective_snaplen part.snap → outlet.tally.read ≡ 0 → outlet.tally.written ≡ 0 →
     OnOk outlet.written (HasWritten taken (taken part.sink) order unit n [] outlet.writer) →
     OnErr outlet.written (HasWrittenPart taken (taken part.sink) order unit n [] outlet.writer) → IfErr outlet.written (λ why. why ≡ Device) →
-    ((outlet.written ≡ Err Device) ↔ (failures outlet.writer.sink ≢ failures part.sink)) → HasTaken taken failures order unit [] part outlet
-stands-begun taken failures order unit part outlet n program snap means read written ok err only broke = record {
+    ((outlet.written ≡ Err Device) ↔ (failures outlet.writer.sink ≢ failures part.sink)) → name outlet.writer.sink ≡ name part.sink → HasTaken taken name failures order unit [] part outlet
+stands-begun taken name failures order unit part outlet n program snap means read written ok err only broke named = record {
   program = program;
   snap = snap ∙ means;
   wrote = subst (λ (k : ℕ). Wrote taken (taken part.sink) order unit k (accepted part.program k []) outlet.written outlet.writer) means
@@ -58,17 +58,18 @@ stands-begun taken failures order unit part outlet n program snap means read wri
   read = omega (arith, read);
   written = omega (arith, written);
   broke = broke;
+  named = named;
 }
 
 -- a part that has failed stands behind one packet more as it did
-pub stands-failed : {W : Type 0} (taken : W → Option (List ℕ)) (failures : W → ℕ) (order : Order) (unit : TimeUnit) (packets : List Packet) (part : Part W) (outlet : Outlet W) (p : Packet) →
-    Growing → is_err outlet.written ≡ true → HasTaken taken failures order unit packets part outlet → HasTaken taken failures order unit (packets ++ p ∷ []) part outlet
-stands-failed taken failures order unit packets part outlet p growing failed stands = by_result outlet.written refl
+pub stands-failed : {W : Type 0} (taken : W → Option (List ℕ)) (name : W → List ℕ) (failures : W → ℕ) (order : Order) (unit : TimeUnit) (packets : List Packet) (part : Part W) (outlet : Outlet W) (p : Packet) →
+    Growing → is_err outlet.written ≡ true → HasTaken taken name failures order unit packets part outlet → HasTaken taken name failures order unit (packets ++ p ∷ []) part outlet
+stands-failed taken name failures order unit packets part outlet p growing failed stands = by_result outlet.written refl
   where
     snap : ℕ
     snap = effective_snaplen part.snap
 
-    by_result : (result : Result (Unit {0}) Fault) → outlet.written ≡ result → HasTaken taken failures order unit (packets ++ p ∷ []) part outlet
+    by_result : (result : Result (Unit {0}) Fault) → outlet.written ≡ result → HasTaken taken name failures order unit (packets ++ p ∷ []) part outlet
     by_result (Ok done) is = let sound : is_err outlet.written ≡ false = ap is_err is in let wrong : true ≡ false = sym failed ∙ sound in absurd cc
     by_result (Err fault) is = record {
       program = stands.program;
@@ -82,6 +83,7 @@ stands-failed taken failures order unit packets part outlet p growing failed sta
       read = omega (arith, stands.read, length-append packets (p ∷ []));
       written = stands.written;
       broke = stands.broke;
+      named = stands.named;
     }
 
 -- where all went well, this holds
@@ -99,15 +101,15 @@ tallied-written true old few = omega (arith, few)
 tallied-written false old few = omega (arith, few)
 
 -- a part that wrote one packet more, or failed at that
-pub stands-more : {W : Type 0} (taken : W → Option (List ℕ)) (failures : W → ℕ) (order : Order) (unit : TimeUnit) (packets : List Packet) (part : Part W) (old new : Outlet W) (p : Packet) →
+pub stands-more : {W : Type 0} (taken : W → Option (List ℕ)) (name : W → List ℕ) (failures : W → ℕ) (order : Order) (unit : TimeUnit) (packets : List Packet) (part : Part W) (old new : Outlet W) (p : Packet) →
     is_err old.written ≡ false → new.program ≡ old.program → new.snap ≡ old.snap → new.tally ≡ tallied (accepts old.program p) old.tally →
     ((start : Option (List ℕ)) (order : Order) (unit : TimeUnit) (head : ℕ) (before : List Packet) → HasWritten taken start order unit head before old.writer →
     Wrote taken start order unit head (before ++ accepted old.program old.snap (p ∷ [])) new.written new.writer) →
-    ((new.written ≡ Err Device) ↔ (failures new.writer.sink ≢ failures old.writer.sink)) →
-    HasTaken taken failures order unit packets part old → HasTaken taken failures order unit (packets ++ p ∷ []) part new
-stands-more taken failures order unit packets part old new p works program snap tally writes broke stands = by_result old.written refl
+    ((new.written ≡ Err Device) ↔ (failures new.writer.sink ≢ failures old.writer.sink)) → name new.writer.sink ≡ name old.writer.sink →
+    HasTaken taken name failures order unit packets part old → HasTaken taken name failures order unit (packets ++ p ∷ []) part new
+stands-more taken name failures order unit packets part old new p works program snap tally writes broke named stands = by_result old.written refl
   where
-    by_result : (result : Result (Unit {0}) Fault) → old.written ≡ result → HasTaken taken failures order unit (packets ++ p ∷ []) part new
+    by_result : (result : Result (Unit {0}) Fault) → old.written ≡ result → HasTaken taken name failures order unit (packets ++ p ∷ []) part new
     by_result (Err fault) is = let failed : is_err old.written ≡ true = ap is_err is in let wrong : true ≡ false = sym failed ∙ works in absurd cc
     by_result (Ok done) is =
         let n = effective_snaplen part.snap in
@@ -127,14 +129,15 @@ stands-more taken failures order unit packets part old new p works program snap 
           read = omega (arith, ap (λ (t : Tally). t.read) told, tallied-read (accepts part.program p) old.tally, stands.read, length-append packets (p ∷ []));
           written = subst (λ (t : Tally). t.written ≤ t.read) (sym told) (tallied-written (accepts part.program p) old.tally stands.written);
           broke = (λ e. let differs = broke.0 e in (λ same. differs (same ∙ sym sound)), λ differs. broke.1 (λ same. differs (same ∙ sound)));
+          named = named ∙ stands.named;
         }
 
 -- a part that was ended
-pub written-of : {W : Type 0} (taken : W → Option (List ℕ)) (failures : W → ℕ) (order : Order) (unit : TimeUnit) (packets : List Packet) (part : Part W) (outlet : Outlet W) (end : PartEnd W) →
+pub written-of : {W : Type 0} (taken : W → Option (List ℕ)) (name : W → List ℕ) (failures : W → ℕ) (order : Order) (unit : TimeUnit) (packets : List Packet) (part : Part W) (outlet : Outlet W) (end : PartEnd W) →
     end.sink ≡ outlet.writer.sink → end.sent ≡ outlet.writer.sent → end.tally ≡ outlet.tally → end.written ≡ outlet.written →
-    HasTaken taken failures order unit packets part outlet → IsWritten taken failures order unit packets part end
+    HasTaken taken name failures order unit packets part outlet → IsWritten taken name failures order unit packets part end
 unfolding cut_text
-written-of taken failures order unit packets part outlet end sink sent tally written stands = by_result end.written refl
+written-of taken name failures order unit packets part outlet end sink sent tally written stands = by_result end.written refl
   where
     n : ℕ
     n = effective_snaplen part.snap
@@ -152,13 +155,14 @@ written-of taken failures order unit packets part outlet end sink sent tally wri
     wrote : (result : Result (Unit {0}) Fault) → end.written ≡ result → Wrote taken (taken part.sink) order unit n (accepted part.program n packets) result outlet.writer
     wrote result is = subst (λ (r : Result (Unit {0}) Fault). Wrote taken (taken part.sink) order unit n (accepted part.program n packets) r outlet.writer) (sym written ∙ is) stands.wrote
 
-    by_result : (result : Result (Unit {0}) Fault) → end.written ≡ result → IsWritten taken failures order unit packets part end
+    by_result : (result : Result (Unit {0}) Fault) → end.written ≡ result → IsWritten taken name failures order unit packets part end
     by_result (Ok done) is = record {
       sent = encoded order unit n (accepted part.program n packets);
       took = took taken part.sink end.sink end.sent _ outlet.writer sink sent (wrote (Ok done) is).sent;
       text = subst (λ (r : Result (Unit {0}) Fault). IsSent (encoded order unit n (accepted part.program n packets)) (cut_text part.program part.snap order unit packets) r) (sym is) refl;
       counted = counted;
       broke = broke;
+      named = ap name sink ∙ stands.named;
     }
     by_result (Err fault) is =
         let (text, is_sent, begins, why) = wrote (Err fault) is in record {
@@ -167,6 +171,7 @@ written-of taken failures order unit packets part outlet end sink sent tally wri
           text = subst (λ (r : Result (Unit {0}) Fault). IsSent text (cut_text part.program part.snap order unit packets) r) (sym is) (begins, why);
           counted = counted;
           broke = broke;
+          named = ap name sink ∙ stands.named;
         }
 
 -- ---- A sink that hands on what it has gathered
@@ -182,11 +187,11 @@ flushed-wrote taken start order unit snap ps (Err fault) old new (order-stays, u
   why,
 )
 
-pub stands-flushed : {W : Type 0} (taken : W → Option (List ℕ)) (failures : W → ℕ) (order : Order) (unit : TimeUnit) (packets : List Packet) (part : Part W) (o : Outlet W) (w : Writer W) →
+pub stands-flushed : {W : Type 0} (taken : W → Option (List ℕ)) (name : W → List ℕ) (failures : W → ℕ) (order : Order) (unit : TimeUnit) (packets : List Packet) (part : Part W) (o : Outlet W) (w : Writer W) →
     (w.order ≡ o.writer.order) × (w.unit ≡ o.writer.unit) × (w.sent ≡ o.writer.sent) × (w.failed ≡ o.writer.failed) → Keeps (taken o.writer.sink) (taken w.sink) →
-    failures w.sink ≡ failures o.writer.sink → HasTaken taken failures order unit packets part o →
-    HasTaken taken failures order unit packets part (record { program = o.program; snap = o.snap; writer = w; tally = o.tally; written = o.written })
-stands-flushed taken failures order unit packets part o w same kept fails stands = record {
+    failures w.sink ≡ failures o.writer.sink → name w.sink ≡ name o.writer.sink → HasTaken taken name failures order unit packets part o →
+    HasTaken taken name failures order unit packets part (record { program = o.program; snap = o.snap; writer = w; tally = o.tally; written = o.written })
+stands-flushed taken name failures order unit packets part o w same kept fails named stands = record {
   program = stands.program;
   snap = stands.snap;
   wrote = flushed-wrote taken (taken part.sink) order unit _ _ o.written o.writer w same kept stands.wrote;
@@ -194,4 +199,5 @@ stands-flushed taken failures order unit packets part o w same kept fails stands
   read = stands.read;
   written = stands.written;
   broke = subst (λ n. (o.written ≡ Err Device) ↔ (n ≢ failures part.sink)) (sym fails) stands.broke;
+  named = named ∙ stands.named;
 }

@@ -13,30 +13,30 @@ use Rattle.cli_split.specs.Splitting.{passes_header}
 use Rattle.cli_split.specs.Standing.{GoesOn, HasParts, HasSplit}
 use Rattle.cli_split.proofs.Readings.{one-more, one-unread}
 
-module _ {R W : Type 0} (left : R → Option (List ℕ)) (broken : R → ℕ) (taken : W → Option (List ℕ)) (failures : W → ℕ) where
+module _ {R W : Type 0} (left : R → Option (List ℕ)) (broken : R → ℕ) (taken : W → Option (List ℕ)) (name : W → List ℕ) (failures : W → ℕ) where
   -- the n-th capture was read, where none before has ended the reading
   abbrev pub IsNext : R → R → ℕ → Splitter W → Splitter W → Result (Unit {0}) Stop → Result (Unit {0}) Stop → Type 0
   IsNext s t n old new end ended =
-      OnOk end ((these : List Packet) × ReadsOne left broken s t new.read n these ended × GoesOn taken failures these old new)
+      OnOk end ((these : List Packet) × ReadsOne left broken s t new.read n these ended × GoesOn taken name failures these old new)
       × OnErr end ((t ≡ s) × (ended ≡ end) × (new ≡ old))
 
   -- the parts go on
-  pub parts-on : (s t : R) (n : ℕ) (old new : Splitter W) (end ended : Result (Unit {0}) Stop) → IsNext s t n old new end ended → HasParts taken failures old → HasParts taken failures new
+  pub parts-on : (s t : R) (n : ℕ) (old new : Splitter W) (end ended : Result (Unit {0}) Stop) → IsNext s t n old new end ended → HasParts taken name failures old → HasParts taken name failures new
   parts-on s t n old new (Ok done) ended next (order, unit, packets, parts, has) = (order, unit, packets ++ next.0.0, parts, next.0.2 order unit packets parts has)
-  parts-on s t n old new (Err stop) ended next has = subst (λ w. HasParts taken failures w) (sym next.1.2) has
+  parts-on s t n old new (Err stop) ended next has = subst (λ w. HasParts taken name failures w) (sym next.1.2) has
 
   -- so does what was read
   pub reads-on : (order : Order) (unit : TimeUnit) (packets more : List Packet) (parts : List (Part W)) (all sources sources' : List R) (s t : R) (rest rest' : List R) (n : ℕ) (old new : Splitter W)
-      (end ended : Result (Unit {0}) Stop) → HasSplit taken failures order unit (packets ++ more) parts old → ReadsSoFar left broken all sources (length sources) rest (packets ++ more) end
+      (end ended : Result (Unit {0}) Stop) → HasSplit taken name failures order unit (packets ++ more) parts old → ReadsSoFar left broken all sources (length sources) rest (packets ++ more) end
       → rest ≡ s ∷ rest' → sources' ≡ sources ++ t ∷ [] → n ≡ length sources → IsNext s t n old new end ended
-      → (further : List Packet) × HasSplit taken failures order unit (packets ++ further) parts new × ReadsSoFar left broken all sources' (length sources') rest' (packets ++ further) ended
+      → (further : List Packet) × HasSplit taken name failures order unit (packets ++ further) parts new × ReadsSoFar left broken all sources' (length sources') rest' (packets ++ further) ended
   reads-on order unit packets more parts all sources sources' s t rest rest' n old new (Ok done) ended has so taken-out given here next =
       let these = next.0.0 in
-      let now : HasSplit taken failures order unit ((packets ++ more) ++ these) parts new = next.0.2 order unit (packets ++ more) parts has in
+      let now : HasSplit taken name failures order unit ((packets ++ more) ++ these) parts new = next.0.2 order unit (packets ++ more) parts has in
       let joined = append_assoc packets more these in
       let longer : length sources + 1 ≡ length sources' = sym (ap length given ∙ length-append sources (t ∷ [])) in (
         more ++ these,
-        subst (λ ps. HasSplit taken failures order unit ps parts new) joined now,
+        subst (λ ps. HasSplit taken name failures order unit ps parts new) joined now,
         subst (λ ps. ReadsSoFar left broken all sources' (length sources') rest' ps ended) joined
             (subst (λ k. ReadsSoFar left broken all sources' k rest' ((packets ++ more) ++ these) ended) longer
             (subst (λ ts. ReadsSoFar left broken all ts (length sources + 1) rest' ((packets ++ more) ++ these) ended) (sym given)
@@ -46,7 +46,7 @@ module _ {R W : Type 0} (left : R → Option (List ℕ)) (broken : R → ℕ) (t
       )
   reads-on order unit packets more parts all sources sources' s t rest rest' n old new (Err stop) ended has so taken-out given here next = (
     more,
-    subst (λ w. HasSplit taken failures order unit (packets ++ more) parts w) (sym next.1.2) has,
+    subst (λ w. HasSplit taken name failures order unit (packets ++ more) parts w) (sym next.1.2) has,
     subst (λ e. ReadsSoFar left broken all sources' (length sources') rest' (packets ++ more) e) (sym next.1.1)
         (subst (λ ts. ReadsSoFar left broken all ts (length sources') rest' (packets ++ more) (Err stop)) (sym (given ∙ ap (λ x. sources ++ x ∷ []) next.1.0))
         (one-unread left broken all sources (length sources) (length sources') s rest' (packets ++ more) stop

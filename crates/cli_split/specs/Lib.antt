@@ -5,3 +5,6 @@ pub mod Splitting
 pub mod Lines
 pub mod Printed
 pub mod Statuses
+pub mod Texts
+pub mod Opened
+pub mod Closed

@@ -1,5 +1,5 @@
 -- The file LINES.
-use Rattle.std.specs.Prelude.{◌≡◌, ℕ, ◌<◌, List, ◌∷◌, ◌++◌, length}
+use Rattle.std.specs.Prelude.{◌≡◌, ℕ, ◌<◌, Bool, List, ◌∷◌, ◌++◌, length, codes, bytes_eq}
 use Rattle.bpfvm.specs.Listing.{space}
 use Rattle.bpfvm.specs.declared.insn.Insn.{Insn}
 use Rattle.line_text.specs.Fields.{IsWord, IsSnap}
@@ -19,17 +19,21 @@ pub record IsSplitLine (line : List ℕ) (asked : SplitLine) : Type 0 where
   pub snap_is : IsSnap snap asked.snap
   pub last : AreLastFields rest asked.output.now asked.expression.now
 
--- no two have the same OUT
-abbrev pub HaveOwnOutputs : List SplitLine → Type 0
-HaveOwnOutputs asked = plan.HaveOwnOutputs (λ (line : SplitLine). line.output.now) asked
+-- OUT is `/dev/null`, which keeps nothing
+abbrev pub is_null : List ℕ → Bool
+is_null output = bytes_eq output (codes "/dev/null")
 
--- The lines of a text ask for captures, each with an OUT of its own.
+-- no two have the same OUT, but for `/dev/null`
+abbrev pub HaveOwnOutputs : List SplitLine → Type 0
+HaveOwnOutputs asked = plan.HaveOwnOutputs (λ (line : SplitLine). line.output.now) is_null asked
+
+-- The lines of a text ask for captures, each with an OUT of its own, or with `/dev/null`.
 abbrev pub AreSplitLines : List ℕ → List SplitLine → Type 0
 AreSplitLines text asked = IsFileOf IsSplitLine text asked × HaveOwnOutputs asked
 
--- the n-th line of a text, from 1, is the first that lacks the form, or has the OUT of an earlier line
+-- the n-th line of a text, from 1, is the first that lacks the form, or has the OUT of an earlier line and not `/dev/null`
 abbrev pub IsFirstBadLine : List ℕ → ℕ → Type 0
-IsFirstBadLine text n = plan.IsFirstBadLine IsSplitLine (λ line. line.output.now) text n
+IsFirstBadLine text n = plan.IsFirstBadLine IsSplitLine (λ line. line.output.now) is_null text n
 
 -- the program stands for a line's expression
 abbrev pub IsCompiled : SplitLine → List Insn → Type 0

@@ -16,7 +16,7 @@ use Rattle.cli_split.specs.declared.split.Splitter.{Splitter}
 use Rattle.cli_split.specs.Writing.{IsWritten}
 
 -- Its writer wrote what it accepts of them, or failed at that, and it counted them.
-pub record HasTaken {W : Type 0} (taken : W → Option (List ℕ)) (failures : W → ℕ) (order : Order) (unit : TimeUnit) (packets : List Packet) (part : Part W) (outlet : Outlet W) : Type 0 where
+pub record HasTaken {W : Type 0} (taken : W → Option (List ℕ)) (name : W → List ℕ) (failures : W → ℕ) (order : Order) (unit : TimeUnit) (packets : List Packet) (part : Part W) (outlet : Outlet W) : Type 0 where
   pub program : outlet.program ≡ part.program
   pub snap : outlet.snap ≡ effective_snaplen part.snap
   pub wrote : Wrote taken (taken part.sink) order unit (effective_snaplen part.snap) (accepted part.program (effective_snaplen part.snap) packets) outlet.written outlet.writer
@@ -24,31 +24,32 @@ pub record HasTaken {W : Type 0} (taken : W → Option (List ℕ)) (failures : W
   pub read : outlet.tally.read ≤ length packets
   pub written : outlet.tally.written ≤ outlet.tally.read
   pub broke : (outlet.written ≡ Err Device) ↔ (failures outlet.writer.sink ≢ failures part.sink)
+  pub named : name outlet.writer.sink ≡ name part.sink
 
 -- It was given one packet more.
-abbrev pub IsGiven : {W : Type 0} → (W → Option (List ℕ)) → (W → ℕ) → Packet → Outlet W → Outlet W → Type 0
-IsGiven {W} taken failures p old new =
+abbrev pub IsGiven : {W : Type 0} → (W → Option (List ℕ)) → (W → List ℕ) → (W → ℕ) → Packet → Outlet W → Outlet W → Type 0
+IsGiven {W} taken name failures p old new =
     (order : Order) (unit : TimeUnit) (packets : List Packet) (part : Part W)
-    → HasTaken taken failures order unit packets part old → HasTaken taken failures order unit (packets ++ p ∷ []) part new
+    → HasTaken taken name failures order unit packets part old → HasTaken taken name failures order unit (packets ++ p ∷ []) part new
 
 -- This many packets were read, and each part is in its state after them.
-abbrev pub HasSplit : {W : Type 0} → (W → Option (List ℕ)) → (W → ℕ) → Order → TimeUnit → List Packet → List (Part W) → Splitter W → Type 0
-HasSplit taken failures order unit packets parts splitter =
-    (splitter.read ≡ length packets) × (splitter.read < 2 ^ 64) × AllZip (HasTaken taken failures order unit packets) parts splitter.outlets.items
+abbrev pub HasSplit : {W : Type 0} → (W → Option (List ℕ)) → (W → List ℕ) → (W → ℕ) → Order → TimeUnit → List Packet → List (Part W) → Splitter W → Type 0
+HasSplit taken name failures order unit packets parts splitter =
+    (splitter.read ≡ length packets) × (splitter.read < 2 ^ 64) × AllZip (HasTaken taken name failures order unit packets) parts splitter.outlets.items
 
 -- the same, of some packets and parts
-abbrev pub HasParts : {W : Type 0} → (W → Option (List ℕ)) → (W → ℕ) → Splitter W → Type 0
-HasParts {W} taken failures splitter =
-    (order : Order) × (unit : TimeUnit) × (packets : List Packet) × (parts : List (Part W)) × HasSplit taken failures order unit packets parts splitter
+abbrev pub HasParts : {W : Type 0} → (W → Option (List ℕ)) → (W → List ℕ) → (W → ℕ) → Splitter W → Type 0
+HasParts {W} taken name failures splitter =
+    (order : Order) × (unit : TimeUnit) × (packets : List Packet) × (parts : List (Part W)) × HasSplit taken name failures order unit packets parts splitter
 
 -- these packets more were given to all
-abbrev pub GoesOn : {W : Type 0} → (W → Option (List ℕ)) → (W → ℕ) → List Packet → Splitter W → Splitter W → Type 0
-GoesOn {W} taken failures packets old new =
+abbrev pub GoesOn : {W : Type 0} → (W → Option (List ℕ)) → (W → List ℕ) → (W → ℕ) → List Packet → Splitter W → Splitter W → Type 0
+GoesOn {W} taken name failures packets old new =
     (order : Order) (unit : TimeUnit) (before : List Packet) (parts : List (Part W))
-    → HasSplit taken failures order unit before parts old → HasSplit taken failures order unit (before ++ packets) parts new
+    → HasSplit taken name failures order unit before parts old → HasSplit taken name failures order unit (before ++ packets) parts new
 
 -- A part that stood so was ended so.
-abbrev pub IsEndOf : {W : Type 0} → (W → Option (List ℕ)) → (W → ℕ) → Outlet W → PartEnd W → Type 0
-IsEndOf {W} taken failures outlet end =
+abbrev pub IsEndOf : {W : Type 0} → (W → Option (List ℕ)) → (W → List ℕ) → (W → ℕ) → Outlet W → PartEnd W → Type 0
+IsEndOf {W} taken name failures outlet end =
     (order : Order) (unit : TimeUnit) (packets : List Packet) (part : Part W)
-    → HasTaken taken failures order unit packets part outlet → IsWritten taken failures order unit packets part end
+    → HasTaken taken name failures order unit packets part outlet → IsWritten taken name failures order unit packets part end

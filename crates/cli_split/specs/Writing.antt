@@ -17,12 +17,13 @@ IsSent sent text (Ok done) = sent ≡ text
 IsSent sent text (Err fault) = IsBeginning sent text × ((fault ≡ Device) ⊎ ((fault ≡ CountFull) × (2 ^ 64 ≤ length text)))
 
 -- The sink of a part took what a cut writes of these packets, or a beginning of it; where it took all, the packets were counted.
-pub record IsWritten {W : Type 0} (taken : W → Option (List ℕ)) (failures : W → ℕ) (order : Order) (unit : TimeUnit) (packets : List Packet) (part : Part W) (end : PartEnd W) : Type 0 where
+pub record IsWritten {W : Type 0} (taken : W → Option (List ℕ)) (name : W → List ℕ) (failures : W → ℕ) (order : Order) (unit : TimeUnit) (packets : List Packet) (part : Part W) (end : PartEnd W) : Type 0 where
   pub sent : List ℕ
   pub took : Took taken part.sink end.sink end.sent sent
   pub text : IsSent sent (cut_text part.program part.snap order unit packets) end.written
   pub counted : OnOk end.written (IsTally part.program packets end.tally)
   pub broke : (end.written ≡ Err Device) ↔ (failures end.sink ≢ failures part.sink)
+  pub named : name end.sink ≡ name part.sink
 
 -- The sink of a part is as it was.
 pub record IsLeft {W : Type 0} (part : Part W) (end : PartEnd W) : Type 0 where

@@ -1,10 +1,12 @@
 //! Hints on how `bpftap split` ended, below the lines of its faults.
 
+use crate::outcome::{ClosedEnd, ClosedPart};
 use crate::part::PartEnd;
 use crate::plan::SplitLine;
 use crate::split::{SplitEnd, Stop};
 use cli_report::HintSink;
 use cli_report::failures::{hint_failure, hint_source};
+use cli_report::files::hint_reason;
 use cli_report::probe::{ProbedInput, ProbedOutput};
 use cli_report::stream::give_hint;
 use cli_text::report::EscapedPath;
@@ -20,6 +22,31 @@ fn hint_part<W: Write + Drop, E: HintSink>(
     if part.written.is_err() {
         give_hint(format_args!("{}:", EscapedPath(line.output)), err);
         hint_failure(part.sink.inner.get_ref(), err);
+    }
+}
+
+/// Hints on a capture that was not written, which is closed.
+fn hint_closed<E: HintSink>(line: &SplitLine<'_>, part: &ClosedPart, err: &mut E) {
+    if part.written.is_err() {
+        give_hint(format_args!("{}:", EscapedPath(line.output)), err);
+        if let Some(error) = part.sink {
+            hint_reason(&error, err);
+        }
+    }
+}
+
+/// Hints on the captures that were not written, and on the one that ended the reading, where the files are closed.
+pub fn hint_ended<E: HintSink>(
+    inputs: &[&str],
+    lines: &[SplitLine<'_>],
+    end: &ClosedEnd,
+    err: &mut E,
+) {
+    for (line, part) in lines.iter().zip(end.parts.iter()) {
+        hint_closed(line, part, err);
+    }
+    if let Err(Stop::AtHeader(n, fault) | Stop::AtRecord(n, fault)) = end.end {
+        hint_source(inputs, end.sources.as_slice(), n, fault, err);
     }
 }
 

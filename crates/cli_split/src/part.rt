@@ -50,7 +50,7 @@ pub(crate) struct Outlet<W> {
 
 /// Begins a part: its header is written.
 fn begin<W: Sink>(part: Part<W>, order: Order, unit: Unit) -> Outlet<W>
-    ensures { HasTaken W.taken W.failures order unit [] part result }
+    ensures { HasTaken W.taken W.name W.failures order unit [] part result }
 {
     let Part {
         program,
@@ -76,7 +76,7 @@ pub(crate) fn begin_all<W: Sink + Drop>(
     outlets: &mut Vec<Outlet<W>>,
 )
     requires room { (length outlets.old.items ≡ 0) × (length parts.items ≤ vec_capacity outlets.old) }
-    ensures { AllZip (HasTaken W.taken W.failures order unit []) parts.items outlets.new.items }
+    ensures { AllZip (HasTaken W.taken W.name W.failures order unit []) parts.items outlets.new.items }
 {
     for part in parts {
         outlets.push_reserved(begin(part, order, unit));
@@ -87,8 +87,8 @@ pub(crate) fn begin_all<W: Sink + Drop>(
 fn give<W: Sink>(outlet: &mut Outlet<W>, packet: &PacketRef<'_>)
     requires writable { IsWritable packet.now }
     requires so_far { (order : Order) × (unit : Unit) × (packets : List Packet) × (part : Part W)
-        × HasTaken W.taken W.failures order unit packets part outlet.old × (length packets + 1 < 2 ^ 64) }
-    ensures { IsGiven W.taken W.failures packet.now outlet.old outlet.new }
+        × HasTaken W.taken W.name W.failures order unit packets part outlet.old × (length packets + 1 < 2 ^ 64) }
+    ensures { IsGiven W.taken W.name W.failures packet.now outlet.old outlet.new }
 {
     // What a failed part has written begins the text of more packets too.
     growing_text();
@@ -108,10 +108,10 @@ fn give<W: Sink>(outlet: &mut Outlet<W>, packet: &PacketRef<'_>)
 pub(crate) fn give_all<W: Sink>(outlets: &mut Vec<Outlet<W>>, packet: &PacketRef<'_>)
     requires writable { IsWritable packet.now }
     requires so_far { (order : Order) × (unit : Unit) × (packets : List Packet) × (parts : List (Part W))
-        × AllZip (HasTaken W.taken W.failures order unit packets) parts outlets.old.items × (length packets + 1 < 2 ^ 64) }
+        × AllZip (HasTaken W.taken W.name W.failures order unit packets) parts outlets.old.items × (length packets + 1 < 2 ^ 64) }
     ensures { (order : Order) (unit : Unit) (packets : List Packet) (parts : List (Part W)) →
-        AllZip (HasTaken W.taken W.failures order unit packets) parts outlets.old.items →
-        AllZip (HasTaken W.taken W.failures order unit (packets ++ packet.now ∷ [])) parts outlets.new.items }
+        AllZip (HasTaken W.taken W.name W.failures order unit packets) parts outlets.old.items →
+        AllZip (HasTaken W.taken W.name W.failures order unit (packets ++ packet.now ∷ [])) parts outlets.new.items }
 {
     for outlet in outlets.iter_mut() {
         give(outlet, packet);
@@ -121,7 +121,7 @@ pub(crate) fn give_all<W: Sink>(outlets: &mut Vec<Outlet<W>>, packet: &PacketRef
 /// Lets the sink of a part hand on what it has gathered.
 fn hand_on<W: Sink>(outlet: &mut Outlet<W>)
     ensures { (order : Order) (unit : Unit) (packets : List Packet) (part : Part W) →
-        HasTaken W.taken W.failures order unit packets part outlet.old → HasTaken W.taken W.failures order unit packets part outlet.new }
+        HasTaken W.taken W.name W.failures order unit packets part outlet.old → HasTaken W.taken W.name W.failures order unit packets part outlet.new }
 {
     outlet.writer.flush();
 }
@@ -129,8 +129,8 @@ fn hand_on<W: Sink>(outlet: &mut Outlet<W>)
 /// Lets the sinks of all parts hand on what they have gathered.
 pub(crate) fn hand_on_all<W: Sink>(outlets: &mut Vec<Outlet<W>>)
     ensures { (order : Order) (unit : Unit) (packets : List Packet) (parts : List (Part W)) →
-        AllZip (HasTaken W.taken W.failures order unit packets) parts outlets.old.items →
-        AllZip (HasTaken W.taken W.failures order unit packets) parts outlets.new.items }
+        AllZip (HasTaken W.taken W.name W.failures order unit packets) parts outlets.old.items →
+        AllZip (HasTaken W.taken W.name W.failures order unit packets) parts outlets.new.items }
 {
     for outlet in outlets.iter_mut() {
         hand_on(outlet);
@@ -139,7 +139,7 @@ pub(crate) fn hand_on_all<W: Sink>(outlets: &mut Vec<Outlet<W>>)
 
 /// Ends a part.
 fn close<W: Sink>(outlet: Outlet<W>) -> PartEnd<W>
-    ensures { IsEndOf W.taken W.failures outlet result }
+    ensures { IsEndOf W.taken W.name W.failures outlet result }
 {
     let Outlet {
         program: _,
@@ -163,7 +163,7 @@ pub(crate) fn close_all<W: Sink + Drop>(
     mut ends: Vec<PartEnd<W>>,
 ) -> Vec<PartEnd<W>>
     requires room { (length ends.items ≡ 0) × (length outlets.items ≤ vec_capacity ends) }
-    ensures { AllZip (IsEndOf W.taken W.failures) outlets.items result.items }
+    ensures { AllZip (IsEndOf W.taken W.name W.failures) outlets.items result.items }
 {
     for outlet in outlets {
         ends.push_reserved(close(outlet));

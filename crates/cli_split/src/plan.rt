@@ -2,7 +2,7 @@
 
 ghost use Rattle.std.specs.Prelude.{◌≡◌, ◌≤◌, IfErr, IfOk, codes, length};
 ghost use Rattle.std.specs.List.{AllZip};
-ghost use Rattle.cli_split.specs.Lines.{AreSplitLines, IsCompiled, IsRefusedPlan, IsSplitLine};
+ghost use Rattle.cli_split.specs.Lines.{AreSplitLines, IsCompiled, IsRefusedPlan, IsSplitLine, is_null};
 
 use cli_filter::plan::{
     Plan, PlanFault, PlanFaultText, PlanLine, compile_lines, output_and_expression, read_lines,
@@ -14,6 +14,16 @@ use std::alloc::Global;
 pub const MAX_LINES: usize = 1024;
 
 const _: () = prove!(MAX_LINES == 1024);
+
+/// The device that keeps nothing of what it takes.
+pub const NULL_DEVICE: &str = "/dev/null";
+
+/// Whether OUT is the null device.
+pub(crate) fn is_null(output: &str) -> bool
+    ensures { result ≡ is_null output.now }
+{
+    output == NULL_DEVICE
+}
 
 /// The capture that a line asks for.
 #[derive(Clone, Copy, Debug)]
@@ -36,6 +46,8 @@ impl<'a> PlanLine<'a> for SplitLine<'a> {
     ghost expression_of = { λ asked. asked.expression.now };
 
     ghost snap_of = { λ asked. asked.snap };
+
+    ghost shared = { is_null };
 
     /// `SNAP OUT EXPRESSION`: SNAP is decimal, at most 262,144, and 0 means that.
     fn read(line: &'a [u8], _terms: ()) -> Option<SplitLine<'a>> {
@@ -60,6 +72,13 @@ impl<'a> PlanLine<'a> for SplitLine<'a> {
     fn snap(&self) -> u32 {
         self.snap
     }
+
+    /// What is written to the null device is counted alone.
+    fn is_shared(output: &str) -> bool
+        ensures { result ≡ is_null output.now }
+    {
+        is_null(output)
+    }
 }
 
 /// The fault of LINES, as it is printed.
@@ -75,8 +94,8 @@ pub fn fault_text(fault: PlanFault) -> PlanFaultText
 
 /// Reads LINES, a capture on each line: `SNAP OUT EXPRESSION`; and compiles the expressions, each for its snapshot length.
 ///
-/// SNAP is decimal, at most 262,144. OUT has a byte at least and no space, and no other line has it. EXPRESSION is the rest of the
-/// line; if it is empty, the space before it may be missing. Both are UTF-8.
+/// SNAP is decimal, at most 262,144. OUT has a byte at least and no space, and no other line has it, unless it is
+/// [`NULL_DEVICE`]. EXPRESSION is the rest of the line; if it is empty, the space before it may be missing. Both are UTF-8.
 ///
 /// [`PlanFault::Line`] names the first line, from 1, that lacks this form; else [`PlanFault::TooMany`] says that there are more than
 /// [`MAX_LINES`], and then no expression is compiled; else [`PlanFault::Expression`] names the first line, from 0, whose expression has no

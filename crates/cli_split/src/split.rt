@@ -10,7 +10,7 @@ ghost use Rattle.savefile.specs.declared.packet.Packet.{Packet};
 ghost use Rattle.savefile.specs.Reader.{GoesOn as HasMore, HasGiven, HasRecord, IsCause, Lends, WasBegun, WasRead};
 ghost use Rattle.savefile.specs.Savefile.{IsWritable};
 ghost use Rattle.cli_split.specs.Reading.{GaveSo, HasOpened, ReadsOne, ReadsAll, ReadsSoFar, end_of};
-ghost use Rattle.cli_split.specs.Splitting.{Splits, passes_header};
+ghost use Rattle.cli_split.specs.Splitting.{HasRoom, Splits, passes_header};
 ghost use Rattle.cli_split.specs.Standing.{GoesOn, HasParts, HasSplit};
 ghost use Rattle.cli_split.specs.declared.part.Part.{Part};
 
@@ -77,7 +77,7 @@ impl<W: Sink> Splitter<W> {
         // What was written stays, and while a record waits nothing is handed on.
         ensures read { self.new.read ≡ self.old.read }
         ensures written { (order : Order) (unit : Unit) (packets : List Packet) (parts : List (Part W)) →
-            HasSplit W.taken W.failures order unit packets parts self.old → HasSplit W.taken W.failures order unit packets parts self.new }
+            HasSplit W.taken W.name W.failures order unit packets parts self.old → HasSplit W.taken W.name W.failures order unit packets parts self.new }
         ensures ahead { HasMore reader.old × (reader.old.given ≢ 2 ^ 64 - 1) × HasRecord reader.old.header reader.old.ahead → self.new ≡ self.old }
     {
         given_so_far(reader);
@@ -91,10 +91,10 @@ impl<W: Sink> Splitter<W> {
     /// Gives the packets of a capture to all parts, each before the next one is read.
     fn give_packets<R: Source>(&mut self, reader: &mut Reader<R>) -> Result<(), Fault>
         requires begun { (start : Option (List ℕ)) × (header : Header) × HasGiven R.left start header [] reader.old }
-        requires so_far { HasParts W.taken W.failures self.old }
+        requires so_far { HasParts W.taken W.name W.failures self.old }
         ensures gives { (start : Option (List ℕ)) (header : Header) → HasGiven R.left start header [] reader.old →
             (packets : List Packet) × GaveSo start (R.left reader.new.source) header self.new.read packets result
-            × GoesOn W.taken W.failures packets self.old self.new }
+            × GoesOn W.taken W.name W.failures packets self.old self.new }
         ensures taken { (bytes : List ℕ) × Consumes (R.left reader.old.source) (R.left reader.new.source) bytes }
         ensures broke { (result ≡ Err Fault.Device) ↔ (R.failures reader.new.source ≢ R.failures reader.old.source) }
     {
@@ -118,10 +118,10 @@ impl<W: Sink> Splitter<W> {
     /// Gives the packets of the n-th capture, whose header was read, and returns its source.
     fn give_opened<R: Source>(&mut self, n: usize, mut reader: Reader<R>) -> (R, Result<(), Stop>)
         requires opened { (from : R) × HasOpened R.left R.failures from reader }
-        requires so_far { HasParts W.taken W.failures self.old }
+        requires so_far { HasParts W.taken W.name W.failures self.old }
         ensures reads { (from : R) → HasOpened R.left R.failures from reader →
             (packets : List Packet) × ReadsOne R.left R.failures from result.0 self.new.read n packets result.1
-            × GoesOn W.taken W.failures packets self.old self.new }
+            × GoesOn W.taken W.name W.failures packets self.old self.new }
         ensures begun { passes_header result.1 ≡ true }
     {
         let given = self.give_packets(&mut reader);
@@ -136,9 +136,9 @@ impl<W: Sink> Splitter<W> {
         source: R,
         end: Result<(), Stop>,
     ) -> (R, Result<(), Stop>)
-        requires so_far { HasParts W.taken W.failures self.old }
+        requires so_far { HasParts W.taken W.name W.failures self.old }
         ensures reads { OnOk end ((packets : List Packet) × ReadsOne R.left R.failures source result.0 self.new.read n packets result.1
-            × GoesOn W.taken W.failures packets self.old self.new) }
+            × GoesOn W.taken W.name W.failures packets self.old self.new) }
         ensures unread { OnErr end ((result.0 ≡ source) × (result.1 ≡ end) × (self.new ≡ self.old)) }
     {
         if end.is_err() {
@@ -158,14 +158,14 @@ impl<W: Sink> Splitter<W> {
         mut sources: Vec<R>,
         first: Result<(), Stop>,
     ) -> (Vec<R>, Result<(), Stop>)
-        requires so_far { HasParts W.taken W.failures self.old }
+        requires so_far { HasParts W.taken W.name W.failures self.old }
         requires behind { 0 < length sources.items }
         requires room { length sources.items + length captures.items ≤ vec_capacity sources }
         ensures reads { (order : Order) (unit : Unit) (packets : List Packet) (parts : List (Part W)) (all : List R) →
-            HasSplit W.taken W.failures order unit packets parts self.old →
+            HasSplit W.taken W.name W.failures order unit packets parts self.old →
             ReadsSoFar R.left R.failures all sources.items (length sources.items) captures.items packets first →
             (more : List Packet) × ReadsAll R.left R.failures (length (packets ++ more)) 0 all result.0.items (packets ++ more) result.1
-            × HasSplit W.taken W.failures order unit (packets ++ more) parts self.new }
+            × HasSplit W.taken W.name W.failures order unit (packets ++ more) parts self.new }
         ensures begun { passes_header first ≡ true → passes_header result.1 ≡ true }
     {
         let mut end = first;
@@ -191,27 +191,23 @@ fn leave_captures<R: Drop>(captures: Vec<R>, mut sources: Vec<R>) -> Vec<R>
 
 /// The room for what a split writes and returns.
 #[derive(Drop)]
-struct Room<R, W> {
+pub struct Room<R, W> {
     sources: Vec<R>,
     outlets: Vec<Outlet<W>>,
     ends: Vec<PartEnd<W>>,
 }
 
-/// Reserves room for these numbers of captures and parts.
-fn room_for<R: Drop, W: Drop>(
-    alloc: Global,
-    captures: usize,
-    parts: usize,
-) -> Result<Room<R, W>, AllocError>
-    ensures sources { IfOk result (λ room. (room.sources.items ≡ []) × (captures ≤ vec_capacity room.sources)) }
-    ensures outlets { IfOk result (λ room. (length room.outlets.items ≡ 0) × (parts ≤ vec_capacity room.outlets)) }
-    ensures ends { IfOk result (λ room. (length room.ends.items ≡ 0) × (parts ≤ vec_capacity room.ends)) }
-{
-    Ok(Room {
-        sources: Vec::with_capacity(alloc, captures)?,
-        outlets: Vec::with_capacity(alloc, parts)?,
-        ends: Vec::with_capacity(alloc, parts)?,
-    })
+impl<R: Drop, W: Drop> Room<R, W> {
+    /// Room for so many captures and parts.
+    pub fn reserve(alloc: Global, captures: usize, parts: usize) -> Result<Room<R, W>, AllocError>
+        ensures { IfOk result (HasRoom captures parts) }
+    {
+        Ok(Room {
+            sources: Vec::with_capacity(alloc, captures)?,
+            outlets: Vec::with_capacity(alloc, parts)?,
+            ends: Vec::with_capacity(alloc, parts)?,
+        })
+    }
 }
 
 /// Splits the first capture, whose header was read, and the others.
@@ -224,13 +220,13 @@ fn split_opened<R: Source + Drop, W: Sink + Drop>(
     ends: Vec<PartEnd<W>>,
 ) -> SplitEnd<R, W>
     requires opened { (first : R) × HasOpened R.left R.failures first reader }
-    requires begun { (order : Order) × (unit : Unit) × (parts : List (Part W)) × HasSplit W.taken W.failures order unit [] parts splitter
+    requires begun { (order : Order) × (unit : Unit) × (parts : List (Part W)) × HasSplit W.taken W.name W.failures order unit [] parts splitter
         × (length parts ≤ vec_capacity ends) }
     requires sources { (sources.items ≡ []) × (length others.items + 1 ≤ vec_capacity sources) }
     requires ends { length ends.items ≡ 0 }
     ensures { (first : R) (order : Order) (unit : Unit) (parts : List (Part W)) → HasOpened R.left R.failures first reader →
-        HasSplit W.taken W.failures order unit [] parts splitter →
-        Splits R.left R.failures W.taken W.failures (first ∷ others.items) parts order unit result }
+        HasSplit W.taken W.name W.failures order unit [] parts splitter →
+        Splits R.left R.failures W.taken W.name W.failures (first ∷ others.items) parts order unit result }
 {
     let (source, end) = splitter.give_opened(0, reader);
     sources.push_reserved(source);
@@ -252,10 +248,8 @@ fn split_first<R: Source + Drop, W: Sink + Drop>(
     unit: Unit,
     room: Room<R, W>,
 ) -> SplitEnd<R, W>
-    requires sources { (room.sources.items ≡ []) × (length others.items + 1 ≤ vec_capacity room.sources) }
-    requires outlets { (length room.outlets.items ≡ 0) × (length parts.items ≤ vec_capacity room.outlets) }
-    requires ends { (length room.ends.items ≡ 0) × (length parts.items ≤ vec_capacity room.ends) }
-    ensures { Splits R.left R.failures W.taken W.failures (first ∷ others.items) parts.items order unit result }
+    requires room { HasRoom (length others.items + 1) (length parts.items) room }
+    ensures { Splits R.left R.failures W.taken W.name W.failures (first ∷ others.items) parts.items order unit result }
 {
     let Room {
         mut sources,
@@ -280,6 +274,30 @@ fn split_first<R: Source + Drop, W: Sink + Drop>(
     }
 }
 
+/// Splits captures as [`split`] does, with room that was reserved for them: so it asks for no memory but that of each capture's reader.
+pub fn split_in<R: Source + Drop, W: Sink + Drop>(
+    alloc: Global,
+    mut room: Room<R, W>,
+    mut captures: Vec<R>,
+    parts: Vec<Part<W>>,
+    order: Order,
+    unit: Unit,
+) -> SplitEnd<R, W>
+    requires room { HasRoom (length captures.items) (length parts.items) room }
+    ensures { Splits R.left R.failures W.taken W.name W.failures captures.items parts.items order unit result }
+{
+    if captures.is_empty() {
+        leave_all(parts, &mut room.ends);
+        return SplitEnd {
+            sources: room.sources,
+            parts: room.ends,
+            end: Ok(()),
+        };
+    }
+    let first = captures.remove(0);
+    split_first(alloc, first, captures, parts, order, unit, room)
+}
+
 /// Writes captures of the packets of others, in one pass. Each part gets the packets that its program accepts, cut, as a capture of its
 /// own: exactly the bytes that [`cut`](pcap_cut::cut::cut) would write of all captures, one after the other.
 ///
@@ -295,22 +313,13 @@ fn split_first<R: Source + Drop, W: Sink + Drop>(
 /// The error is that memory runs out before anything is read or written.
 pub fn split<R: Source + Drop, W: Sink + Drop>(
     alloc: Global,
-    mut captures: Vec<R>,
+    captures: Vec<R>,
     parts: Vec<Part<W>>,
     order: Order,
     unit: Unit,
 ) -> Result<SplitEnd<R, W>, AllocError>
-    ensures { IfOk result (λ end. Splits R.left R.failures W.taken W.failures captures.items parts.items order unit end) }
+    ensures { IfOk result (λ end. Splits R.left R.failures W.taken W.name W.failures captures.items parts.items order unit end) }
 {
-    let mut room = room_for(alloc, captures.len(), parts.len())?;
-    if captures.is_empty() {
-        leave_all(parts, &mut room.ends);
-        return Ok(SplitEnd {
-            sources: room.sources,
-            parts: room.ends,
-            end: Ok(()),
-        });
-    }
-    let first = captures.remove(0);
-    Ok(split_first(alloc, first, captures, parts, order, unit, room))
+    let room = Room::reserve(alloc, captures.len(), parts.len())?;
+    Ok(split_in(alloc, room, captures, parts, order, unit))
 }

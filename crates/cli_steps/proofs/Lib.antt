@@ -1,2 +1,5 @@
 mod Beyond
+mod Drawing
 mod Ending
+mod Asked
+mod Reasons

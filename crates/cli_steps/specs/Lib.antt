@@ -1,3 +1,4 @@
+pub mod FromFiles
 pub mod Playing
 pub mod Stepping
 pub mod Telling

@@ -1,202 +1,118 @@
-//! `bpftap steps`, over files.
+//! `bpftap steps`, over the files of the system, and what is reported of it.
 
-ghost use Rattle.std.specs.Prelude.{map};
-ghost use Rattle.cli_steps.specs.Playing.{is_explained, is_traced};
-ghost use Rattle.cli_steps.specs.Telling.{PrintsPlayed};
+ghost use Rattle.std.specs.Prelude.{◌≡◌, Ok};
+ghost use Rattle.cli_steps.specs.FromFiles.{IsDrawnStatus, IsRefusalStatus, IsStatusOf};
 
-use crate::hints::{hint_line, hint_replay};
-use crate::paths::{check_paths, read_captures};
-use crate::picture::draw;
-use crate::reported::{line_fault, report_played};
-use crate::steps::{Detail, Printing, Replayed, play_plan_in};
+use crate::files::steps_files;
+use crate::hints::{hint_line, hint_replay, hint_too_many};
+use crate::outcome::{PictureFault, StepsRefusal, StepsReport};
+use crate::reported::{line_fault, replay_fault, report_played};
 use cli_args::steps::StepsWords;
+use cli_files::paths::report_path;
 use cli_files::piped::Piped;
-use cli_files::reading::read_text;
+use cli_files::reading::{report_io, report_long_text};
 use cli_report::failures::hint_output;
 use cli_report::files::hint_returns;
 use cli_report::{FailureProbe, HintSink};
+use cli_store::DiskFiles;
 use cli_text::Status;
-use fault_report::reporting::{report_fault, report_memory};
-use line_text::LineForm;
-use std::alloc::{AllocError, Global};
+use cli_watch::{Screen, Watch};
+use fault_report::reporting::{report_device, report_fault, report_memory};
+use line_text::LineFault;
+use std::alloc::Global;
 use std::fs::Files;
-use std::io;
 use std::io::{BufWriter, Write};
-use tap_text::plan::{StepsPlan, read_plan};
+use tap::Fault;
 
 /// How many bytes of output are gathered before they are written.
 const OUTPUT_BUFFER: usize = 1 << 16;
 
-/// Plays a plan, and prints by pieces. It reports nothing: [`report_played`] does that.
-pub fn play<O: Write>(
-    alloc: Global,
-    printing: Printing,
-    plan: &StepsPlan,
-    captures: &[&[u8]],
-    out: &mut O,
-) -> (Status, Result<Replayed, tap::Fault>)
-    ensures { PrintsPlayed printing.form (is_explained printing.detail) (is_traced printing.detail)
-        (map (λ c. c.now) captures.now) plan.now.specs.items plan.now.steps.items
-        (O.contents out.old) (O.contents out.new) result.0 result.1 }
-{
-    let (outcome, replayed) = play_plan_in(alloc, printing, plan, captures, out, &mut io::sink());
-    (outcome.status, replayed)
-}
-
-/// [`play`], with a buffer in front of standard output. It reports how that ended, with hints on how standard output failed: not that
-/// nobody reads it any more.
-fn play_and_report<E: HintSink, O: Write>(
-    alloc: Global,
-    words: &StepsWords<'_>,
-    plan: &StepsPlan,
-    captures: &[&[u8]],
-    out: &mut O,
-    err: &mut E,
-) -> (Status, Result<Replayed, tap::Fault>) {
-    let noted = FailureProbe::new(Piped::new(out));
-    let Ok(mut printed) = BufWriter::with_capacity(alloc, OUTPUT_BUFFER, noted) else {
-        return (report_memory(err), Err(tap::Fault::NoMemory));
-    };
-    let (status, replayed) = play(alloc, printing_of(words), plan, captures, &mut printed);
-    let is_unread = printed.get_ref().get_ref().is_unread();
-    let has_failed = status == Status::Failed && !is_unread;
-    let _ = report_played(words.inputs.as_slice(), has_failed, &replayed, err);
-    hint_output(printed.get_ref(), err);
-    (status, replayed)
-}
-
-/// Reads the plan, and reports the first bad line. `Err` is the exit status then.
-fn read_lines<E: HintSink>(
-    alloc: Global,
+/// Reports the first bad line of LISTENERS or SCRIPT, with hints.
+fn report_line_fault<E: HintSink>(
     listeners: &[u8],
     script: &[u8],
+    fault: LineFault,
     err: &mut E,
-) -> Result<StepsPlan, Status> {
-    match read_plan(alloc, listeners, script) {
-        Ok(plan) => Ok(plan),
-        Err(fault) => {
-            let status = report_fault(&line_fault(fault), Status::Refused, err);
-            hint_line(listeners, script, fault, err);
-            Err(status)
+) -> Status
+    ensures { result ≡ Status.Refused }
+{
+    let status = report_fault(&line_fault(fault), Status::Refused, err);
+    hint_line(listeners, script, fault, err);
+    status
+}
+
+/// Reports that there are too many captures, with a hint.
+fn report_too_many<E: HintSink>(err: &mut E) -> Status
+    ensures { result ≡ Status.Refused }
+{
+    let status = report_fault(&replay_fault(Fault::TooMany), Status::Refused, err);
+    hint_too_many(err);
+    status
+}
+
+/// Reports why nothing was played, with hints, and returns the exit status.
+fn report_unplayed<E: HintSink>(refusal: &StepsRefusal<'_>, err: &mut E) -> Status
+    ensures { IsRefusalStatus refusal.now result }
+{
+    match refusal {
+        StepsRefusal::TextTooLong(path) => report_long_text(*path, err),
+        StepsRefusal::Line(listeners, script, fault) => {
+            report_line_fault(listeners.as_slice(), script.as_slice(), *fault, err)
         }
+        StepsRefusal::TooMany => report_too_many(err),
+        StepsRefusal::Paths(fault) => report_path(fault, err),
+        StepsRefusal::File(path, error) => report_io(error, *path, err),
+        StepsRefusal::NoMemory => report_memory(err),
     }
 }
 
-/// The captures as slices.
-fn borrow_all(alloc: Global, texts: &[Vec<u8>]) -> Result<Vec<&[u8]>, AllocError> {
-    texts.iter().map(|text| text.as_slice()).collect(alloc)
-}
-
-/// What is wanted of the replay: its answers with `-v`, and its trace with `-p`.
-fn detail_of(words: &StepsWords<'_>) -> Detail {
-    if words.explained {
-        Detail::Answers
-    } else if words.picture.is_some() {
-        Detail::Trace
-    } else {
-        Detail::Reports
+/// Reports why the picture at a path was not drawn, if it was not, and returns the exit status.
+fn report_picture<E: HintSink>(path: &str, drawn: &Result<(), PictureFault>, err: &mut E) -> Status
+    ensures { IsDrawnStatus drawn.now result }
+{
+    match drawn {
+        Ok(()) => Status::Clean,
+        Err(PictureFault::NoMemory) => report_memory(err),
+        Err(PictureFault::File(None)) => report_device(path, err),
+        Err(PictureFault::File(Some(error))) => report_io(error, path, err),
     }
 }
 
-/// What is printed of the replay, and in which form.
-fn printing_of(words: &StepsWords<'_>) -> Printing {
-    Printing {
-        form: LineForm::asked(words.json),
-        detail: detail_of(words),
-    }
-}
-
-/// Draws the picture of a replay, if it is wanted, and returns the exit status.
-fn draw_wanted<R: Files + AllocGlobal, E: HintSink>(
-    rt: &R,
+/// Reports how a replay, what was printed and the picture ended, with hints, and returns the exit status. That nobody reads standard
+/// output any more is not reported.
+fn report_steps<O: Write, E: HintSink>(
+    alloc: Global,
     words: &StepsWords<'_>,
-    plan: &StepsPlan,
-    replayed: Result<Replayed, tap::Fault>,
+    report: &StepsReport,
+    printed: &FailureProbe<Piped<'_, O>>,
     err: &mut E,
-) -> Status {
-    match (words.picture, replayed) {
-        (
-            Some(path),
-            Ok(
-                Replayed {
-                    trace: Some(trace),
-                    ..
-                },
-            ),
-        ) => draw(rt, plan, &trace, path, err),
-        _ => Status::Clean,
-    }
+) -> Status
+    ensures { IsStatusOf (Ok report.now) result }
+{
+    let paths = words.inputs.as_slice();
+    let has_failed = report.status == Status::Failed && !printed.get_ref().is_unread();
+    let _ = report_played(paths, has_failed, &report.replayed, err);
+    hint_output(printed, err);
+    hint_replay(alloc, paths, report, err);
+    let drawn = report_picture(words.picture.unwrap_or(""), &report.drawn, err);
+    hint_returns("LISTENERS", report.input.listeners.as_slice(), err);
+    report.status.max(drawn)
 }
 
-/// What a replay needs: its plan, with the texts of LISTENERS and SCRIPT for hints, and the texts of the captures.
-#[derive(Drop)]
-struct Job {
-    plan: StepsPlan,
-    listeners: Vec<u8>,
-    script: Vec<u8>,
-    texts: Vec<Vec<u8>>,
-}
-
-/// Reads LISTENERS and SCRIPT, checks the paths, and reads the captures, in this order.
-fn prepare<R: Files + AllocGlobal, E: HintSink>(
+/// `bpftap steps`, with a buffer in front of standard output.
+pub fn steps_command<R: Files + AllocGlobal + Screen, O: Write, E: HintSink>(
     rt: &R,
     words: &StepsWords<'_>,
-    err: &mut E,
-) -> Result<Job, Status> {
-    let listeners = read_text(rt, words.listeners, err)?;
-    let script = read_text(rt, words.script, err)?;
-    let plan = read_lines(rt.alloc(), listeners.as_slice(), script.as_slice(), err)?;
-    check_paths(rt, words, err)?;
-    let texts = read_captures(rt, words.inputs.as_slice(), err)?;
-    Ok(Job {
-        plan,
-        listeners,
-        script,
-        texts,
-    })
-}
-
-/// Plays the plan over the captures, reports how that ended, and draws the picture.
-fn play_job<R: Files + AllocGlobal, O: Write, E: HintSink>(
-    rt: &R,
-    words: &StepsWords<'_>,
-    job: &Job,
     out: &mut O,
     err: &mut E,
 ) -> Status {
-    let Job {
-        plan,
-        listeners,
-        script,
-        texts,
-    } = job;
-    let Ok(captures) = borrow_all(rt.alloc(), texts.as_slice()) else {
+    let (alloc, watch) = (rt.alloc(), Watch::new(rt, &[], false));
+    let noted = FailureProbe::new(Piped::new(out));
+    let Ok(mut printed) = BufWriter::with_capacity(alloc, OUTPUT_BUFFER, noted) else {
         return report_memory(err);
     };
-    let captures = captures.as_slice();
-    let (status, replayed) = play_and_report(rt.alloc(), words, plan, captures, out, err);
-    hint_replay(
-        rt.alloc(),
-        script.as_slice(),
-        plan,
-        captures,
-        &replayed,
-        err,
-    );
-    let drawn = draw_wanted(rt, words, plan, replayed, err);
-    hint_returns("LISTENERS", listeners.as_slice(), err);
-    status.max(drawn)
-}
-
-/// `bpftap steps`: LISTENERS and SCRIPT are read, and the paths are compared, before a capture is read. The script is played once.
-pub fn steps_command<R: Files + AllocGlobal, O: Write, E: HintSink>(
-    rt: &R,
-    words: &StepsWords<'_>,
-    out: &mut O,
-    err: &mut E,
-) -> Status {
-    match prepare(rt, words, err) {
-        Ok(job) => play_job(rt, words, &job, out, err),
-        Err(status) => status,
+    match steps_files(alloc, &mut DiskFiles::new(rt, &watch), words, &mut printed) {
+        Ok(report) => report_steps(alloc, words, &report, printed.get_ref(), err),
+        Err(refusal) => report_unplayed(&refusal, err),
     }
 }

@@ -1,6 +1,6 @@
 //! Hints on the faults of `bpftap steps`, after the lines that report them.
 
-use crate::steps::Replayed;
+use crate::outcome::{StepsInput, StepsReport};
 use cli_filter_hints::expressions::{hint_refusal, hint_text_fault};
 use cli_report::HintSink;
 use cli_report::captures::hint_capture_fault;
@@ -8,15 +8,20 @@ use cli_report::files::{
     LISTENERS_OF_STEPS, SCRIPT, hint_bad_line, hint_capacity, hint_no_listener,
 };
 use cli_report::stream::give_hint;
+use cli_text::report::EscapedPath;
 use line_text::LineFault;
 use listener::OpenFault;
 use savefile::Fault;
 use std::alloc::Global;
 use tap::{Filter, MAX_CAPTURES, MAX_LISTENERS, Spec};
-use tap_text::plan::StepsPlan;
 
 /// Hints on a line of LISTENERS or SCRIPT that is refused.
-pub fn hint_line<E: HintSink>(listeners: &[u8], script: &[u8], fault: LineFault, err: &mut E) {
+pub(crate) fn hint_line<E: HintSink>(
+    listeners: &[u8],
+    script: &[u8],
+    fault: LineFault,
+    err: &mut E,
+) {
     match fault {
         LineFault::Listeners(line) => hint_bad_line(listeners, line, LISTENERS_OF_STEPS, err),
         LineFault::Script(line) => hint_bad_line(script, line, SCRIPT, err),
@@ -48,26 +53,40 @@ fn hint_listener<E: HintSink>(alloc: Global, spec: &Spec, fault: tap::Fault, err
     }
 }
 
-/// Hints on a capture that is refused, or that ended with a record fault.
-fn hint_capture<E: HintSink>(captures: &[&[u8]], capture: u32, fault: Fault, err: &mut E) {
-    let text = captures.get(capture as usize).copied().unwrap_or(&[]);
-    hint_capture_fault(text, fault, err);
+/// Hints on the capture of this number, which is refused, or which ended with a record fault. Of several, its path comes first.
+fn hint_capture<E: HintSink>(
+    paths: &[&str],
+    texts: &[Vec<u8>],
+    number: usize,
+    fault: Fault,
+    err: &mut E,
+) {
+    if let (Some(path), Some(text)) = (paths.get(number), texts.get(number)) {
+        if paths.len() > 1 {
+            give_hint(format_args!("{}:", EscapedPath(*path)), err);
+        }
+        hint_capture_fault(text.as_slice(), fault, err);
+    }
 }
 
-/// Hints on why there is no replay.
+/// Hints on why there is no replay of the captures at these paths.
 fn hint_fault<E: HintSink>(
     alloc: Global,
-    script: &[u8],
-    plan: &StepsPlan,
-    captures: &[&[u8]],
+    paths: &[&str],
+    input: &StepsInput,
     fault: tap::Fault,
     err: &mut E,
 ) {
+    let specs = input.plan.specs.as_slice();
     match fault {
-        tap::Fault::Capture(capture, fault) => hint_capture(captures, capture, fault, err),
-        tap::Fault::NoListener(step) => hint_no_listener(script, step, plan.specs.len(), err),
+        tap::Fault::Capture(n, fault) => {
+            hint_capture(paths, input.captures.as_slice(), n as usize, fault, err)
+        }
+        tap::Fault::NoListener(step) => {
+            hint_no_listener(input.script.as_slice(), step, specs.len(), err)
+        }
         tap::Fault::Expression(l, _) | tap::Fault::Compile(l, _) | tap::Fault::Open(l, _) => {
-            if let Some(spec) = plan.specs.get(l as usize) {
+            if let Some(spec) = specs.get(l as usize) {
                 hint_listener(alloc, spec, fault, err);
             }
         }
@@ -76,24 +95,28 @@ fn hint_fault<E: HintSink>(
     }
 }
 
-/// Hints on why there is no replay, or on the record that a capture ended at.
-pub fn hint_replay<E: HintSink>(
+/// Hints on why there is no replay of the captures at these paths, or on the record that one ended at.
+pub(crate) fn hint_replay<E: HintSink>(
     alloc: Global,
-    script: &[u8],
-    plan: &StepsPlan,
-    captures: &[&[u8]],
-    replayed: &Result<Replayed, tap::Fault>,
+    paths: &[&str],
+    report: &StepsReport,
     err: &mut E,
 ) {
     if !err.takes_hints() {
         return;
     }
-    match replayed {
+    match &report.replayed {
         Ok(replayed) => {
-            if let Some((capture, fault)) = replayed.record_fault {
-                hint_capture(captures, capture, fault, err);
+            if let Some((n, fault)) = replayed.record_fault {
+                hint_capture(
+                    paths,
+                    report.input.captures.as_slice(),
+                    n as usize,
+                    fault,
+                    err,
+                );
             }
         }
-        Err(fault) => hint_fault(alloc, script, plan, captures, *fault, err),
+        Err(fault) => hint_fault(alloc, paths, &report.input, *fault, err),
     }
 }

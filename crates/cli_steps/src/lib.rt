@@ -2,9 +2,11 @@
 #![tactic(auto)]
 
 pub mod command;
+pub mod files;
 mod hints;
-mod paths;
+pub mod outcome;
 mod picture;
+mod reading;
 pub mod report;
 mod reported;
 pub mod steps;

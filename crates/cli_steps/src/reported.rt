@@ -5,9 +5,11 @@ ghost use Rattle.line_text.specs.Faults.{fault_line, line_fault_name};
 ghost use Rattle.fault_report.specs.Words.{one_word, place_word};
 
 use crate::steps::Replayed;
+use cli_report::HintSink;
+use cli_report::failures::name_source;
 use fault_report::captures::{device, nth_capture_fault};
 use fault_report::reporting::report;
-use fault_report::{FaultSink, Report, Subject, Word};
+use fault_report::{Report, Subject, Word};
 use line_text::LineFault;
 use std::io;
 use tap::Fault;
@@ -21,16 +23,8 @@ pub(crate) fn line_fault(fault: LineFault) -> Report<'static>
     Report::placed(fault.name(), Word::place(fault.line()))
 }
 
-/// Why there is no replay of the captures at these paths.
-pub(crate) fn replay_fault<'a>(fault: Fault, paths: &[&'a str]) -> Report<'a> {
-    if let Fault::Capture(capture, fault) = fault {
-        return nth_capture_fault(fault, capture as usize, paths);
-    }
-    fault_without_path(fault)
-}
-
 /// Why there is no replay, without the path of a capture.
-fn fault_without_path(fault: Fault) -> Report<'static> {
+pub(crate) fn replay_fault(fault: Fault) -> Report<'static> {
     let name = fault.name();
     match fault {
         Fault::TooMany | Fault::NoMemory => Report::named(name),
@@ -52,9 +46,20 @@ fn fault_without_path(fault: Fault) -> Report<'static> {
     }
 }
 
+/// Reports the fault of the capture of this number, of those at these paths. Of several, its path stands below that.
+fn report_capture<E: HintSink>(
+    paths: &[&str],
+    number: usize,
+    fault: savefile::Fault,
+    err: &mut E,
+) -> io::Result<()> {
+    report(&nth_capture_fault(fault, number, paths), err)?;
+    name_source(paths, number, err)
+}
+
 /// Reports what became of a replay of the captures at these paths: that standard output failed, and then the capture that ended with a
 /// record fault; or why there is no replay. If the first line is not taken, the second is not sent.
-pub(crate) fn report_played<E: FaultSink>(
+pub(crate) fn report_played<E: HintSink>(
     paths: &[&str],
     output_failed: bool,
     replayed: &Result<Replayed, Fault>,
@@ -62,15 +67,14 @@ pub(crate) fn report_played<E: FaultSink>(
 ) -> io::Result<()> {
     let replayed = match replayed {
         Ok(replayed) => replayed,
-        Err(fault) => return report(&replay_fault(*fault, paths), err),
+        Err(Fault::Capture(n, fault)) => return report_capture(paths, *n as usize, *fault, err),
+        Err(fault) => return report(&replay_fault(*fault), err),
     };
     if output_failed {
         report(&device(Subject::StandardOutput), err)?;
     }
     match replayed.record_fault {
-        Some((capture, fault)) => {
-            report(&nth_capture_fault(fault, capture as usize, paths), err)
-        }
+        Some((n, fault)) => report_capture(paths, n as usize, fault, err),
         None => Ok(()),
     }
 }

@@ -8,6 +8,7 @@ ghost use Rattle.tap_text.specs.Answers.{answers_from};
 ghost use Rattle.tap_text.specs.Printed.{reports_in};
 ghost use Rattle.cli_steps.specs.Playing.{trace_text, is_explained, is_traced, PlaysAs};
 ghost use Rattle.cli_steps.specs.Stepping.{Steps, StepsTo};
+ghost use Rattle.cli_steps.specs.Telling.{PrintsPlayed};
 
 use crate::report::{report_end, report_refusal};
 use cli_text::Status;
@@ -108,108 +109,116 @@ fn print_trace<O: Write>(
     }
 }
 
-/// Plays a plan over captures, and prints the reports.
-fn play_reports<O: Write, E: Write>(
-    alloc: Global,
-    form: LineForm,
-    plan: &StepsPlan,
-    captures: &[&[u8]],
-    out: &mut O,
-    err: &mut E,
-) -> (Outcome, Result<Replayed, Fault>)
-    ensures { PlaysAs form false false (map (λ c. c.now) captures.now) plan.now.specs.items plan.now.steps.items
-        (streams (O.contents out.old) (E.contents err.old)) (streams (O.contents out.new) (E.contents err.new)) result.0 result.1 }
-{
-    match replay(
-        alloc,
-        captures,
-        plan.specs.as_slice(),
-        plan.steps.as_slice(),
-    ) {
-        Ok((reports, record_fault)) => {
-            let printed = print_reports_in(form, reports.as_slice(), out);
-            let replayed = Replayed {
-                record_fault,
-                trace: None,
-            };
-            (report_end(printed, record_fault, err), Ok(replayed))
+/// A plan, and the captures that it is played over.
+#[derive(Clone, Copy)]
+pub struct StepsReplay<'p, 'c, 't> {
+    pub plan: &'p StepsPlan,
+    pub captures: &'c [&'t [u8]],
+}
+
+impl StepsReplay<'_, '_, '_> {
+    /// Plays, and prints the reports.
+    fn play_reports<O: Write, E: Write>(
+        self,
+        alloc: Global,
+        form: LineForm,
+        out: &mut O,
+        err: &mut E,
+    ) -> (Outcome, Result<Replayed, Fault>)
+        ensures { PlaysAs form false false (map (λ c. c.now) self.entry.captures.now) self.entry.plan.now.specs.items self.entry.plan.now.steps.items
+            (streams (O.contents out.old) (E.contents err.old)) (streams (O.contents out.new) (E.contents err.new)) result.0 result.1 }
+    {
+        let StepsReplay { plan, captures } = self;
+        match replay(
+            alloc,
+            captures,
+            plan.specs.as_slice(),
+            plan.steps.as_slice(),
+        ) {
+            Ok((reports, record_fault)) => {
+                let printed = print_reports_in(form, reports.as_slice(), out);
+                let replayed = Replayed {
+                    record_fault,
+                    trace: None,
+                };
+                (report_end(printed, record_fault, err), Ok(replayed))
+            }
+            Err(fault) => (report_refusal(fault, err), Err(fault)),
         }
-        Err(fault) => (report_refusal(fault, err), Err(fault)),
     }
-}
 
-/// Plays a plan over captures, prints the answers if they are wanted, and then the reports, and hands the trace on.
-fn play_trace<O: Write, E: Write>(
-    alloc: Global,
-    printing: Printing,
-    plan: &StepsPlan,
-    captures: &[&[u8]],
-    out: &mut O,
-    err: &mut E,
-) -> (Outcome, Result<Replayed, Fault>)
-    ensures { PlaysAs printing.form (is_explained printing.detail) true (map (λ c. c.now) captures.now) plan.now.specs.items plan.now.steps.items
-        (streams (O.contents out.old) (E.contents err.old)) (streams (O.contents out.new) (E.contents err.new)) result.0 result.1 }
-{
-    let traced = match trace(
-        alloc,
-        captures,
-        plan.specs.as_slice(),
-        plan.steps.as_slice(),
-    ) {
-        Ok(traced) => traced,
-        Err(fault) => return (report_refusal(fault, err), Err(fault)),
-    };
-    match print_trace(alloc, printing, plan, &traced, out) {
-        Ok(printed) => {
-            let record_fault = traced.record_fault;
-            let replayed = Replayed {
-                record_fault,
-                trace: Some(traced),
-            };
-            (report_end(printed, record_fault, err), Ok(replayed))
+    /// Plays, prints the answers if they are wanted, and then the reports, and hands the trace on.
+    fn play_trace<O: Write, E: Write>(
+        self,
+        alloc: Global,
+        printing: Printing,
+        out: &mut O,
+        err: &mut E,
+    ) -> (Outcome, Result<Replayed, Fault>)
+        ensures { PlaysAs printing.form (is_explained printing.detail) true (map (λ c. c.now) self.entry.captures.now) self.entry.plan.now.specs.items self.entry.plan.now.steps.items
+            (streams (O.contents out.old) (E.contents err.old)) (streams (O.contents out.new) (E.contents err.new)) result.0 result.1 }
+    {
+        let StepsReplay { plan, captures } = self;
+        let traced = match trace(
+            alloc,
+            captures,
+            plan.specs.as_slice(),
+            plan.steps.as_slice(),
+        ) {
+            Ok(traced) => traced,
+            Err(fault) => return (report_refusal(fault, err), Err(fault)),
+        };
+        match print_trace(alloc, printing, plan, &traced, out) {
+            Ok(printed) => {
+                let record_fault = traced.record_fault;
+                let replayed = Replayed {
+                    record_fault,
+                    trace: Some(traced),
+                };
+                (report_end(printed, record_fault, err), Ok(replayed))
+            }
+            Err(AllocError) => (report_refusal(Fault::NoMemory, err), Err(Fault::NoMemory)),
         }
-        Err(AllocError) => (report_refusal(Fault::NoMemory, err), Err(Fault::NoMemory)),
     }
-}
 
-/// Plays a plan over captures once, and prints what each listener got, in the given detail. With [`Detail::Answers`] a line for each
-/// step comes before the reports, and below it one for each listener that the step reaches: what it answered, and why.
-///
-/// It prints, reports and returns what [`steps`] says, and also returns the result of the replay, or the fault that was
-/// reported. With [`Detail::Answers`] memory may also be refused after the replay; then only that is reported, and nothing is
-/// printed, unless it is refused for a line ([`line_for`]).
-pub fn play_plan_in<O: Write, E: Write>(
-    alloc: Global,
-    printing: Printing,
-    plan: &StepsPlan,
-    captures: &[&[u8]],
-    out: &mut O,
-    err: &mut E,
-) -> (Outcome, Result<Replayed, Fault>)
-    ensures { PlaysAs printing.form (is_explained printing.detail) (is_traced printing.detail) (map (λ c. c.now) captures.now) plan.now.specs.items plan.now.steps.items
-        (streams (O.contents out.old) (E.contents err.old)) (streams (O.contents out.new) (E.contents err.new)) result.0 result.1 }
-{
-    match printing.detail {
-        Detail::Reports => play_reports(alloc, printing.form, plan, captures, out, err),
-        Detail::Trace => play_trace(alloc, printing, plan, captures, out, err),
-        Detail::Answers => play_trace(alloc, printing, plan, captures, out, err),
+    /// Plays once, and prints what each listener got, in the given detail. With [`Detail::Answers`] a line for each step comes before the
+    /// reports, and below it one for each listener that the step reaches: what it answered, and why.
+    ///
+    /// It prints, reports and returns what [`steps`] says, and also returns the result of the replay, or the fault that was
+    /// reported. With [`Detail::Answers`] memory may also be refused after the replay; then only that is reported, and nothing is
+    /// printed, unless it is refused for a line ([`line_for`]).
+    pub fn play<O: Write, E: Write>(
+        self,
+        alloc: Global,
+        printing: Printing,
+        out: &mut O,
+        err: &mut E,
+    ) -> (Outcome, Result<Replayed, Fault>)
+        ensures { PlaysAs printing.form (is_explained printing.detail) (is_traced printing.detail) (map (λ c. c.now) self.entry.captures.now)
+            self.entry.plan.now.specs.items self.entry.plan.now.steps.items
+            (streams (O.contents out.old) (E.contents err.old)) (streams (O.contents out.new) (E.contents err.new)) result.0 result.1 }
+    {
+        match printing.detail {
+            Detail::Reports => self.play_reports(alloc, printing.form, out, err),
+            Detail::Trace => self.play_trace(alloc, printing, out, err),
+            Detail::Answers => self.play_trace(alloc, printing, out, err),
+        }
     }
-}
 
-/// Plays a plan as [`play_plan_in`] does, and prints text.
-pub fn play_plan<O: Write, E: Write>(
-    alloc: Global,
-    plan: &StepsPlan,
-    captures: &[&[u8]],
-    detail: Detail,
-    out: &mut O,
-    err: &mut E,
-) -> (Outcome, Result<Replayed, Fault>)
-    ensures { PlaysAs Text (is_explained detail) (is_traced detail) (map (λ c. c.now) captures.now) plan.now.specs.items plan.now.steps.items
-        (streams (O.contents out.old) (E.contents err.old)) (streams (O.contents out.new) (E.contents err.new)) result.0 result.1 }
-{
-    let form = LineForm::Text;
-    play_plan_in(alloc, Printing { form, detail }, plan, captures, out, err)
+    /// Plays as [`play`](StepsReplay::play) does, and reports nothing: who calls it does that.
+    pub fn print<O: Write>(
+        self,
+        alloc: Global,
+        printing: Printing,
+        out: &mut O,
+    ) -> (Status, Result<Replayed, Fault>)
+        ensures { PrintsPlayed printing.form (is_explained printing.detail) (is_traced printing.detail)
+            (map (λ c. c.now) self.entry.captures.now) self.entry.plan.now.specs.items self.entry.plan.now.steps.items
+            (O.contents out.old) (O.contents out.new) result.0 result.1 }
+    {
+        let (outcome, replayed) = self.play(alloc, printing, out, &mut io::sink());
+        (outcome.status, replayed)
+    }
 }
 
 /// [`steps`], with whether standard error took what was reported.
@@ -224,8 +233,18 @@ pub fn steps_told<O: Write, E: Write>(
     ensures { Steps Text listeners.now script.now (map (λ c. c.now) captures.now)
         (streams (O.contents out.old) (E.contents err.old)) (streams (O.contents out.new) (E.contents err.new)) result }
 {
+    let printing = Printing {
+        form: LineForm::Text,
+        detail: Detail::Reports,
+    };
     match read_plan(alloc, listeners, script) {
-        Ok(plan) => play_plan(alloc, &plan, captures, Detail::Reports, out, err).0,
+        Ok(plan) => {
+            let replay = StepsReplay {
+                plan: &plan,
+                captures,
+            };
+            replay.play(alloc, printing, out, err).0
+        }
         Err(fault) => Outcome {
             status: Status::Refused,
             told: report_line(fault, err),

@@ -1,5 +1,5 @@
 -- What files have before and after a call.
-use Rattle.std.specs.Prelude.{◌≡◌, ◌≢◌, ◌⊎◌, ℕ, ◌<◌, Bool, true, List, [], length, take, Option, Some, None, IfSome, ⊤}
+use Rattle.std.specs.Prelude.{◌≡◌, ◌≢◌, ◌⊎◌, ℕ, ◌<◌, Bool, true, List, [], ◌∷◌, length, take, Option, Some, None, IfSome, All, ⊤}
 use Rattle.std.specs.List.{Any}
 use Rattle.std.specs.Borrow.{Bor}
 use Rattle.savefile.specs.Writer.{IsBeginning}
@@ -21,24 +21,43 @@ Places = List ℕ → List ℕ
 abbrev pub Keeps : Places → Places → Texts → Texts → ℕ → ℕ → Type 0
 Keeps place-old place-new old new pending-old pending-new = (place-new ≡ place-old) × (new ≡ old) × (pending-new ≡ pending-old)
 
+-- the bytes of a file; of none there are none
+abbrev pub bytes_of : Option (List ℕ) → List ℕ
+bytes_of None = []
+bytes_of (Some bytes) = bytes
+
 -- a path that is read leads to another file than OUT; where files are opened first, it may also lead to none
 abbrev pub IsApart : Opening → Places → Texts → List ℕ → List ℕ → Type 0
 IsApart First place text output path = (text (place path) ≡ None) ⊎ (place path ≢ place output)
 IsApart Late place text output path = place path ≢ place output
 
--- Why paths are refused: one that is read leads to the file of OUT; or a device failed, or memory was refused.
-abbrev pub IsRefusal : Places → Bool → List (Bor (List ℕ)) → List ℕ → PathFault → Type 0
-IsRefusal place failed read output (Same path taken_for) = Any (λ path. place path.now ≡ place output) read
-IsRefusal place failed read output (Printed path) = ⊥
-IsRefusal place failed read output (Unknown path error) = IsRefusedMemory error ⊎ (failed ≡ true)
-IsRefusal place failed read output NoMemory = ⊤
+-- standard output goes to another file than the one at a path that is read; where files are opened first, it may also lead to none
+abbrev pub IsUnprinted : Opening → Places → Texts → Option (List ℕ) → List ℕ → Type 0
+IsUnprinted First place text printed path = (text (place path) ≡ None) ⊎ (printed ≢ Some (place path))
+IsUnprinted Late place text printed path = printed ≢ Some (place path)
 
--- Why a path may not be read: standard output goes to its file; or a device failed, or memory was refused.
-abbrev pub IsPrintRefusal : Places → Option (List ℕ) → Bool → List ℕ → PathFault → Type 0
-IsPrintRefusal place printed failed read (Printed path) = printed ≡ Some (place read)
-IsPrintRefusal place printed failed read (Same path taken_for) = ⊥
-IsPrintRefusal place printed failed read (Unknown path error) = IsRefusedMemory error ⊎ (failed ≡ true)
-IsPrintRefusal place printed failed read NoMemory = ⊤
+-- no two of these paths lead to one file
+abbrev pub HaveOwnPlaces : Places → List (Bor (List ℕ)) → Type 0
+HaveOwnPlaces place [] = ⊤
+HaveOwnPlaces place (p ∷ ps) = All (λ other. place other.now ≢ place p.now) ps × HaveOwnPlaces place ps
+
+-- Why an OUT is refused: a path that is read leads to its file, another OUT does, or standard output goes there.
+abbrev pub IsLost : Places → Option (List ℕ) → Bool → List (Bor (List ℕ)) → List (Bor (List ℕ)) → Type 0
+IsLost place printed prints read outputs =
+    Any (λ output. Any (λ path. place path.now ≡ place output.now) read) outputs
+    ⊎ (HaveOwnPlaces place outputs → ⊥)
+    ⊎ ((prints ≡ true) × Any (λ output. printed ≡ Some (place output.now)) outputs)
+
+-- Why paths are refused: an OUT would be lost, or standard output goes to a file that is read; or a device failed, or memory was refused.
+abbrev pub IsRefusal : Places → Option (List ℕ) → Bool → Bool → List (Bor (List ℕ)) → List (Bor (List ℕ)) → PathFault → Type 0
+IsRefusal place printed failed prints read outputs (Same path taken_for) = IsLost place printed prints read outputs
+IsRefusal place printed failed prints read outputs (Printed path) = (prints ≡ true) × Any (λ input. printed ≡ Some (place input.now)) read
+IsRefusal place printed failed prints read outputs (Unknown path error) = IsRefusedMemory error ⊎ (failed ≡ true)
+IsRefusal place printed failed prints read outputs NoMemory = ⊤
+
+-- what is read at a place where a file may be missing
+abbrev pub text_at : Texts → List ℕ → List ℕ
+text_at text at = bytes_of (text at)
 
 -- the file at a place was made of these bytes; of none it is as it was
 abbrev pub StoresAt : Texts → Texts → List ℕ → List ℕ → Type 0

@@ -1,16 +1,16 @@
 //! Files of the system, over std. Contracts know nothing of them: this is the part that is trusted.
 
-ghost use Rattle.std.specs.Prelude.{◌≡◌, true, false, [], None};
+ghost use Rattle.std.specs.Prelude.{◌≡◌, ℕ, List, Option, true, false, [], None};
 ghost use Rattle.cli_store.specs.Files.{Keeps};
 
 use crate::store::FileStore;
 use cli_files::captures::with_buffer;
-use cli_files::late::LateFile;
+use cli_files::late::{LateFile, LateInput};
 use cli_files::paths::{Opening, PathFault, STANDARD_OUTPUT, check_shared_files};
 use cli_files::retried::Retried;
 use cli_report::FailureProbe;
 use cli_report::probe::ProbedOutput;
-use cli_watch::captures::WatchedFile;
+use cli_watch::captures::WatchedInput;
 use cli_watch::{Screen, Watch};
 use savefile::Counted;
 use std::fs::Files;
@@ -18,7 +18,7 @@ use std::io::{Read, Write};
 use std::os::unix::fs::MetadataExt;
 use std::{fs, io};
 
-/// How many bytes of output are gathered before they are written.
+/// How many bytes of an output are gathered before they are written, if nothing else is asked.
 const OUTPUT_BUFFER: usize = 1 << 18;
 
 /// Whether a path leads to standard output, as `/dev/stdout` does.
@@ -34,16 +34,26 @@ pub fn is_standard_output<R: Files>(rt: &R, path: &str) -> bool {
 pub struct DiskFiles<'w, 'r, R> {
     rt: &'r R,
     watch: &'w Watch<'r, R>,
+    gathered: usize,
 }
 
 impl<'w, 'r, R> DiskFiles<'w, 'r, R> {
     pub fn new(rt: &'r R, watch: &'w Watch<'r, R>) -> DiskFiles<'w, 'r, R> {
-        DiskFiles { rt, watch }
+        DiskFiles {
+            rt,
+            watch,
+            gathered: OUTPUT_BUFFER,
+        }
+    }
+
+    /// The same, where so many bytes of each output are gathered before they are written.
+    pub fn gathering(self, gathered: usize) -> DiskFiles<'w, 'r, R> {
+        DiskFiles { gathered, ..self }
     }
 }
 
 impl<'p, 'w, 'r, R: Files + AllocGlobal + Screen> FileStore<'p> for DiskFiles<'w, 'r, R> {
-    type Input = WatchedFile<'w, 'r, R>;
+    type Input = WatchedInput<'w, 'r, 'p, R>;
 
     type Output = ProbedOutput<LateFile<'r, 'p, R>>;
 
@@ -61,18 +71,17 @@ impl<'p, 'w, 'r, R: Files + AllocGlobal + Screen> FileStore<'p> for DiskFiles<'w
 
     ghost failed = { λ _. false };
 
+    ghost denied = { λ _. None };
+
     fn check_apart(
         &mut self,
         opening: Opening,
+        prints: bool,
         read: &[&'p str],
-        output: &'p str,
+        outputs: &[&'p str],
     ) -> Result<(), PathFault<'p>> {
-        check_shared_files(self.rt, opening, None, read, &[output])
-    }
-
-    fn check_printed(&mut self, path: &'p str) -> Result<(), PathFault<'p>> {
-        let printed = Some(STANDARD_OUTPUT);
-        check_shared_files(self.rt, Opening::First, printed, &[path], &[])
+        let printed = prints.then_some(STANDARD_OUTPUT);
+        check_shared_files(self.rt, opening, printed, read, outputs)
     }
 
     fn read(&mut self, path: &'p str, most: usize) -> io::Result<Vec<u8>> {
@@ -82,16 +91,23 @@ impl<'p, 'w, 'r, R: Files + AllocGlobal + Screen> FileStore<'p> for DiskFiles<'w
         Ok(text)
     }
 
-    fn open(&mut self, path: &'p str) -> io::Result<WatchedFile<'w, 'r, R>> {
-        let file = self.watch.watched(Retried::new(fs::open(self.rt, path)?));
-        Ok(Counted::new(FailureProbe::new(file)))
+    fn open(&mut self, path: &'p str) -> io::Result<Self::Input> {
+        let file = LateInput::opened(self.rt, path)?;
+        Ok(Counted::new(FailureProbe::new(self.watch.watched(file))))
+    }
+
+    fn late(&mut self, path: &'p str) -> io::Result<Self::Input> {
+        let file = LateInput::new(self.rt, path);
+        Ok(Counted::new(FailureProbe::new(self.watch.watched(file))))
     }
 
     /// The line of the progress is erased, before anything is reported of the file.
-    fn done(&mut self, input: WatchedFile<'w, 'r, R>) -> FailureProbe<()>
+    fn done(&mut self, input: WatchedInput<'w, 'r, 'p, R>) -> FailureProbe<()>
         ensures kept { Keeps (λ path. path) (λ path. path) (λ _. None) (λ _. None) 0 0 }
+        ensures printed { let none : Option (List ℕ) = None in none ≡ none }
         ensures failed { false ≡ true → true ≡ true }
         ensures stays { false ≡ true → true ≡ true }
+        ensures denied { let none : Option (List ℕ) = None in none ≡ none }
     {
         self.watch.erase();
         input.into_inner().into_notes()
@@ -99,7 +115,7 @@ impl<'p, 'w, 'r, R: Files + AllocGlobal + Screen> FileStore<'p> for DiskFiles<'w
 
     fn create(&mut self, path: &'p str) -> io::Result<Self::Output> {
         let late = FailureProbe::new(LateFile::new(self.rt, path));
-        with_buffer(self.rt.alloc(), OUTPUT_BUFFER, late)
+        with_buffer(self.rt.alloc(), self.gathered, late)
     }
 
     fn close(&mut self, mut output: Self::Output) -> io::Result<()> {

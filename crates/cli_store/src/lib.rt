@@ -6,5 +6,5 @@ pub mod memory;
 pub mod store;
 
 pub use disk::DiskFiles;
-pub use memory::{MemoryFile, MemoryFiles};
+pub use memory::{Endurance, MemoryFile, MemoryFiles};
 pub use store::FileStore;

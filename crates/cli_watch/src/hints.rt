@@ -32,7 +32,7 @@ impl Display for UnseenText {
         let are = if unseen == 1 { "is" } else { "are" };
         write!(
             f,
-            "{unseen} of {frames} frames {are} IPv6 or VLAN: filters here do not look inside; with libpcap's program they do: tcpdump -y EN10MB -ddd EXPR > f.bpf, then -f f.bpf"
+            "{unseen} of {frames} frames {are} IPv6 or VLAN: filters here do not look inside; with libpcap's program they do, into VLAN by 'EXPR or (vlan and (EXPR))': tcpdump -y EN10MB -ddd EXPR > f.bpf, then -f f.bpf"
         )
     }
 }

@@ -4,8 +4,8 @@ use crate::same::{same, same_in};
 use cli_args::check::CheckWords;
 use cli_args::cut::CutWords;
 use cli_cut::checking::check_files;
-use cli_cut::command::cut_and_report;
-use cli_store::{FileStore, MemoryFile, MemoryFiles};
+use cli_cut::command::{cut_and_report, cut_several_and_report};
+use cli_store::{Endurance, FileStore, MemoryFile, MemoryFiles};
 use cli_text::Status;
 use savefile::{MAX_SNAP, Order, Unit};
 use std::process::Abort;
@@ -25,7 +25,7 @@ fn file_of<R: Abort + AllocGlobal>(
 }
 
 /// A capture of an ARP frame and an IPv4 frame, one whose record is torn, and a listing.
-fn files_of<R: Abort + AllocGlobal>(rt: &R) -> MemoryFiles<'static> {
+pub(crate) fn files_of<R: Abort + AllocGlobal>(rt: &R) -> MemoryFiles<'static> {
     let whole = concat(rt.alloc(), &[HEADER, ARP_RECORD, IP_RECORD]).expect(rt, "memory");
     let (_, torn) = whole.as_slice().split_last().expect(rt, "it has bytes");
     let files = [
@@ -40,6 +40,8 @@ fn files_of<R: Abort + AllocGlobal>(rt: &R) -> MemoryFiles<'static> {
         printed: None,
         pending: 0,
         failed: false,
+        denied: None,
+        endurance: Endurance::MAX,
     }
 }
 
@@ -76,6 +78,23 @@ fn cuts<R: Abort + AllocGlobal>(
     let mut err: Vec<u8> = Vec::new(rt.alloc());
     files.opened.clear();
     let status = cut_and_report(rt.alloc(), files, words, input, &mut err);
+    let (ended, line, count) = wanted;
+    same(rt, status, ended);
+    same_in(rt, line, err.as_slice(), line.as_bytes());
+    same(rt, files.files.len(), count);
+    same(rt, files.pending, 0);
+}
+
+/// A cut of several captures ends with this status and this line, and leaves so many files, none of them open.
+fn cuts_all<R: Abort + AllocGlobal>(
+    rt: &R,
+    files: &mut MemoryFiles<'static>,
+    words: &CutWords<'static>,
+    wanted: (Status, &str, usize),
+) {
+    let mut err: Vec<u8> = Vec::new(rt.alloc());
+    files.opened.clear();
+    let status = cut_several_and_report(rt.alloc(), files, words, &mut err);
     let (ended, line, count) = wanted;
     same(rt, status, ended);
     same_in(rt, line, err.as_slice(), line.as_bytes());
@@ -226,4 +245,85 @@ fn a_listing_is_not_printed_over(rt: HostRuntime) {
         true,
     );
     same_in(&rt, "out", out.as_slice(), LISTING);
+}
+
+/// The words of `cut -s 0 -e ip -w out.pcap in.pcap in.pcap`.
+fn twice<R: Abort + AllocGlobal>(rt: &R) -> CutWords<'static> {
+    let mut words = words_of(rt, Some("ip"), None, "in.pcap", "out.pcap");
+    words.inputs = Vec::from_slice(rt.alloc(), &["in.pcap", "in.pcap"]).expect(rt, "memory");
+    words
+}
+
+#[test]
+fn out_has_the_packets_of_all_captures(rt: HostRuntime) {
+    let mut files = files_of(&rt);
+    cuts_all(&rt, &mut files, &twice(&rt), (Status::Clean, "", 4));
+    has(&rt, &mut files, "out.pcap", &[HEADER, IP_RECORD, IP_RECORD]);
+    has(&rt, &mut files, "in.pcap", &[HEADER, ARP_RECORD, IP_RECORD]);
+}
+
+/// Files whose n-th call fails, from 0.
+fn failing_at<R: Abort + AllocGlobal>(rt: &R, calls: usize) -> MemoryFiles<'static> {
+    let mut files = files_of(rt);
+    files.endurance = Endurance {
+        calls,
+        ..Endurance::MAX
+    };
+    files
+}
+
+/// The paths are compared, IN is opened, OUT is made, OUT is closed: each of these calls fails once, and no file changes.
+#[test]
+fn each_call_of_a_cut_fails(rt: HostRuntime) {
+    let words = words_of(&rt, Some("ip"), None, "in.pcap", "out.pcap");
+    let lines = [
+        "bpftap: Device out.pcap\n",
+        "bpftap: Device in.pcap\n",
+        "bpftap: Device out.pcap\n",
+        "bpftap: Device out.pcap\n",
+    ];
+    for (calls, line) in lines.iter().enumerate() {
+        let mut files = failing_at(&rt, calls);
+        let wanted = (Status::Failed, *line, 3);
+        cuts(&rt, &mut files, &words, "in.pcap", wanted);
+        has(&rt, &mut files, "in.pcap", &[HEADER, ARP_RECORD, IP_RECORD]);
+    }
+}
+
+/// The same of two captures, each of which is opened in a call of its own.
+#[test]
+fn each_call_of_a_cut_of_several_fails(rt: HostRuntime) {
+    let words = twice(&rt);
+    let lines = [
+        "bpftap: Device out.pcap\n",
+        "bpftap: Device in.pcap\n",
+        "bpftap: Device in.pcap\n",
+        "bpftap: Device out.pcap\n",
+        "bpftap: Device out.pcap\n",
+    ];
+    for (calls, line) in lines.iter().enumerate() {
+        let mut files = failing_at(&rt, calls);
+        cuts_all(&rt, &mut files, &words, (Status::Failed, *line, 3));
+        has(&rt, &mut files, "in.pcap", &[HEADER, ARP_RECORD, IP_RECORD]);
+    }
+}
+
+/// A capture that can't be read once, and an OUT that can't be written to once.
+#[test]
+fn devices_that_break_leave_no_out(rt: HostRuntime) {
+    let words = words_of(&rt, Some("ip"), None, "in.pcap", "out.pcap");
+    let mut files = files_of(&rt);
+    files.endurance = Endurance {
+        reads: 0,
+        ..Endurance::MAX
+    };
+    let wanted = (Status::Failed, "bpftap: Device in.pcap\n", 3);
+    cuts(&rt, &mut files, &words, "in.pcap", wanted);
+    let mut files = files_of(&rt);
+    files.endurance = Endurance {
+        writes: 0,
+        ..Endurance::MAX
+    };
+    let wanted = (Status::Failed, "bpftap: Device out.pcap\n", 3);
+    cuts(&rt, &mut files, &words, "in.pcap", wanted);
 }

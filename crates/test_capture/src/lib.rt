@@ -9,6 +9,8 @@ mod cut;
 #[cfg(test)]
 mod decided;
 #[cfg(test)]
+mod explain_memory;
+#[cfg(test)]
 mod explained;
 #[cfg(test)]
 mod files_told;

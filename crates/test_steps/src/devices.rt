@@ -1,7 +1,8 @@
 //! `bpftap steps` into an output that takes all and sends nothing on.
 
 use crate::same::same;
-use cli_steps::steps::{Detail, play_plan};
+use cli_steps::steps::{Detail, Printing, StepsReplay};
+use line_text::LineForm;
 use std::process::Abort;
 use tap_text::plan::{StepsPlan, read_plan};
 use test_fixtures::captures::{HEADER, bytes_of};
@@ -12,7 +13,13 @@ fn is_a_fault(rt: &(impl Abort + AllocGlobal), plan: &StepsPlan, header: &[u8], 
     let taken = Vec::new(rt.alloc());
     let mut out = UnflushedWriter { taken };
     let mut err: Vec<u8> = Vec::new(rt.alloc());
-    let (outcome, _) = play_plan(rt.alloc(), plan, &[header], detail, &mut out, &mut err);
+    let captures = [header];
+    let replay = StepsReplay {
+        plan,
+        captures: &captures,
+    };
+    let form = LineForm::Text;
+    let (outcome, _) = replay.play(rt.alloc(), Printing { form, detail }, &mut out, &mut err);
     let line = b"bpftap: Device standard output\n";
     same(
         rt,

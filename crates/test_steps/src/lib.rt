@@ -7,6 +7,8 @@ mod callers;
 #[cfg(test)]
 mod devices;
 #[cfg(test)]
+mod in_memory;
+#[cfg(test)]
 mod replays;
 #[cfg(test)]
 mod same;

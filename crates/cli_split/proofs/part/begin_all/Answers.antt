@@ -7,7 +7,7 @@ pub loop-part-init : goal.loop-part-init
 loop-part-init g c = (
   tt,
   tt,
-  completes-none (HasTaken g.W.Sink.taken g.W.Sink.failures c.args.order c.args.unit []) _ _ _ c.requires.room.0
+  completes-none (HasTaken g.W.Sink.taken g.W.Sink.name g.W.Sink.failures c.args.order c.args.unit []) _ _ _ c.requires.room.0
       c.into_iter-part-iterator.ensures.into_iter_gives.0,
   omega (arith, c.requires.room.0, ap length c.into_iter-part-iterator.ensures.into_iter_gives.0),
   c.requires.room.1,
@@ -21,12 +21,12 @@ pub loop-part-preserved : goal.loop-part-preserved
 loop-part-preserved g c = (
   tt,
   tt,
-  completes-next (HasTaken g.W.Sink.taken g.W.Sink.failures c.args.order c.args.unit []) _ _ _ c.in-Some.part _ _ _ c.loop-part.invariant.2 c.in-Some.ensures.steps.0
+  completes-next (HasTaken g.W.Sink.taken g.W.Sink.name g.W.Sink.failures c.args.order c.args.unit []) _ _ _ c.in-Some.part _ _ _ c.loop-part.invariant.2 c.in-Some.ensures.steps.0
       c.push_reserved.ensures.items c.begin.ensures,
   as-many _ _ c.in-Some.part _ _ _ _ c.loop-part.invariant.3 c.in-Some.ensures.steps.0 c.push_reserved.ensures.items,
   omega (arith, c.loop-part.invariant.4, c.push_reserved.ensures.capacity),
 )
 
 pub returns : goal.returns
-returns g c = completed (HasTaken g.W.Sink.taken g.W.Sink.failures c.args.order c.args.unit []) _ _ _ c.loop-part.invariant.2
+returns g c = completed (HasTaken g.W.Sink.taken g.W.Sink.name g.W.Sink.failures c.args.order c.args.unit []) _ _ _ c.loop-part.invariant.2
     (omega (arith, c.in-None.ensures.steps.0, c.loop-part.part-iterator.rest.ok))

@@ -7,6 +7,6 @@ use Rattle.cli_split.proofs.part.close_all.Given as goal
 abbrev pub invariant-loop-outlet : goal.invariant-loop-outlet
 invariant-loop-outlet g l =
     (goal.iterator-loop-outlet g).can_next l.outlet-iterator × (goal.iterator-loop-outlet g).is_finite l.outlet-iterator
-    × Completes (IsEndOf g.W.Sink.taken g.W.Sink.failures) l.fn.outlets.items l.ends.items l.outlet-iterator.rest.items
+    × Completes (IsEndOf g.W.Sink.taken g.W.Sink.name g.W.Sink.failures) l.fn.outlets.items l.ends.items l.outlet-iterator.rest.items
     × (length l.ends.items + length l.outlet-iterator.rest.items ≡ length l.fn.outlets.items)
     × (length l.fn.outlets.items ≤ vec_capacity l.ends)

@@ -12,34 +12,36 @@ give-requires-clause-writable g c = c.requires.writable
 pub give-requires-clause-so_far : goal.give-requires-clause-so_far
 give-requires-clause-so_far g c =
     let T = g.W.Sink.taken in
+    let N = g.W.Sink.name in
     let F = g.W.Sink.failures in
     let (order, unit, packets, parts, each, few) = c.requires.so_far in
     let x = c.outlet-item.result in
     let i = c.loop-outlet.outlet-index in
     let h : i < length c.loop-outlet.outlet-items = omega (arith, c.loop-outlet-test.true, c.deref_mut-outlet-items.ensures.len) in
-    let (part, stands) = half-at (HasTaken T F order unit packets) (HasTaken T F order unit (packets ++ c.args.packet.now ∷ [])) parts c.loop-outlet.outlet-items i x (c.loop-outlet.invariant order unit packets parts each) h in
+    let (part, stands) = half-at (HasTaken T N F order unit packets) (HasTaken T N F order unit (packets ++ c.args.packet.now ∷ [])) parts c.loop-outlet.outlet-items i x (c.loop-outlet.invariant order unit packets parts each) h in
     (order, unit, packets, part, stands, few)
 
 pub loop-outlet-init : goal.loop-outlet-init
 loop-outlet-init g c = λ order unit packets parts each.
-    subst (λ os. Half (HasTaken g.W.Sink.taken g.W.Sink.failures order unit packets) (HasTaken g.W.Sink.taken g.W.Sink.failures order unit (packets ++ c.args.packet.now ∷ [])) parts os 0) (sym c.deref_mut-outlet-items.ensures.value)
-    (half-none (HasTaken g.W.Sink.taken g.W.Sink.failures order unit packets) (HasTaken g.W.Sink.taken g.W.Sink.failures order unit (packets ++ c.args.packet.now ∷ [])) parts c.args.outlets.now.items each)
+    subst (λ os. Half (HasTaken g.W.Sink.taken g.W.Sink.name g.W.Sink.failures order unit packets) (HasTaken g.W.Sink.taken g.W.Sink.name g.W.Sink.failures order unit (packets ++ c.args.packet.now ∷ [])) parts os 0) (sym c.deref_mut-outlet-items.ensures.value)
+    (half-none (HasTaken g.W.Sink.taken g.W.Sink.name g.W.Sink.failures order unit packets) (HasTaken g.W.Sink.taken g.W.Sink.name g.W.Sink.failures order unit (packets ++ c.args.packet.now ∷ [])) parts c.args.outlets.now.items each)
 
 pub loop-outlet-preserved : goal.loop-outlet-preserved
 loop-outlet-preserved g c = λ order unit packets parts each.
     let T = g.W.Sink.taken in
+    let N = g.W.Sink.name in
     let F = g.W.Sink.failures in
     let x = c.outlet-item.result in
     let i = c.loop-outlet.outlet-index in
     let h : i < length c.loop-outlet.outlet-items = omega (arith, c.loop-outlet-test.true, c.deref_mut-outlet-items.ensures.len) in
     let next : suc i ≡ i + 1 = omega arith in
-    subst (λ k. Half (HasTaken T F order unit packets) (HasTaken T F order unit (packets ++ c.args.packet.now ∷ [])) parts (set c.loop-outlet.outlet-items i c.give.new.outlet) k) next
-    (half-more (HasTaken T F order unit packets) (HasTaken T F order unit (packets ++ c.args.packet.now ∷ [])) parts c.loop-outlet.outlet-items i x c.give.new.outlet
+    subst (λ k. Half (HasTaken T N F order unit packets) (HasTaken T N F order unit (packets ++ c.args.packet.now ∷ [])) parts (set c.loop-outlet.outlet-items i c.give.new.outlet) k) next
+    (half-more (HasTaken T N F order unit packets) (HasTaken T N F order unit (packets ++ c.args.packet.now ∷ [])) parts c.loop-outlet.outlet-items i x c.give.new.outlet
     (c.loop-outlet.invariant order unit packets parts each) h
     (λ part stands. c.give.ensures order unit packets part stands))
 
 pub returns : goal.returns
 returns g c = λ order unit packets parts each.
-    subst (λ os. AllZip (HasTaken g.W.Sink.taken g.W.Sink.failures order unit (packets ++ c.args.packet.now ∷ [])) parts os) (sym (take_at c.loop-outlet.outlet-items _ _ (omega (arith, c.loop-outlet.auto.outlet-items, ap length c.deref_mut-outlet-items.ensures.value, c.args.outlets.now.ok))))
-    (half-all (HasTaken g.W.Sink.taken g.W.Sink.failures order unit packets) (HasTaken g.W.Sink.taken g.W.Sink.failures order unit (packets ++ c.args.packet.now ∷ [])) parts c.loop-outlet.outlet-items _
+    subst (λ os. AllZip (HasTaken g.W.Sink.taken g.W.Sink.name g.W.Sink.failures order unit (packets ++ c.args.packet.now ∷ [])) parts os) (sym (take_at c.loop-outlet.outlet-items _ _ (omega (arith, c.loop-outlet.auto.outlet-items, ap length c.deref_mut-outlet-items.ensures.value, c.args.outlets.now.ok))))
+    (half-all (HasTaken g.W.Sink.taken g.W.Sink.name g.W.Sink.failures order unit packets) (HasTaken g.W.Sink.taken g.W.Sink.name g.W.Sink.failures order unit (packets ++ c.args.packet.now ∷ [])) parts c.loop-outlet.outlet-items _
     (c.loop-outlet.invariant order unit packets parts each) (omega (arith, c.loop-outlet-test.false, c.deref_mut-outlet-items.ensures.len)))

@@ -12,5 +12,5 @@ use Rattle.cli_split.proofs.part.give_all.Given as goal
 abbrev pub invariant-loop-outlet : goal.invariant-loop-outlet
 invariant-loop-outlet g l =
     (order : Order) (unit : TimeUnit) (packets : List Packet) (parts : List (Part g.row.W.Denot))
-    → AllZip (HasTaken g.W.Sink.taken g.W.Sink.failures order unit packets) parts l.fn.outlets.items
-    → Half (HasTaken g.W.Sink.taken g.W.Sink.failures order unit packets) (HasTaken g.W.Sink.taken g.W.Sink.failures order unit (packets ++ l.packet ∷ [])) parts l.outlet-items l.outlet-index
+    → AllZip (HasTaken g.W.Sink.taken g.W.Sink.name g.W.Sink.failures order unit packets) parts l.fn.outlets.items
+    → Half (HasTaken g.W.Sink.taken g.W.Sink.name g.W.Sink.failures order unit packets) (HasTaken g.W.Sink.taken g.W.Sink.name g.W.Sink.failures order unit (packets ++ l.packet ∷ [])) parts l.outlet-items l.outlet-index

@@ -33,6 +33,7 @@ returns g c = λ first order unit parts o has.
     let L = g.R.Source.left in
     let B = g.R.Source.failures in
     let T = g.W.Sink.taken in
+    let N = g.W.Sink.name in
     let F = g.W.Sink.failures in
     let rest = c.args.others.items in
     let opened = c.give_opened-source in
@@ -43,9 +44,9 @@ returns g c = λ first order unit parts o has.
     (first-read L B first opened.result.0 opened.new.self.read rest packets opened.result.1 r given.0) in
     let behind = c.give_captures-sources in
     let (more, reads, now) = behind.ensures.reads order unit packets parts (first ∷ rest) given so in
-    read-first L B T F (first ∷ rest) parts order unit behind.result.0 c.close_all.result first rest behind.result.1 (packets ++ more)
+    read-first L B T N F (first ∷ rest) parts order unit behind.result.0 c.close_all.result first rest behind.result.1 (packets ++ more)
     refl reads (behind.ensures.begun opened.ensures.begun)
-    (zip-through (HasTaken T F order unit (packets ++ more)) (IsEndOf T F) (IsWritten T F order unit (packets ++ more))
+    (zip-through (HasTaken T N F order unit (packets ++ more)) (IsEndOf T N F) (IsWritten T N F order unit (packets ++ more))
     (λ part outlet end stands ends. ends order unit (packets ++ more) part stands) parts behind.new.self.outlets.items c.close_all.result.items now.2 c.close_all.ensures)
 
 pub close_all-requires : goal.close_all-requires
@@ -53,6 +54,7 @@ close_all-requires g c =
     let L = g.R.Source.left in
     let B = g.R.Source.failures in
     let T = g.W.Sink.taken in
+    let N = g.W.Sink.name in
     let F = g.W.Sink.failures in
     let (first, o) = c.requires.opened in
     let (order, unit, parts, has, room) = c.requires.begun in
@@ -64,5 +66,5 @@ close_all-requires g c =
     let so = subst (λ ts. ReadsSoFar L B (first ∷ rest) ts (length ts) rest packets opened.result.1) back
     (first-read L B first opened.result.0 opened.new.self.read rest packets opened.result.1 r given.0) in
     let (more, reads, now) = c.give_captures-sources.ensures.reads order unit packets parts (first ∷ rest) given so in
-    let same : length parts ≡ length c.give_captures-sources.new.self.outlets.items = zip-length (HasTaken T F order unit (packets ++ more)) parts c.give_captures-sources.new.self.outlets.items now.2 in
+    let same : length parts ≡ length c.give_captures-sources.new.self.outlets.items = zip-length (HasTaken T N F order unit (packets ++ more)) parts c.give_captures-sources.new.self.outlets.items now.2 in
     record { room = (c.requires.ends, omega (arith, same, room)) }

@@ -13,7 +13,7 @@ returns-in-Ok g c =
       steps = c.in-Ok.plan.steps.items;
       of_listeners = asked.asked;
       of_script = c.in-Ok.ensures.script;
-      plays = plays-all Text false _ asked.all _ _ _ _ _ asked.first (plays-of Text false false _ _ _ _ _ _ _ c.play_plan.ensures);
+      plays = plays-all Text false _ asked.all _ _ _ _ _ asked.first (plays-of Text false false _ _ _ _ _ _ _ c.play.ensures);
     })
 
 pub returns-in-Err : goal.returns-in-Err

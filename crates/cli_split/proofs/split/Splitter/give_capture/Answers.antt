@@ -30,7 +30,7 @@ returns-in-Err-clause-reads g c =
     ok-of c.args.end _ (
       [],
       reads-unopened g.R.Source.left g.R.Source.failures c.args.source c.in-Err.source _ c.args.n c.in-Err.fault told.refused told.taken told.device told.unread,
-      λ order unit before parts has. subst (λ ps. HasSplit g.W.Sink.taken g.W.Sink.failures order unit ps parts c.args.self.now) (sym (append-nil before)) has,
+      λ order unit before parts has. subst (λ ps. HasSplit g.W.Sink.taken g.W.Sink.name g.W.Sink.failures order unit ps parts c.args.self.now) (sym (append-nil before)) has,
     )
 
 pub returns-in-Err-clause-unread : goal.returns-in-Err-clause-unread

@@ -14,7 +14,7 @@ loop-source-init g c = (
   c.requires.so_far,
   (λ order unit packets parts all has so. (
     [],
-    subst (λ ps. HasSplit g.W.Sink.taken g.W.Sink.failures order unit ps parts c.args.self.now) (sym (append-nil packets)) has,
+    subst (λ ps. HasSplit g.W.Sink.taken g.W.Sink.name g.W.Sink.failures order unit ps parts c.args.self.now) (sym (append-nil packets)) has,
     subst (λ xs. ReadsSoFar g.R.Source.left g.R.Source.failures all c.args.sources.items (length c.args.sources.items) xs (packets ++ []) c.args.first) (sym c.into_iter-source-iterator.ensures.into_iter_gives.0)
         (subst (λ ps. ReadsSoFar g.R.Source.left g.R.Source.failures all c.args.sources.items (length c.args.sources.items) c.args.captures.items ps c.args.first) (sym (append-nil packets)) so),
   )),
@@ -28,18 +28,19 @@ loop-source-preserved g c =
     let L = g.R.Source.left in
     let B = g.R.Source.failures in
     let T = g.W.Sink.taken in
+    let N = g.W.Sink.name in
     let F = g.W.Sink.failures in
     let call = c.give_capture-source in
-    let next : IsNext L B T F c.in-Some.source call.result.0 c.len.result c.loop-source.self call.new.self c.loop-source.end call.result.1 = (call.ensures.reads, call.ensures.unread) in
+    let next : IsNext L B T N F c.in-Some.source call.result.0 c.len.result c.loop-source.self call.new.self c.loop-source.end call.result.1 = (call.ensures.reads, call.ensures.unread) in
     let few = as-many _ _ c.in-Some.source _ _ call.result.0 _ refl c.in-Some.ensures.steps.0 c.push_reserved.ensures.items in (
       tt,
       tt,
-      parts-on L B T F c.in-Some.source call.result.0 c.len.result _ call.new.self c.loop-source.end call.result.1 next c.loop-source.invariant.2,
+      parts-on L B T N F c.in-Some.source call.result.0 c.len.result _ call.new.self c.loop-source.end call.result.1 next c.loop-source.invariant.2,
       (λ order unit packets parts all has so.
           let (more, now, so_far) = c.loop-source.invariant.3 order unit packets parts all has so in
-          reads-on L B T F order unit packets more parts all _ _ c.in-Some.source call.result.0 _ _ c.len.result _ call.new.self c.loop-source.end call.result.1
+          reads-on L B T N F order unit packets more parts all _ _ c.in-Some.source call.result.0 _ _ c.len.result _ call.new.self c.loop-source.end call.result.1
           now so_far c.in-Some.ensures.steps.0 c.push_reserved.ensures.items (omega (arith, c.len.ensures, c.loop-source.sources.ok)) next),
-      (λ passes. passes-on L B T F c.in-Some.source call.result.0 c.len.result _ call.new.self c.loop-source.end call.result.1 (omega (arith, c.len.ensures, c.loop-source.sources.ok, c.loop-source.invariant.5)) next (c.loop-source.invariant.4 passes)),
+      (λ passes. passes-on L B T N F c.in-Some.source call.result.0 c.len.result _ call.new.self c.loop-source.end call.result.1 (omega (arith, c.len.ensures, c.loop-source.sources.ok, c.loop-source.invariant.5)) next (c.loop-source.invariant.4 passes)),
       omega (arith, ap length c.push_reserved.ensures.items, length-append c.loop-source.sources.items (call.result.0 ∷ [])),
       omega (arith, few, c.loop-source.invariant.6, c.push_reserved.ensures.capacity),
     )

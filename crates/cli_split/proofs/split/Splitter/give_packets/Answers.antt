@@ -14,7 +14,7 @@ loop-self-init g c = record {
   gives = λ start header h. (
     [],
     h,
-    λ order unit before parts has. subst (λ ps. HasSplit g.W.Sink.taken g.W.Sink.failures order unit ps parts c.args.self.now) (sym (append-nil before)) has,
+    λ order unit before parts has. subst (λ ps. HasSplit g.W.Sink.taken g.W.Sink.name g.W.Sink.failures order unit ps parts c.args.self.now) (sym (append-nil before)) has,
   );
   taken = ([], Consumes-nil _);
   works = refl;
@@ -41,7 +41,7 @@ loop-self-preserved g c =
                 let now = c.advance_flushed.ensures.written order unit (before ++ packets) parts (goes order unit before parts has) in (
                   omega (arith, now.0, length-append before packets, length-append before (packets ++ p ∷ []), length-append packets (p ∷ [])),
                   omega (arith, now.1, c.if-self.false, c.advance_flushed.ensures.read),
-                  subst (λ (ps : List Packet). AllZip (HasTaken g.W.Sink.taken g.W.Sink.failures order unit ps) parts c.give_all.new.outlets.items)
+                  subst (λ (ps : List Packet). AllZip (HasTaken g.W.Sink.taken g.W.Sink.name g.W.Sink.failures order unit ps) parts c.give_all.new.outlets.items)
                       (ap (λ (q : Packet). (before ++ packets) ++ q ∷ []) c.packet.ensures ∙ append_assoc before packets (p ∷ []))
                       (c.give_all.ensures order unit (before ++ packets) parts now.2),
                 ),

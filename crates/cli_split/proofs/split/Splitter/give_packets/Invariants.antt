@@ -10,7 +10,7 @@ use Rattle.cli_split.proofs.split.Splitter.give_packets.Given as goal
 abbrev pub invariant-loop-self : goal.invariant-loop-self
 invariant-loop-self g l = record {
   gives : (start : Option (List ℕ)) (header : Header) → HasGiven g.R.Source.left start header [] l.fn.reader →
-      (packets : List Packet) × HasGiven g.R.Source.left start header packets l.reader × GoesOn g.W.Sink.taken g.W.Sink.failures packets l.fn.self l.self;
+      (packets : List Packet) × HasGiven g.R.Source.left start header packets l.reader × GoesOn g.W.Sink.taken g.W.Sink.name g.W.Sink.failures packets l.fn.self l.self;
   taken : (bytes : List ℕ) × Consumes (g.R.Source.left l.fn.reader.source) (g.R.Source.left l.reader.source) bytes;
   works : g.R.Source.failures l.reader.source ≡ g.R.Source.failures l.fn.reader.source;
 }

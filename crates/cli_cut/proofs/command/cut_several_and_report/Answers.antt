@@ -1,0 +1,8 @@
+use Rattle.std.proofs.Common.{Ok, sym}
+use Rattle.cli_cut.proofs.command.cut_several_and_report.Goals as goal
+
+pub returns-then-is_standard_output-clause-cuts : goal.returns-then-is_standard_output-clause-cuts
+returns-then-is_standard_output-clause-cuts g c tells = (Ok c.in-Ok.end, c.in-Ok.ensures.cuts tells, sym (c.is_unread.ensures c.if-is_unread.true))
+
+pub returns-else-is_unread-clause-cuts : goal.returns-else-is_unread-clause-cuts
+returns-else-is_unread-clause-cuts g c tells = (Ok c.in-Ok.end, c.in-Ok.ensures.cuts tells, c.report_captures.ensures)

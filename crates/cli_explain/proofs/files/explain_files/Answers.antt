@@ -1,0 +1,37 @@
+use Rattle.std.proofs.Common.{◌≡◌, ℕ, List, Option, Bor, refl, sym, subst, option_copied}
+use Rattle.cli_answers.specs.Asked.{IsAsked}
+use Rattle.cli_answers.specs.declared.form.PacketForm.{PacketForm}
+use Rattle.cli_answers.proofs.Closing.{fresh}
+use Rattle.cli_explain.specs.Captures.{ExplainsIn}
+use Rattle.cli_explain.specs.Explaining.{PrintsLines, PrintsTotals}
+use Rattle.cli_explain.proofs.Stopping.{explains-broke}
+use Rattle.cli_explain.proofs.files.explain_files.Goals as goal
+
+pub returns-clause-prints : goal.returns-clause-prints
+returns-clause-prints g c tells =
+    let F = g.F.FileStore in
+    let left = g.F.Input.Source.left in
+    let failures = g.F.Input.Source.failures in
+    let contents = g.O.Write.contents in
+    let old = c.args.files.now in
+    let words = c.args.words.now in
+    let asked = c.in_ok-filter.field-0 in
+    let call = c.explain_captures-sources in
+    let end = c.print_totals in
+    let form = c.asked-form.result in
+    let asks = subst (λ (paths : List (Bor (List ℕ))). IsAsked left failures (F.place old) (F.text old) (F.printed old) (option_copied words.listing) (option_copied words.expr) paths asked)
+    c.as_slice-inputs.ensures.value (c.in_ok-filter.ensures.asks tells) in
+    let sums : PrintsTotals contents form call.result.totals call.new.out end.new.out end.result =
+    record { unopened = end.ensures.none; broken = end.ensures.failed; counted = end.ensures.prints } in
+    record {
+      asked = asked;
+      asks = asks;
+      mid = call.new.out;
+      explained = call.result;
+      lines = subst (λ (f : PacketForm). ExplainsIn left failures contents f asked.filter asked.captures.items c.args.out.now call.new.out call.result) c.asked-form.ensures call.ensures;
+      sums = subst (λ (f : PacketForm). PrintsTotals contents f call.result.totals call.new.out end.new.out end.result) c.asked-form.ensures sums;
+      counts = refl;
+      read = refl;
+      broke = λ n device. c.close_captures-noted.ensures.failed tells (explains-broke left failures contents form asked.filter asked.captures.items c.args.out.now call.new.out call.result n
+          (fresh left failures (F.place old) (F.text old) words.inputs.items asked.captures.items asks.captures) call.ensures device);
+    }

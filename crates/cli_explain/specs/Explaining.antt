@@ -1,0 +1,144 @@
+-- What `bpftap explain` prints of files, and its exit status. Read it from the last definition up.
+use Rattle.std.specs.Prelude.{◌≡◌, ◌⊎◌, ℕ, Bool, true, false, List, [], ◌∷◌, Option, Some, None, Result, Ok, Err, IsErr, IsOk, option_copied}
+use Rattle.line_text.specs.Sending.{Takes}
+use Rattle.savefile.specs.declared.fault.Fault.{Fault}
+use Rattle.savefile.specs.declared.fault.Fault.TheVariants.{Device}
+use Rattle.cli_text.specs.Status.{greater}
+use Rattle.cli_text.specs.declared.status.Status.{Status}
+use Rattle.cli_text.specs.declared.status.Status.TheVariants.{Clean}
+use Rattle.cli_walk.specs.Walking.{stop}
+use Rattle.cli_store.specs.Files.{Places, Texts}
+use Rattle.cli_args.specs.declared.explain.ExplainWords.{ExplainWords}
+use Rattle.cli_args.specs.declared.places.PlaceRange.{PlaceRange}
+use Rattle.cli_answers.specs.declared.asked.Asked.{Asked}
+use Rattle.cli_answers.specs.declared.asked.Unasked.{Unasked}
+use Rattle.cli_answers.specs.declared.captures.SoughtCaptures.{SoughtCaptures}
+use Rattle.cli_answers.specs.declared.filter.AskedFilter.{AskedFilter}
+use Rattle.cli_answers.specs.declared.form.PacketForm.{PacketForm}
+use Rattle.cli_answers.specs.declared.printing.Unprinted.{Unprinted}
+use Rattle.cli_answers.specs.Asked.{IsAsked, IsUnasked, IsUnaskedStatus}
+use Rattle.cli_answers.specs.Captures.{SeeksIn}
+use Rattle.cli_answers.specs.Counts.{asked_form, counts_in}
+use Rattle.cli_answers.specs.Seeking.{accepts}
+use Rattle.cli_answers.specs.Telling.{printed_status, stop_status}
+use Rattle.cli_explain.specs.declared.captures.ExplainedCaptures.{ExplainedCaptures}
+use Rattle.cli_explain.specs.declared.captures.ExplainedTotals.{ExplainedTotals}
+use Rattle.cli_explain.specs.declared.one.Found.{Found}
+use Rattle.cli_explain.specs.declared.outcome.FullEnd.{FullEnd}
+use Rattle.cli_explain.specs.declared.outcome.LinesEnd.{LinesEnd}
+use Rattle.cli_explain.specs.declared.outcome.SoughtEnd.{SoughtEnd}
+use Rattle.cli_explain.specs.Captures.{ExplainsIn}
+use Rattle.cli_explain.specs.Range.{FindsRange}
+use Rattle.cli_explain.specs.Telling.{found_status, sought_status}
+
+-- ---- What is asked
+
+-- by the words of the command line: this filter, of these captures, which are the files of IN in order
+abbrev pub Asks : {R : Type 0} → (R → Option (List ℕ)) → (R → ℕ) → Places → Texts → Option (List ℕ) → ExplainWords → Asked R → Type 0
+Asks left failures place text printed words asked =
+    IsAsked left failures place text printed (option_copied words.listing) (option_copied words.expr) words.inputs.items asked
+
+-- or why nothing is
+abbrev pub IsRefused : Places → Texts → Option (List ℕ) → Bool → ExplainWords → Unasked → Type 0
+IsRefused place text printed failed words reason =
+    IsUnasked place text printed failed (option_copied words.listing) (option_copied words.expr) words.inputs.items reason
+
+-- nothing was printed, and the status says why
+abbrev pub Refuses : {O : Type 0} → Places → Texts → Option (List ℕ) → Bool → ExplainWords → O → O → Status → Type 0
+Refuses place text printed failed words old new ended =
+    (reason : Unasked) × IsRefused place text printed failed words reason × IsUnaskedStatus reason ended × (new ≡ old)
+
+-- ---- A line for each packet
+
+-- the counts of all captures were printed, if a header was read and all lines were printed
+pub record PrintsTotals {O : Type 0} (contents : O → Option (List ℕ)) (form : PacketForm) (totals : ExplainedTotals) (old new : O) (printed : Result (Unit {0}) Unprinted) : Type 0 where
+  pub unopened : totals.opened ≡ false → (printed ≡ totals.printed) × (new ≡ old)
+  pub broken : IsErr totals.printed → (printed ≡ totals.printed) × (new ≡ old)
+  pub counted : totals.opened ≡ true → IsOk totals.printed →
+      Takes (contents old) (contents new) printed (counts_in form totals.counts.packets totals.counts.yes totals.counts.no totals.counts.abort)
+
+-- The lines of the packets of the captures were printed, in order up to the first fault, in the form that is asked for; and then the counts of
+-- all. A device's fault comes only if one failed.
+pub record PrintsLines {R O : Type 0} (left : R → Option (List ℕ)) (failures : R → ℕ) (contents : O → Option (List ℕ)) (place : Places) (text : Texts) (printed : Option (List ℕ)) (failed : Bool) (words : ExplainWords) (old new : O) (end : LinesEnd) : Type 0 where
+  pub asked : Asked R
+  pub asks : Asks left failures place text printed words asked
+  pub mid : O
+  pub explained : ExplainedCaptures R
+  pub lines : ExplainsIn left failures contents (asked_form words.json) asked.filter asked.captures.items old mid explained
+  pub sums : PrintsTotals contents (asked_form words.json) explained.totals mid new end.printed
+  pub counts : end.counts ≡ explained.totals.counts
+  pub read : end.read ≡ explained.read
+  pub broke : (n : ℕ) → end.read ≡ Err (stop n Device) → failed ≡ true
+
+-- ---- Whether a packet is accepted
+
+-- A packet was looked for that the filter accepts, in the captures in order.
+pub record Seeks {R : Type 0} (left : R → Option (List ℕ)) (failures : R → ℕ) (place : Places) (text : Texts) (printed : Option (List ℕ)) (failed : Bool) (words : ExplainWords) (end : SoughtEnd) : Type 0 where
+  pub asked : Asked R
+  pub asks : Asks left failures place text printed words asked
+  pub sought : SoughtCaptures R
+  pub seeks : SeeksIn left failures (accepts asked.filter) asked.captures.items sought
+  pub found : end.found ≡ sought.found
+  pub broke : (n : ℕ) → end.found ≡ Err (stop n Device) → failed ≡ true
+
+-- ---- Packets in full
+
+-- after a capture the next one is read if this one could be read so far and all was printed
+abbrev pub goes_on_after : Result Bool Fault → Result (Unit {0}) Unprinted → Bool
+goes_on_after (Ok found) (Ok all) = true
+goes_on_after (Ok found) (Err unprinted) = false
+goes_on_after (Err fault) printed = false
+
+-- the packets of a range of places of a capture were printed in full
+abbrev pub FindsOne : {R : Type 0} → (R → Option (List ℕ)) → AskedFilter → (first last : ℕ) → R → Option (List ℕ) → Option (List ℕ) → FullEnd → Type 0
+FindsOne {R = R} left filter first last from old new end =
+    (found : Found R) × FindsRange left from filter first last old new found
+    × (end.status ≡ greater (printed_status found.printed) (found_status found.read)) × (end.goes_on ≡ goes_on_after found.read found.printed)
+
+-- The same of each capture, in order, while the next one is read. The status is the greatest one.
+abbrev pub FindsIn : {R O : Type 0} → (R → Option (List ℕ)) → (O → Option (List ℕ)) → AskedFilter → (first last : ℕ) → Bool → Status → List R → O → O → Status → Type 0
+FindsIn left contents filter first last false so captures old new status = (new ≡ old) × (status ≡ so)
+FindsIn left contents filter first last true so [] old new status = (new ≡ old) × (status ≡ so)
+FindsIn {O = O} left contents filter first last true so (from ∷ froms) old new status =
+    (end : FullEnd) × (mid : O) × FindsOne left filter first last from (contents old) (contents mid) end
+    × FindsIn left contents filter first last end.goes_on (greater so end.status) froms mid new status
+
+pub record PrintsPlaces {R O : Type 0} (left : R → Option (List ℕ)) (failures : R → ℕ) (contents : O → Option (List ℕ)) (place : Places) (text : Texts) (printed : Option (List ℕ)) (words : ExplainWords) (places : PlaceRange) (old new : O) (ended : Status) : Type 0 where
+  pub asked : Asked R
+  pub asks : Asks left failures place text printed words asked
+  pub finds : FindsIn left contents asked.filter places.first places.last true Clean asked.captures.items old new ended
+
+-- they were, or nothing was
+abbrev pub PlacesAnswer : {R O : Type 0} → (R → Option (List ℕ)) → (R → ℕ) → (O → Option (List ℕ)) → Places → Texts → Option (List ℕ) → Bool → ExplainWords → PlaceRange → O → O → Status → Type 0
+PlacesAnswer left failures contents place text printed failed words places old new ended =
+    Refuses place text printed failed words old new ended
+    ⊎ PrintsPlaces left failures contents place text printed words places old new ended
+
+-- ---- The command
+
+-- the lines were printed, or nothing was
+abbrev pub LinesAnswer : {R O : Type 0} → (R → Option (List ℕ)) → (R → ℕ) → (O → Option (List ℕ)) → Places → Texts → Option (List ℕ) → Bool → ExplainWords → O → O → Status → Type 0
+LinesAnswer left failures contents place text printed failed words old new ended =
+    Refuses place text printed failed words old new ended
+    ⊎ ((end : LinesEnd) × PrintsLines left failures contents place text printed failed words old new end
+    × (ended ≡ greater (printed_status end.printed) (stop_status end.read)))
+
+-- only the status answers
+abbrev pub StatusAnswers : {R O : Type 0} → (R → Option (List ℕ)) → (R → ℕ) → Places → Texts → Option (List ℕ) → Bool → ExplainWords → O → O → Status → Type 0
+StatusAnswers left failures place text printed failed words old new ended =
+    Refuses place text printed failed words old new ended
+    ⊎ ((end : SoughtEnd) × Seeks left failures place text printed failed words end × (new ≡ old) × (ended ≡ sought_status end.found))
+
+-- by whether only the status answers, and whether places are given
+abbrev pub AnswersBy : {R O : Type 0} → (R → Option (List ℕ)) → (R → ℕ) → (O → Option (List ℕ)) → Places → Texts → Option (List ℕ) → Bool → ExplainWords → Bool → Option PlaceRange → O → O → Status → Type 0
+AnswersBy left failures contents place text printed failed words true places old new ended =
+    StatusAnswers left failures place text printed failed words old new ended
+AnswersBy left failures contents place text printed failed words false (Some places) old new ended =
+    PlacesAnswer left failures contents place text printed failed words places old new ended
+AnswersBy left failures contents place text printed failed words false None old new ended =
+    LinesAnswer left failures contents place text printed failed words old new ended
+
+-- A call of `bpftap explain`: what standard output had, which was `old`, is now `new`.
+abbrev pub Answers : {R O : Type 0} → (R → Option (List ℕ)) → (R → ℕ) → (O → Option (List ℕ)) → Places → Texts → Option (List ℕ) → Bool → ExplainWords → O → O → Status → Type 0
+Answers left failures contents place text printed failed words old new ended =
+    AnswersBy left failures contents place text printed failed words words.quiet words.places old new ended

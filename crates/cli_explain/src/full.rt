@@ -1,0 +1,165 @@
+//! `bpftap explain -p`, over files that contracts can know: packets of each capture in full.
+
+ghost use Rattle.std.specs.Prelude.{◌≡◌, true};
+ghost use Rattle.cli_text.specs.declared.status.Status.TheVariants.{Clean};
+ghost use Rattle.cli_store.specs.Files.{Keeps};
+ghost use Rattle.cli_explain.specs.Explaining.{FindsIn, FindsOne, PlacesAnswer, goes_on_after};
+
+use crate::hints::hint_place;
+use crate::one::Found;
+use crate::outcome::FullEnd;
+use crate::program::FilterWithProgram;
+use crate::range::explain_range;
+use crate::report::report_one;
+use bpfvm::Program;
+use cli_answers::AskedFilter;
+use cli_answers::asked::{Asked, ask};
+use cli_answers::hints::hint_capture;
+use cli_answers::printing::Unprinted;
+use cli_answers::report::report_unasked;
+use cli_args::explain::ExplainWords;
+use cli_args::places::PlaceRange;
+use cli_report::HintSink;
+use cli_store::FileStore;
+use cli_text::Status;
+use filtergen::{Refusal, compile};
+use savefile::Fault;
+use std::alloc::Global;
+use std::io::Write;
+
+/// Which packets of each capture are explained in full, and by what; and the paths of the captures, as they are reported.
+#[derive(Clone, Copy)]
+struct InFull<'f, 'p, 'w> {
+    alloc: Global,
+    filter: FilterWithProgram<'f, 'p>,
+    places: PlaceRange,
+    paths: &'w [&'w str],
+}
+
+/// Whether the next capture is read after one of which packets were read and printed so.
+fn goes_on_after(read: Result<bool, Fault>, printed: &Result<(), Unprinted>) -> bool
+    ensures { result ≡ goes_on_after read printed.now }
+{
+    match read {
+        Ok(_) => printed.is_ok(),
+        Err(_) => false,
+    }
+}
+
+/// Prints the packets of a range of places of the capture of this number in full, closes it, and reports how that ended.
+fn explain_places_of<'p, F: FileStore<'p>, O: Write, E: HintSink>(
+    asked: &InFull<'_, '_, '_>,
+    files: &mut F,
+    number: usize,
+    capture: F::Input,
+    out: &mut O,
+    err: &mut E,
+) -> FullEnd
+    ensures kept { Keeps (F.place files.old) (F.place files.new) (F.text files.old) (F.text files.new) (F.pending files.old) (F.pending files.new) }
+    ensures finds { FindsOne F.Input.left asked.now.filter.filter.now asked.now.places.first asked.now.places.last capture (O.contents out.old) (O.contents out.new) result }
+{
+    let PlaceRange { first, last } = asked.places;
+    let Found {
+        source,
+        read,
+        printed,
+    } = explain_range(asked.alloc, capture, &asked.filter, first, last, out);
+    let noted = files.done(source);
+    let goes_on = goes_on_after(read, &printed);
+    let found = Found {
+        source: (),
+        read,
+        printed,
+    };
+    let status = report_one(&found, first, asked.paths, number, err);
+    match read {
+        Ok(true) => {}
+        Ok(false) => hint_place(err),
+        Err(fault) => hint_capture(asked.paths, number, fault, &noted, err),
+    }
+    FullEnd { status, goes_on }
+}
+
+/// Prints these packets of each capture in full, in order, until one can't be read so far or the printing fails; and closes all captures.
+fn explain_in_full<'p, F: FileStore<'p>, O: Write, E: HintSink>(
+    asked: &InFull<'_, '_, '_>,
+    files: &mut F,
+    captures: Vec<F::Input>,
+    out: &mut O,
+    err: &mut E,
+) -> Status
+    ensures kept { Keeps (F.place files.old) (F.place files.new) (F.text files.old) (F.text files.new) (F.pending files.old) (F.pending files.new) }
+    ensures finds { FindsIn F.Input.left O.contents asked.now.filter.filter.now asked.now.places.first asked.now.places.last true Clean captures.items out.old out.new result }
+{
+    let mut status = Status::Clean;
+    let mut goes_on = true;
+    let mut number: usize = 0;
+    for capture in captures {
+        if goes_on {
+            let end = explain_places_of(asked, files, number, capture, out, err);
+            status = status.max(end.status);
+            goes_on = end.goes_on;
+            number = number.saturating_add(1);
+        } else {
+            let _ = files.done(capture);
+        }
+    }
+    status
+}
+
+/// What an expression is compiled to, or why it is not.
+fn program_of(compiled: &Result<Program, Refusal>) -> Result<&Program, Refusal> {
+    match compiled {
+        Ok(program) => Ok(program),
+        Err(refusal) => Err(*refusal),
+    }
+}
+
+/// Prints the packets of a range of places of each capture in full, with the run of the filter's program, and reports how that ended.
+pub fn explain_places<'p, F: FileStore<'p>, O: Write, E: HintSink>(
+    alloc: Global,
+    files: &mut F,
+    words: &ExplainWords<'p>,
+    places: PlaceRange,
+    out: &mut O,
+    err: &mut E,
+) -> Status
+    ensures kept { Keeps (F.place files.old) (F.place files.new) (F.text files.old) (F.text files.new) (F.pending files.old) (F.pending files.new) }
+    ensures answers { F.known ≡ true → PlacesAnswer F.Input.left F.Input.failures O.contents (F.place files.old) (F.text files.old) (F.printed files.old) (F.failed files.new) words.now places out.old out.new result }
+{
+    let paths = words.inputs.as_slice();
+    let Asked { filter, captures } = match ask(alloc, files, words.listing, words.expr, paths) {
+        Ok(asked) => asked,
+        Err(reason) => return report_unasked(alloc, &reason, words.expr, err),
+    };
+    match &filter {
+        AskedFilter::Expression(expr) => {
+            let compiled = compile(expr, words.snap);
+            let program = program_of(&compiled);
+            let filter = FilterWithProgram {
+                filter: &filter,
+                program,
+            };
+            let asked = InFull {
+                alloc,
+                filter,
+                places,
+                paths,
+            };
+            explain_in_full(&asked, files, captures, out, err)
+        }
+        AskedFilter::Program(program) => {
+            let filter = FilterWithProgram {
+                filter: &filter,
+                program: Ok(program),
+            };
+            let asked = InFull {
+                alloc,
+                filter,
+                places,
+                paths,
+            };
+            explain_in_full(&asked, files, captures, out, err)
+        }
+    }
+}

@@ -1,7 +1,0 @@
-use Rattle.cli_steps.proofs.steps.play_plan_in.Goals as goal
-
-pub returns-in-Trace : goal.returns-in-Trace
-returns-in-Trace g c = rw c.in-Trace.is (rw c.in-Trace.is at c.play_trace.ensures)
-
-pub returns-in-Answers : goal.returns-in-Answers
-returns-in-Answers g c = rw c.in-Answers.is (rw c.in-Answers.is at c.play_trace-in-Answers.ensures)
