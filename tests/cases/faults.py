@@ -163,16 +163,17 @@ PLACES = {"N": r"\d+", "C": r"\d+", "L": r"\d+", "I": r"\d+", "B": r"\d+", "PATH
 # The sections of the page that have the lines of a command; those of faults inside a line.
 SHARED = "Files and words"
 LISTINGS = "Programs: `-f` of `cut`, `explain`, `check` and `compare`"
+PLANS = "`split`, `steps` and `run`"
 SECTIONS = {
     "check": {SHARED, "Expressions", LISTINGS},
     "explain": {SHARED, "Expressions", "Captures", LISTINGS, "`explain`"},
     "compare": {SHARED, "Expressions", "Captures", LISTINGS, "`explain`"},
     "cut": {SHARED, "Expressions", "Captures", LISTINGS, "`parts`, `join` and `cut --bytes`"},
-    "split": {SHARED, "`split`"},
+    "split": {SHARED, PLANS},
     "parts": {SHARED, "Captures", "`parts`, `join` and `cut --bytes`"},
     "join": {SHARED, "Captures", "`parts`, `join` and `cut --bytes`"},
-    "steps": {SHARED, "`steps`"},
-    "run": {SHARED, "`run`"},
+    "steps": {SHARED, PLANS},
+    "run": {SHARED, PLANS},
 }
 INNER = {"Captures", "Expressions"}
 
@@ -194,9 +195,10 @@ class Row:
 def rows():
     """The lines of the page's tables."""
     for part in PAGE.read_text().split("\n## ")[1:]:
-        found = re.findall(r"^\| `((?:bpftap: |interface )[^`]+)` \| ([\d, ]+?)( \*)? \|", part, re.M)
-        for line, statuses, star in found:
-            yield Row(part.splitlines()[0], line, frozenset(map(int, statuses.split(", "))), not star)
+        found = re.findall(r"^\| `([^`]+)` \|(?: ([\d, ]+?)( \*)? \|)?", part, re.M)
+        for text, statuses, star in found:
+            line = text if text.startswith("interface ") else f"bpftap: {text}"
+            yield Row(part.splitlines()[0], line, frozenset(map(int, (statuses or "1").split(", "))), not star)
 
 
 class Page:
