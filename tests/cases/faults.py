@@ -180,7 +180,7 @@ INNER = {"Captures", "Expressions"}
 
 @dataclass(frozen=True)
 class Row:
-    """A line of a table of the page: its statuses, and whether a test makes it."""
+    """A line of a list of the page: its statuses, and whether a test makes it."""
     section: str
     line: str
     statuses: frozenset
@@ -193,9 +193,9 @@ class Row:
 
 
 def rows():
-    """The lines of the page's tables."""
+    """The lines of the page's lists."""
     for part in PAGE.read_text().split("\n## ")[1:]:
-        found = re.findall(r"^\| `([^`]+)` \|(?: ([\d, ]+?)( \*)? \|)?", part, re.M)
+        found = re.findall(r"^- `([^`]+)`(?: \(([\d, ]+?)( \*)?\))?: ", part, re.M)
         for text, statuses, star in found:
             line = text if text.startswith("interface ") else f"bpftap: {text}"
             yield Row(part.splitlines()[0], line, frozenset(map(int, (statuses or "1").split(", "))), not star)

@@ -173,10 +173,10 @@ def examples_print_what_they_say(scene):
 
 @case
 def faults_of_expressions_are_those_of_the_language(scene):
-    """The page of `check` has the faults of the table in docs/LANGUAGE.md, and no others."""
+    """The page of `check` has the faults of docs/FAULTS.md, `NoMemory`, and no others."""
     listed = [line.split()[2] for line in section(page_of("check"), "DIAGNOSTICS") if line.startswith(".It Li")]
-    table = (ROOT / "docs" / "LANGUAGE.md").read_text().split("\n## Faults\n")[1].split("\n## ")[0]
-    scene.check("faults", sorted(listed), sorted(re.findall(r"^\| `(\w+)` \|", table, re.M)))
+    table = (ROOT / "docs" / "FAULTS.md").read_text().split("\n## Expressions\n")[1].split("\n## ")[0]
+    scene.check("faults", sorted(listed), sorted(["NoMemory", *re.findall(r"^- `(\w+)[ `]", table, re.M)]))
 
 
 @case
