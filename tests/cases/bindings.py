@@ -194,21 +194,6 @@ def first_answers_come_as_the_page_says(scene):
 
 
 @case
-def faults_of_its_page_are_those_of_the_library(scene):
-    """The table of docs/LIBRARY.md has the numbers of the header's enum, each with the name that the library writes."""
-    if not is_there(scene):
-        return
-    scene.start({})
-    table = (ROOT / "docs" / "LIBRARY.md").read_text().partition("| Of | Numbers |")[2].partition("\n\n")[0]
-    listed = {int(number): name for number, name in re.findall(r"(?<=[ ,])(\d+) ([A-Z]\w+)", table)}
-    header = (ROOT / "include" / "bpftap.h").read_text().partition("enum bpftap_fault {")[2].partition("};")[0]
-    numbers = sorted(int(number) for number in re.findall(r"^ +BPFTAP_\w+ = (\d+)", header, re.M))
-    scene.check("numbers", sorted(listed), numbers)
-    said, status = done(scene, [sys.executable, ROOT / "tests" / "library" / "names.py", *map(str, numbers)], env=environment_of_python())
-    scene.check("names", ([listed.get(number) for number in numbers], status), (said.split(), 0))
-
-
-@case
 def pages_of_calls_say_what_each_does(scene):
     """The line below NAME of each page of the manual fits a terminal, and no page begins with what another one says."""
     scene.start({})
