@@ -1,8 +1,7 @@
-"""`docs/SCALE.md`: its commands after a `$`, in order, if the programs that they call are there; its scripts for Slurm; and `examples/dask`."""
+"""`docs/SCALE.md`: its commands after a `$`, in order, if the programs that they call are there; `examples/slurm`; and `examples/dask`."""
 import contextlib
 import os
 import pathlib
-import re
 import socket
 import subprocess
 import tempfile
@@ -146,22 +145,16 @@ def slurm():
             yield {**os.environ, "SLURM_CONF": str(conf), "PATH": f"{pathlib.Path(PROGRAM).parent}:{os.environ['PATH']}"}
 
 
-def scripts():
-    """The scripts for Slurm that the page has, in order."""
-    blocks = re.findall(r"(?m)(?:^    .*\n)+", PAGE.read_text())
-    return [re.sub(r"(?m)^    ", "", block) for block in blocks if "#SBATCH" in block]
-
-
 @case
 def slurm_cuts_what_one_process_cuts(scene):
-    """The page's scripts on one node: a trove, and one large capture in parts, are what one process cuts."""
+    """The scripts of `examples/slurm` on one node: a trove, and one large capture in parts, are what one process cuts."""
     if not scene.has(*SLURM):
         return
     if os.getuid():
         scene.leave("Slurm's daemons are root's")
         return
     text = VETH.read_bytes()
-    trove, parts = scripts()
+    trove, parts = ((ROOT / "examples" / "slurm" / name).read_text() for name in ("cut.sbatch", "part.sbatch"))
     for folder in ("captures", "out"):
         (scene.folder / folder).mkdir()
     scene.put({"cut.sbatch": trove, "part.sbatch": parts, "captures/one.pcap": text, "captures/two.pcap": text[:24] + text[24:] * 3, "big.pcap": text[:24] + text[24:] * 60})
