@@ -74,7 +74,7 @@ fn explain_places_of<'p, F: FileStore<'p>, O: Write, E: HintSink>(
     let status = report_one(&found, first, asked.paths, number, err);
     match read {
         Ok(true) => {}
-        Ok(false) => hint_place(err),
+        Ok(false) => hint_place(asked.paths, number, err),
         Err(fault) => hint_capture(asked.paths, number, fault, &noted, err),
     }
     FullEnd { status, goes_on }

@@ -130,7 +130,7 @@ fn a_place_without_a_packet_is_refused_in_each_capture(rt: HostRuntime) {
     let mut files = files_of(&rt);
     let mut words = words_of(&rt, Some("ip"), &["in.pcap", "in.pcap"]);
     words.places = Some(PlaceRange { first: 7, last: 7 });
-    let faults = "bpftap: NoPacket 7\nbpftap: NoPacket 7\n";
+    let faults = "bpftap: NoPacket 7\n  in.pcap\nbpftap: NoPacket 7\n  in.pcap\n";
     explains(&rt, &mut files, &words, (Status::Refused, "", faults));
 }
 
