@@ -94,7 +94,7 @@ IN_FULL = [
     (["-p", "0", "-f", "store.bpf"],
      ',"bytes":"ffffffffffff0001020304050806","expression":null,"asked":[],"unasked":[],'
      '"run":{"instructions":3,"returned":0,"at":2,"instruction":"ldb [99]","steps":['
-     '{"at":0,"instruction":"ld #5","accumulator":5,"index":0},'
+     '{"at":0,"instruction":"ld #0x5","accumulator":5,"index":0},'
      '{"at":1,"instruction":"st M[3]","accumulator":5,"index":0,"stored":{"cell":3,"value":5}},'
      '{"at":2,"instruction":"ldb [99]","accumulator":5,"index":0}]}}\n'),
 ]
