@@ -1,14 +1,11 @@
 -- Parts of LINES that are joined, and why they are not.
 use Rattle.std.proofs.Common.{◌≡◌, ◌≢◌, ℕ, ◌<◌, Bool, List, [], ◌∷◌, length, All, Option, refl, sym, subst, arith}
-use Rattle.std.specs.Prelude.{IfOk, IfErr, OnOk, Result, Ok, Err}
-use Rattle.savefile.specs.declared.fault.Fault.{Fault}
 use Rattle.pcap_parts.specs.declared.part.PartCut.{PartCut}
 use Rattle.pcap_parts.specs.declared.select.Selection.{Selection}
 use Rattle.pcap_parts.specs.declared.writing.WriteFault.{WriteFault}
 use Rattle.pcap_parts.specs.declared.writing.WriteFault.TheVariants.{OtherHeader, OtherSize, Unread, Output, NoMemory}
 use Rattle.pcap_parts.specs.Writing.{Texts, OneOf, HaveOneHeader, IsWriteFault, IsWritten}
 use Rattle.cli_parts.specs.Selected.{IsSelection}
-use Rattle.cli_parts.specs.declared.joining.JoinFault.{JoinFault}
 use Rattle.cli_parts.specs.declared.joining.JoinFault.TheVariants.{Sizes, Writing}
 use Rattle.cli_parts.specs.Joined.{HasSize, IsApart, IsBefore, IsJoinFault, IsJoined, IsSizeFault}
 

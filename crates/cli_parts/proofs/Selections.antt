@@ -1,12 +1,9 @@
 -- Parts that are selected of the lines.
-use Rattle.std.proofs.Common.{◌≡◌, ℕ, List, subst, sym}
+use Rattle.std.proofs.Common.{ℕ, List}
 use Rattle.std.specs.Prelude.{IfErr, IfOk, Result, Ok, Err}
-use Rattle.pcap_parts.specs.declared.again.Stretch.{Stretch}
-use Rattle.pcap_parts.specs.declared.join.Misfit.TheVariants.{CutOff}
 use Rattle.pcap_parts.specs.declared.part.PartCut.{PartCut}
 use Rattle.pcap_parts.specs.declared.select.Selection.{Selection}
-use Rattle.pcap_parts.specs.Again.{AreAgain}
-use Rattle.pcap_parts.specs.Selecting.{Selects, StopsAt}
+use Rattle.pcap_parts.specs.Selecting.{Selects}
 use Rattle.cli_parts.specs.declared.lines.LinesFault.{LinesFault}
 use Rattle.cli_parts.specs.declared.lines.LinesFault.TheVariants.{Line, Misfit, Again, NoMemory}
 use Rattle.cli_parts.specs.Selected.{size_of, IsLineFault, IsLinesFault, IsPartsFault, IsSelection, SayParts}

@@ -1,5 +1,5 @@
 use Rattle.std.proofs.Common.{◌≢◌, codes, rules, ◌∙◌, ap, sym, Some}
-use Rattle.cli_parts.proofs.Reading.{end-clean, end-faulty, end-is, end-there}
+use Rattle.cli_parts.proofs.Reading.{end-faulty, end-is, end-there}
 use Rattle.cli_parts.proofs.fields.end_in.Goals as goal
 
 pub returns-in_err-name-clause-whole : goal.returns-in_err-name-clause-whole

@@ -1,4 +1,4 @@
-use Rattle.std.proofs.Common.{◌≢◌, ◌+◌, [], arith, length, rules, subst, sym, ap}
+use Rattle.std.proofs.Common.{◌≢◌, [], arith, rules, subst}
 use Rattle.line_text.specs.Files.{IsFirstBad}
 use Rattle.line_text.proofs.Reading.{IsRead-more, IsRead-bad}
 use Rattle.cli_parts.specs.Lines.{IsPartLine}
