@@ -64,7 +64,7 @@ module _ {R W X Y : Type 0} (left : R → Option (List ℕ)) (broken : R → ℕ
 -- ---- Why nothing was split
 
 -- LINES was not read
-pub unread-reason : (place : Places) (text : Texts) (printed : Option (List ℕ)) (failed : Bool) (denied : Option (List ℕ)) (words : SplitWords) (r : Refusal)
+unread-reason : (place : Places) (text : Texts) (printed : Option (List ℕ)) (failed : Bool) (denied : Option (List ℕ)) (words : SplitWords) (r : Refusal)
     → IsUnread place text denied words.lines.now r → IsReason place text printed failed denied words r
 unread-reason place text printed failed denied words (refusal.TextTooLong path) is = is
 unread-reason place text printed failed denied words (refusal.File path error) is = (inl is.0, subst (λ p. IsDenied place denied p error) (sym is.0) is.1)
@@ -73,7 +73,7 @@ unread-reason place text printed failed denied words (refusal.Paths fault) is = 
 unread-reason place text printed failed denied words refusal.NoMemory is = absurd is
 
 -- an OUT may not be written
-pub shared-reason : (place : Places) (text : Texts) (printed : Option (List ℕ)) (failed : Bool) (denied : Option (List ℕ)) (words : SplitWords) (lines : List SplitLine) (r : Refusal)
+shared-reason : (place : Places) (text : Texts) (printed : Option (List ℕ)) (failed : Bool) (denied : Option (List ℕ)) (words : SplitWords) (lines : List SplitLine) (r : Refusal)
     → AreAsked place text words lines → IsShared place printed failed words lines r → IsReason place text printed failed denied words r
 shared-reason place text printed failed denied words lines (refusal.Paths fault) asked is = (lines, asked, is)
 shared-reason place text printed failed denied words lines refusal.NoMemory asked is = tt
@@ -82,7 +82,7 @@ shared-reason place text printed failed denied words lines (refusal.File path er
 shared-reason place text printed failed denied words lines (refusal.Lines bytes fault) asked is = absurd is
 
 -- a file was not opened or made
-pub unmade-reason : (place : Places) (text : Texts) (printed : Option (List ℕ)) (failed : Bool) (denied : Option (List ℕ)) (words : SplitWords) (lines : List SplitLine) (r : Refusal)
+unmade-reason : (place : Places) (text : Texts) (printed : Option (List ℕ)) (failed : Bool) (denied : Option (List ℕ)) (words : SplitWords) (lines : List SplitLine) (r : Refusal)
     → AreAsked place text words lines → IsUnmade (IsInput words.inputs.items) place denied r ⊎ IsUnmade (IsOutput lines) place denied r → IsReason place text printed failed denied words r
 unmade-reason place text printed failed denied words lines (refusal.File path error) asked (inl is) = (inr (inl is.0), is.1)
 unmade-reason place text printed failed denied words lines (refusal.File path error) asked (inr is) = (inr (inr (lines, asked, is.0)), is.1)
@@ -153,9 +153,22 @@ planned-into place now old mid new printed failed words lines (Ok report) places
 }
 
 -- nothing was done, for a reason
-pub refused-files : (place : Places) (old new : Texts) (printed : Option (List ℕ)) (failed : Bool) (denied : Option (List ℕ)) (words : SplitWords) (r : Refusal) → new ≡ old
+refused-files : (place : Places) (old new : Texts) (printed : Option (List ℕ)) (failed : Bool) (denied : Option (List ℕ)) (words : SplitWords) (r : Refusal) → new ≡ old
     → IsReason place old printed failed denied words r → SplitsFiles place old new printed failed denied words (Refused r)
 refused-files place old new printed failed denied words r texts is = (is, λ p. ap (λ (t : Texts). t p) texts)
+
+-- LINES was not read
+pub unread-files : (place : Places) (old new : Texts) (printed : Option (List ℕ)) (failed : Bool) (denied : Option (List ℕ)) (words : SplitWords) (r : Refusal) → new ≡ old
+    → IsUnread place old denied words.lines.now r → SplitsFiles place old new printed failed denied words (Refused r)
+unread-files place old new printed failed denied words r texts is =
+    refused-files place old new printed failed denied words r texts (unread-reason place old printed failed denied words r is)
+
+-- the paths are refused
+pub shared-files : (place now : Places) (old new : Texts) (printed printed-now : Option (List ℕ)) (failed : Bool) (denied : Option (List ℕ)) (words : SplitWords) (lines : List SplitLine) (r : Refusal)
+    → now ≡ place → new ≡ old → printed-now ≡ printed → AreAsked place old words lines → IsShared now printed-now failed words lines r → SplitsFiles place old new printed failed denied words (Refused r)
+shared-files place now old new printed printed-now failed denied words lines r places texts prints asked is =
+    refused-files place old new printed failed denied words r texts (shared-reason place old printed failed denied words lines r asked
+    (subst (λ (pl : Places). IsShared pl printed failed words lines r) places (subst (λ pr. IsShared now pr failed words lines r) prints is)))
 
 pub unmade-files : (place now : Places) (old mid new : Texts) (printed : Option (List ℕ)) (failed : Bool) (denied : Option (List ℕ)) (words : SplitWords) (lines : List SplitLine) (result : Result SplitReport Refusal)
     → now ≡ place → mid ≡ old → AreAsked place old words lines

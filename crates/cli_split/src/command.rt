@@ -1,7 +1,7 @@
 //! `bpftap split`, over files.
 
 ghost use Rattle.std.specs.Prelude.{◌≡◌, [], true};
-ghost use Rattle.cli_text.specs.declared.status.Status.TheVariants as status;
+ghost use Rattle.cli_text.specs.declared.status.Status.TheVariants.{Refused};
 ghost use Rattle.cli_split.specs.SplitFiles.{IsRefusalStatus, ReportsOutcome, SplitsFiles, form_of};
 ghost use Rattle.cli_split.specs.Statuses.{ReportsSplit};
 ghost use Rattle.cli_split.specs.declared.outcome.SplitOutcome.{SplitOutcome};
@@ -43,7 +43,7 @@ pub struct Reported {
 
 /// Reports why LINES is refused.
 fn report_lines<E: HintSink>(alloc: Global, text: &[u8], fault: PlanFault, err: &mut E) -> Status
-    ensures { result ≡ status.Refused }
+    ensures { result ≡ Refused }
 {
     let status = report_fault(&fault_text(fault).report(), Status::Refused, err);
     hint_plan::<SplitLine<'_>, E>(alloc, text, (), LINES, fault, err);
