@@ -83,23 +83,29 @@ fn report_refused<E: HintSink>(alloc: Global, refusal: &Refusal<'_>, err: &mut E
 /// Prints how many packets each part has, and reports what failed.
 fn report_ended<O: Write, E: HintSink>(
     words: &SplitWords<'_>,
-    mut report: SplitReport<'_>,
+    report: SplitReport<'_>,
     out: &mut O,
     err: &mut E,
 ) -> Reported
     ensures { ReportsSplit (form_of words.now) report.entry.lines.items report.entry.end (O.contents out.old) (O.contents out.new) result.status }
 {
+    let SplitReport {
+        lines,
+        end,
+        mut line,
+    } = report;
+    let paths = words.inputs.as_slice();
     let files = SplitFiles {
-        captures: words.inputs.as_slice(),
-        lines: report.lines.as_slice(),
+        captures: paths,
+        lines: lines.as_slice(),
     };
     let form = LineForm::asked(words.json);
-    let status = report_split(form, files, &report.end, &mut report.line, out, err);
-    hint_ended(files.captures, files.lines, &report.end, err);
+    let status = report_split(form, files, &end, &mut line, out, err);
+    hint_ended(paths, lines.as_slice(), &end, err);
     Reported {
         status,
         is_accepted: true,
-        is_asked: counts_frames(files.lines),
+        is_asked: counts_frames(lines.as_slice()),
     }
 }
 
@@ -124,6 +130,27 @@ pub fn split_and_report<'p, F: FileStore<'p>, O: Write, E: HintSink>(
     }
 }
 
+/// Splits the files of the system. The text of LINES is kept in `text`.
+fn split_on_disk<'w: 'p, 'p, R: Files + AllocGlobal + Screen, O: Write, E: HintSink>(
+    rt: &R,
+    words: &SplitWords<'w>,
+    text: &'p mut Vec<u8>,
+    out: &mut O,
+    err: &mut E,
+) -> Result<Reported, Status> {
+    let words: &SplitWords<'p> = words;
+    let alloc = rt.alloc();
+    let mut out = output_buffer(alloc, &mut *out, err)?;
+    let watch = Watch::new(rt, words.inputs.as_slice(), err.takes_hints()).counting(true);
+    let mut files = DiskFiles::new(rt, &watch).gathering(OUTPUT_BUFFER);
+    let reported = split_and_report(alloc, &mut files, words, text, &mut out, err);
+    hint_printed(out.get_ref(), err);
+    if reported.is_asked {
+        let _ = report_unseen(watch.frames(), reported.status, err);
+    }
+    Ok(reported)
+}
+
 /// `bpftap split`: LINES is accepted and the paths are compared before a capture is opened.
 pub fn split_command<R: Files + AllocGlobal + Screen, O: Write, E: HintSink>(
     rt: &R,
@@ -131,21 +158,14 @@ pub fn split_command<R: Files + AllocGlobal + Screen, O: Write, E: HintSink>(
     out: &mut O,
     err: &mut E,
 ) -> Status {
-    let alloc = rt.alloc();
-    let mut out = match output_buffer(alloc, &mut *out, err) {
-        Ok(out) => out,
-        Err(status) => return status,
-    };
-    let mut text = Vec::new(alloc);
-    let watch = Watch::new(rt, words.inputs.as_slice(), err.takes_hints()).counting(true);
-    let mut files = DiskFiles::new(rt, &watch).gathering(OUTPUT_BUFFER);
-    let reported = split_and_report(alloc, &mut files, words, &mut text, &mut out, err);
-    hint_printed(out.get_ref(), err);
-    if reported.is_asked {
-        let _ = report_unseen(watch.frames(), reported.status, err);
+    let mut text = Vec::new(rt.alloc());
+    match split_on_disk(rt, words, &mut text, out, err) {
+        Ok(reported) => {
+            if reported.is_accepted {
+                hint_returns("LINES", text.as_slice(), err);
+            }
+            reported.status
+        }
+        Err(status) => status,
     }
-    if reported.is_accepted {
-        hint_returns("LINES", text.as_slice(), err);
-    }
-    reported.status
 }
