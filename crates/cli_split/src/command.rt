@@ -31,12 +31,18 @@ use std::alloc::Global;
 use std::fs::Files;
 use std::io::Write;
 
+/// Where the text of LINES is kept.
+#[derive(Drop)]
+pub struct LinesText<'p> {
+    pub bytes: &'p mut Vec<u8>,
+}
+
 /// A call of `bpftap split` that was reported.
 #[derive(Clone, Copy, Debug, PartialEq, Eq)]
-pub struct Reported {
+pub struct Reported<'p> {
     pub status: Status,
-    /// Whether LINES was accepted.
-    pub is_accepted: bool,
+    /// The text of LINES, if captures were split as it asks.
+    pub text: Option<&'p [u8]>,
     /// Whether captures were split by an expression: then the frames into which it does not look are reported.
     pub is_asked: bool,
 }
@@ -70,26 +76,31 @@ fn report_refusal<E: HintSink>(alloc: Global, refusal: &Refusal<'_>, err: &mut E
 }
 
 /// Reports why nothing was split.
-fn report_refused<E: HintSink>(alloc: Global, refusal: &Refusal<'_>, err: &mut E) -> Reported
+fn report_refused<'p, E: HintSink>(
+    alloc: Global,
+    refusal: &Refusal<'p>,
+    err: &mut E,
+) -> Reported<'p>
     ensures { IsRefusalStatus refusal.now result.status }
 {
     Reported {
         status: report_refusal(alloc, refusal, err),
-        is_accepted: !matches!(refusal, Refusal::Lines(_, _)),
+        text: None,
         is_asked: false,
     }
 }
 
 /// Prints how many packets each part has, and reports what failed.
-fn report_ended<O: Write, E: HintSink>(
+fn report_ended<'p, O: Write, E: HintSink>(
     words: &SplitWords<'_>,
-    report: SplitReport<'_>,
+    report: SplitReport<'p>,
     out: &mut O,
     err: &mut E,
-) -> Reported
+) -> Reported<'p>
     ensures { ReportsSplit (form_of words.now) report.entry.lines.items report.entry.end (O.contents out.old) (O.contents out.new) result.status }
 {
     let SplitReport {
+        text,
         lines,
         end,
         mut line,
@@ -104,7 +115,7 @@ fn report_ended<O: Write, E: HintSink>(
     hint_ended(paths, lines.as_slice(), &end, err);
     Reported {
         status,
-        is_accepted: true,
+        text: Some(text),
         is_asked: counts_frames(lines.as_slice()),
     }
 }
@@ -114,36 +125,37 @@ pub fn split_and_report<'p, F: FileStore<'p>, O: Write, E: HintSink>(
     alloc: Global,
     files: &mut F,
     words: &SplitWords<'p>,
-    text: &'p mut Vec<u8>,
+    text: LinesText<'p>,
     out: &mut O,
     err: &mut E,
-) -> Reported
+) -> Reported<'p>
     requires none_open { F.opened files.old ≡ [] }
     ensures splits { F.known ≡ true → (outcome : SplitOutcome)
         × SplitsFiles (F.place files.old) (F.text files.old) (F.text files.new) (F.printed files.old) (F.failed files.new) (F.denied files.new) words.now outcome
         × ReportsOutcome words.now outcome (O.contents out.old) (O.contents out.new) result.status }
     ensures closed { F.known ≡ true → F.pending files.new ≡ F.pending files.old }
 {
-    match split_files(alloc, files, words, text) {
+    let LinesText { bytes } = text;
+    match split_files(alloc, files, words, bytes) {
         SplitOutcome::Refused(refusal) => report_refused(alloc, &refusal, err),
         SplitOutcome::Ended(report) => report_ended(words, report, out, err),
     }
 }
 
-/// Splits the files of the system. The text of LINES is kept in `text`.
+/// Splits the files of the system.
 fn split_on_disk<'w: 'p, 'p, R: Files + AllocGlobal + Screen, O: Write, E: HintSink>(
     rt: &R,
     words: &SplitWords<'w>,
-    text: &'p mut Vec<u8>,
+    text: LinesText<'p>,
     out: &mut O,
     err: &mut E,
-) -> Result<Reported, Status> {
-    let words: &SplitWords<'p> = words;
+) -> Result<Reported<'p>, Status> {
     let alloc = rt.alloc();
     let mut out = output_buffer(alloc, &mut *out, err)?;
     let watch = Watch::new(rt, words.inputs.as_slice(), err.takes_hints()).counting(true);
     let mut files = DiskFiles::new(rt, &watch).gathering(OUTPUT_BUFFER);
-    let reported = split_and_report(alloc, &mut files, words, text, &mut out, err);
+    let asked: &SplitWords<'p> = words;
+    let reported = split_and_report(alloc, &mut files, asked, text, &mut out, err);
     hint_printed(out.get_ref(), err);
     if reported.is_asked {
         let _ = report_unseen(watch.frames(), reported.status, err);
@@ -159,10 +171,11 @@ pub fn split_command<R: Files + AllocGlobal + Screen, O: Write, E: HintSink>(
     err: &mut E,
 ) -> Status {
     let mut text = Vec::new(rt.alloc());
-    match split_on_disk(rt, words, &mut text, out, err) {
+    let kept = LinesText { bytes: &mut text };
+    match split_on_disk(rt, words, kept, out, err) {
         Ok(reported) => {
-            if reported.is_accepted {
-                hint_returns("LINES", text.as_slice(), err);
+            if let Some(text) = reported.text {
+                hint_returns("LINES", text, err);
             }
             reported.status
         }

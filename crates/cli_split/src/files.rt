@@ -25,23 +25,26 @@ use std::alloc::{AllocError, Global};
 
 /// The memory that a split needs once an OUT is made: so none is made in vain.
 #[derive(Drop)]
-struct Space<R, W> {
+struct Space<'p, R, W> {
+    text: &'p [u8],
     room: Room<R, W>,
     parts: Vec<Part<W>>,
     closed: Vec<ClosedPart>,
     line: String,
 }
 
-/// Reserves the space for so many captures and for these lines.
-fn reserve<R: Drop, W: Drop>(
+/// Reserves the space for so many captures and for these lines of LINES.
+fn reserve<'p, R: Drop, W: Drop>(
     alloc: Global,
     form: LineForm,
     captures: usize,
-    lines: &[SplitLine<'_>],
-) -> Result<Space<R, W>, AllocError>
+    lines: &[SplitLine<'p>],
+    text: &'p [u8],
+) -> Result<Space<'p, R, W>, AllocError>
     ensures { IfOk result (HasSpace captures (length lines.now)) }
 {
     Ok(Space {
+        text,
         room: Room::reserve(alloc, captures, lines.len())?,
         parts: Vec::with_capacity(alloc, lines.len())?,
         closed: Vec::with_capacity(alloc, lines.len())?,
@@ -56,7 +59,7 @@ fn split_captures<'p, F: FileStore<'p>>(
     words: &SplitWords<'p>,
     plan: Plan<SplitLine<'p>>,
     captures: Vec<F::Input>,
-    space: Space<F::Input, F::Output>,
+    space: Space<'p, F::Input, F::Output>,
 ) -> Result<SplitReport<'p>, Refusal<'p>>
     requires space { HasSpace (length captures.items) (length plan.lines.items) space }
     requires all { length plan.programs.items ≡ length plan.lines.items }
@@ -72,6 +75,7 @@ fn split_captures<'p, F: FileStore<'p>>(
     packets_take_room();
     let Plan { lines, programs } = plan;
     let Space {
+        text,
         room,
         mut parts,
         closed,
@@ -86,7 +90,12 @@ fn split_captures<'p, F: FileStore<'p>>(
     }
     let split = split_in(alloc, room, captures, parts, words.order, words.unit);
     let end = close_files(alloc, files, split, closed);
-    Ok(SplitReport { lines, end, line })
+    Ok(SplitReport {
+        text,
+        lines,
+        end,
+        line,
+    })
 }
 
 /// Splits the captures as the plan says, whose paths were compared.
@@ -95,6 +104,7 @@ fn split_planned<'p, F: FileStore<'p>>(
     files: &mut F,
     words: &SplitWords<'p>,
     plan: Plan<SplitLine<'p>>,
+    text: &'p [u8],
 ) -> Result<SplitReport<'p>, Refusal<'p>>
     requires none_open { F.opened files.old ≡ [] }
     requires all { length plan.programs.items ≡ length plan.lines.items }
@@ -109,7 +119,7 @@ fn split_planned<'p, F: FileStore<'p>>(
 {
     let form = LineForm::asked(words.json);
     let captures = late_captures(alloc, files, words.inputs.as_slice())?;
-    let space = reserve(alloc, form, captures.len(), plan.lines.as_slice())?;
+    let space = reserve(alloc, form, captures.len(), plan.lines.as_slice(), text)?;
     split_captures(alloc, files, words, plan, captures, space)
 }
 
@@ -131,7 +141,7 @@ fn split_accepted<'p, F: FileStore<'p>>(
         Err(fault) => return Err(Refusal::Lines(text, fault)),
     };
     check_paths(alloc, files, words, plan.lines.as_slice())?;
-    split_planned(alloc, files, words, plan)
+    split_planned(alloc, files, words, plan, text)
 }
 
 /// `bpftap split`, whatever the files are. LINES, whose text is kept in `text`, is accepted and the paths are compared before a capture is

@@ -51,6 +51,8 @@ pub type ClosedEnd = SplitEnd<ProbedInput<()>, Option<io::Error>>;
 /// What was split.
 #[derive(Drop)]
 pub struct SplitReport<'p> {
+    /// The text of LINES.
+    pub text: &'p [u8],
     /// What LINES asks for.
     pub lines: Vec<SplitLine<'p>>,
     pub end: ClosedEnd,

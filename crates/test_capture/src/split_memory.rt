@@ -2,7 +2,7 @@
 
 use crate::same::{same, same_in};
 use cli_args::split::SplitWords;
-use cli_split::command::split_and_report;
+use cli_split::command::{LinesText, split_and_report};
 use cli_store::{Endurance, FileStore, MemoryFile, MemoryFiles};
 use cli_text::Status;
 use savefile::{Order, Unit};
@@ -75,7 +75,8 @@ fn ends<'p>(
     wanted: &Wanted<'_>,
 ) {
     let (mut out, mut err) = (Vec::new(rt.alloc()), Vec::new(rt.alloc()));
-    let found = split_and_report(rt.alloc(), files, words, text, &mut out, &mut err);
+    let kept = LinesText { bytes: text };
+    let found = split_and_report(rt.alloc(), files, words, kept, &mut out, &mut err);
     same(rt, found.status, wanted.status);
     same_in(rt, "printed", out.as_slice(), wanted.out.as_bytes());
     same_in(rt, "reported", err.as_slice(), wanted.err.as_bytes());

@@ -16,10 +16,16 @@ split_planned-requires g c κs =
       (refl, tt),
       (
         c.in_ok-check_paths.ensures.opened ∙ c.in_ok-text.ensures.opened ∙ c.requires.none_open,
-        c.in-Ok.ensures.all,
-        c.in-Ok.ensures.programs,
-        (λ tells. subst (λ (pl : Places). AreApart pl words lines) (sym second.0) (subst (λ ls. AreApart (place found) words ls) same (c.in_ok-check_paths.ensures.apart tells))),
-        (λ tells. subst (λ (pl : Places). HaveOwnFiles pl lines) (sym second.0) (subst (λ ls. HaveOwnFiles (place found) ls) same (c.in_ok-check_paths.ensures.own tells))),
+        (
+          c.in-Ok.ensures.all,
+          (
+            c.in-Ok.ensures.programs,
+            (
+              (λ tells. subst (λ (pl : Places). AreApart pl words lines) (sym second.0) (subst (λ ls. AreApart (place found) words ls) same (c.in_ok-check_paths.ensures.apart tells))),
+              (λ tells. subst (λ (pl : Places). HaveOwnFiles pl lines) (sym second.0) (subst (λ ls. HaveOwnFiles (place found) ls) same (c.in_ok-check_paths.ensures.own tells))),
+            ),
+          ),
+        ),
       ),
     )
 

@@ -16,8 +16,10 @@ make_parts-requires g c κs =
       (refl, tt),
       (
         (c.requires.space.no_part, omega (arith, c.requires.space.parts, c.requires.all)),
-        omega (arith, c.requires.all, ap length same),
-        (λ tells. subst (λ ls. All (λ line. All (λ read. read ≢ place line.output.now) opened) ls) (sym same) (c.requires.apart tells)),
+        (
+          omega (arith, c.requires.all, ap length same),
+          (λ tells. subst (λ ls. All (λ line. All (λ read. read ≢ place line.output.now) opened) ls) (sym same) (c.requires.apart tells)),
+        ),
       ),
     )
 

@@ -22,13 +22,21 @@ split_captures-requires g c κs =
       (
         space-of c.len.result (length c.in_ok-captures.captures.items) (length c.as_slice-2.result.now) (length lines) c.in_ok-space.space (omega (arith, c.len.ensures, c.in_ok-captures.captures.ok))
             (ap length c.as_slice-2.ensures.value) c.in_ok-space.ensures,
-        c.requires.all,
-        c.requires.programs,
-        (λ tells. late-kept g.F.Input.Source.left g.F.Input.Source.failures place here text (g.F.FileStore.text c.late_captures.new.files) words.inputs.items c.in_ok-captures.captures.items kept.0 kept.1
-            (subst (λ ps. AllZip (IsLate g.F.Input.Source.left g.F.Input.Source.failures place text) ps c.in_ok-captures.captures.items) paths (c.in_ok-captures.ensures.late tells))),
-        (λ tells. opened-apart place here words lines (g.F.FileStore.opened c.args.files.now) opened kept.0 c.requires.none_open
-            (subst (λ ps. opened ≡ g.F.FileStore.opened c.args.files.now ++ map (λ path. place path.now) ps) paths (c.in_ok-captures.ensures.opened tells)) (c.requires.apart tells)),
-        (λ tells. subst (λ (pl : Places). HaveOwnFiles pl lines) (sym kept.0) (c.requires.own tells)),
+        (
+          c.requires.all,
+          (
+            c.requires.programs,
+            (
+              (λ tells. late-kept g.F.Input.Source.left g.F.Input.Source.failures place here text (g.F.FileStore.text c.late_captures.new.files) words.inputs.items c.in_ok-captures.captures.items kept.0 kept.1
+                  (subst (λ ps. AllZip (IsLate g.F.Input.Source.left g.F.Input.Source.failures place text) ps c.in_ok-captures.captures.items) paths (c.in_ok-captures.ensures.late tells))),
+              (
+                (λ tells. opened-apart place here words lines (g.F.FileStore.opened c.args.files.now) opened kept.0 c.requires.none_open
+                    (subst (λ ps. opened ≡ g.F.FileStore.opened c.args.files.now ++ map (λ path. place path.now) ps) paths (c.in_ok-captures.ensures.opened tells)) (c.requires.apart tells)),
+                (λ tells. subst (λ (pl : Places). HaveOwnFiles pl lines) (sym kept.0) (c.requires.own tells)),
+              ),
+            ),
+          ),
+        ),
       ),
     )
 
