@@ -1,6 +1,2 @@
-mod Joins
-mod Paths
 mod Printed
-mod Reading
 mod Selections
-mod Sizes

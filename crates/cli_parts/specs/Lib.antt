@@ -1,4 +1,3 @@
-pub mod Joined
 pub mod Lines
 pub mod Ranges
 pub mod Selected

@@ -6,7 +6,5 @@ pub mod Planned
 pub mod Splits
 pub mod Printing
 pub mod Texts
-pub mod OwnFiles
-pub mod Closings
 pub mod Openings
-pub mod Parting
+pub mod Closings

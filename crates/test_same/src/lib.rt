@@ -1,11 +1,9 @@
 //! Tests of `filter_same`: the caller of its page, pairs of expressions that it decides, pairs that it may not call the same, and
-//! programs. The caller of the page of `filter_diagrams`.
+//! programs.
 #![tactic(auto)]
 
 #[cfg(test)]
 mod arithmetic;
-#[cfg(test)]
-mod diagrams;
 #[cfg(test)]
 mod kinds;
 #[cfg(test)]

@@ -1,4 +1,0 @@
-pub mod Programs
-pub mod Actions
-pub mod States
-pub mod Walks
