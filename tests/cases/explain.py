@@ -246,7 +246,7 @@ def several_captures_are_explained(scene):
     scene.expect([*words, "empty.pcap", "text.pcap"], 1, fault_lines("Capture 1 NotSavefile\n  text.pcap"), "0 packets: 0 Yes, 0 No, 0 Abort\n")
     shown = [scene.run([*words, "-p", "0", name]).out.decode() for name in ("in.pcap", "one.pcap")]
     scene.expect([*words, "-p", "0", "in.pcap", "one.pcap"], out="".join(shown))
-    scene.expect([*words, "-p", "2", "one.pcap", "in.pcap"], 1, fault_lines("NoPacket 2"), scene.run([*words, "-p", "2", "in.pcap"]).out.decode())
+    scene.expect([*words, "-p", "2", "one.pcap", "in.pcap"], 1, fault_lines("NoPacket 2\n  one.pcap"), scene.run([*words, "-p", "2", "in.pcap"]).out.decode())
 
 
 @case

@@ -3,7 +3,7 @@ import json
 import random
 import re
 
-from .common import ALL, ARP_RECORD, HEADER, IP_RECORD, ROOT, TCP_RECORD, TORN, UDP_RECORD, VETH, WHOLE, case, header
+from .common import ALL, ARP_RECORD, HEADER, IP, IP_RECORD, ROOT, TCP_RECORD, TORN, UDP_RECORD, VETH, WHOLE, case, header
 
 MIXED = HEADER + ARP_RECORD + IP_RECORD + TCP_RECORD + UDP_RECORD
 
@@ -67,6 +67,91 @@ def each_packet_is_an_object(scene):
         for listing in ("ip.bpf", "ssh.asm"):
             compare(scene, ["-f", str(ROOT / "examples" / listing), path], True)
     compare(scene, ["-e", "arp or udp", *captures])
+
+
+# Members of a packet in full, written by hand from the tables of LANGUAGE and the fields of RFC 791 and 793: words, and what follows the members
+# that the packet's object has without `-p`, up to the run.
+TYPE = '{"offset":12,"size":2,"value":2048,"field":"ethertype"}'
+IN_FULL = [
+    (["-p", "0", "-e", "len > 4 or arp"],
+     ',"bytes":"ffffffffffff0001020304050806","expression":"len > 4 or arp",'
+     '"asked":[{"test":"len > 4","answer":"yes","length":14,"bytes":[]}],"unasked":["arp"],'),
+    (["-p", "1", "-e", "not tcp or ip"],
+     ',"bytes":"ffffffffffff0001020304050800","expression":"not tcp or ip","asked":[{"test":"tcp","answer":"abort",'
+     '"bytes":[' + TYPE + ',{"offset":23,"size":1,"value":null,"field":"protocol"}]}],"unasked":["ip"],'),
+    (["-p", "2", "-e", "udp or tcp port 53 or arp"],
+     ',"bytes":"ffffffffffff00010203040508004500001800000000400600000a0000010a00000200350035",'
+     '"expression":"udp or tcp port 53 or arp","asked":[{"test":"udp","answer":"no","bytes":['
+     + TYPE + ',{"offset":23,"size":1,"value":6,"field":"protocol"}]},{"test":"tcp port 53","answer":"yes","bytes":['
+     + TYPE + ',{"offset":23,"size":1,"value":6,"field":"protocol"},'
+     '{"offset":20,"size":2,"value":0,"field":"flags and fragment offset"},{"offset":14,"size":1,"value":69,"field":"version and IHL"},'
+     '{"offset":34,"size":2,"value":53,"field":"source port"}]}],"unasked":["arp"],'),
+    (["-p", "1", "-f", "ip.bpf"],
+     ',"bytes":"ffffffffffff0001020304050800","expression":null,"asked":[],"unasked":[],'
+     '"run":{"instructions":3,"returned":262144,"at":2,"instruction":"ret #262144","steps":['
+     '{"at":0,"instruction":"ldh [12]","accumulator":2048,"index":0},{"at":1,"instruction":"jeq #0x800","accumulator":2048,"index":0},'
+     '{"at":2,"instruction":"ret #262144","accumulator":2048,"index":0}]}}\n'),
+    (["-p", "0", "-f", "store.bpf"],
+     ',"bytes":"ffffffffffff0001020304050806","expression":null,"asked":[],"unasked":[],'
+     '"run":{"instructions":3,"returned":0,"at":2,"instruction":"ldb [99]","steps":['
+     '{"at":0,"instruction":"ld #0x5","accumulator":5,"index":0},'
+     '{"at":1,"instruction":"st M[3]","accumulator":5,"index":0,"stored":{"cell":3,"value":5}},'
+     '{"at":2,"instruction":"ldb [99]","accumulator":5,"index":0}]}}\n'),
+]
+
+# The line of an instruction of a run, as the text has it.
+STEP = re.compile(r"\((\d+)\) (\S+) +(\S*?) .* A 0x([0-9a-f]+) X 0x([0-9a-f]+)(?: M\[(\d+)\] 0x([0-9a-f]+))?")
+
+
+def steps_of(text):
+    """The run of the text of `-p`: the place of each instruction, the registers after it, and what it stored."""
+    for step in STEP.finditer(text):
+        stored = {"stored": {"cell": int(step[6]), "value": int(step[7], 16)}} if step[6] else {}
+        yield {"at": int(step[1]), "accumulator": int(step[4], 16), "index": int(step[5], 16), **stored}
+
+
+@case
+def a_packet_in_full_is_an_object(scene):
+    """`explain -p --json` prints the members that the packet's object has, then its bytes, what each test looked at, and the run."""
+    listing = "4\n0 0 0 5\n2 0 0 3\n48 0 0 99\n6 0 0 9\n"
+    scene.start({"in.pcap": MIXED, "ip.bpf": IP, "store.bpf": listing})
+    for words, members in IN_FULL:
+        each = scene.run(["explain", "--json", *words[2:], "in.pcap"]).out.decode().splitlines()
+        seen = scene.run(["explain", "--json", *words, "in.pcap"])
+        line, wanted = seen.out.decode(), each[int(words[1])].removesuffix("}") + members
+        scene.check(f"object of {words}", (line[: len(wanted)], line.count("\n"), seen.err, seen.status), (wanted, 1, b"", 0))
+        run, text = json.loads(line)["run"], scene.run(["explain", *words, "in.pcap"]).out.decode()
+        steps = [{key: one[key] for key in one if key != "instruction"} for one in run["steps"]]
+        scene.check(f"run of {words}", (steps, run["instructions"], f"answer {run['returned']}"),
+                    (list(steps_of(text)), len(steps), text.splitlines()[-1]))
+        scene.check(f"end of {words}", {key: run[key] for key in ("at", "instruction")}, {key: run["steps"][-1][key] for key in ("at", "instruction")})
+    too_long = "ip" + "||ip" * 599
+    scene.check("no program", json.loads(scene.run(["explain", "--json", "-p", "1", "-e", too_long, "in.pcap"]).out)["run"], None)
+
+
+@case
+def packets_in_full_are_objects_in_order(scene):
+    """A range of places has an object for each packet, on a line of its own; the number of the capture counts from 0, and a capture that has no
+    packet there is a fault with its path."""
+    scene.start({"in.pcap": MIXED, "one.pcap": WHOLE, "torn.pcap": TORN})
+    words = ["explain", "--json", "-p", "0-2", "-e", "arp"]
+    seen = parsed(scene.run([*words, "in.pcap", "one.pcap", "in.pcap"]).out)
+    scene.check("places", [(one["capture"], one["place"]) for one in seen], [(0, 0), (0, 1), (0, 2), (1, 0), (2, 0), (2, 1), (2, 2)])
+    one = scene.run([*words, "one.pcap"]).out.decode()
+    scene.expect([*words, "torn.pcap"], 2, '{"fault":"TornRecord","numbers":[1],"file":"torn.pcap"}\n', one)
+    words[3] = "2"
+    seen = scene.run([*words, "one.pcap", "in.pcap"])
+    scene.check("no packet", (seen.err, [(one["capture"], one["place"]) for one in parsed(seen.out)], seen.status),
+                (b'{"fault":"NoPacket","numbers":[2],"file":"one.pcap"}\n', [(1, 2)], 1))
+    scene.expect([*words, "none.pcap"], 3, '{"fault":"Device","numbers":[],"file":"none.pcap"}\n')
+    stream = scene.run([*words, "in.pcap"], streams=">/dev/full")
+    scene.check("standard output", (json.loads(stream.err), stream.status), ({"fault": "Device", "numbers": [], "stream": "standard output"}, 3))
+    for path in sorted(str(path) for path in (ROOT / "examples").glob("*.pcap")):
+        seen = scene.run(["explain", "--json", "-p", "0-999", "-e", "tcp port 80 or ip[8] < 3 and not udp", path])
+        each = scene.run(["explain", "--json", "-e", "tcp port 80 or ip[8] < 3 and not udp", path])
+        heads = [line.removesuffix("}") + ',"bytes":"' for line in each.out.decode().splitlines()[:-1]]
+        scene.check(f"heads of {path}", [line[: len(head)] for line, head in zip(seen.out.decode().splitlines(), heads)], heads)
+        scene.check(f"lines of {path}", (len(parsed(seen.out)), seen.status), (len(heads), 0))
 
 
 @case
@@ -340,7 +425,7 @@ def a_failed_output_is_an_object(scene):
 def forms_exclude_each_other(scene):
     """What has no JSON is refused with it."""
     scene.start(FILES)
-    for words in ("explain --json -p 0 -e ip whole.pcap", "check --json -d ip", "check --json -x ip"):
+    for words in ("check --json -d ip", "check --json -x ip"):
         seen = scene.run(words)
         scene.check(words, (seen.status, seen.out, b"cannot be used with" in seen.err), (1, b"", True))
     scene.expect("explain --json -q -e ip whole.pcap")

@@ -196,7 +196,11 @@ REFUSED = [
     ([LINES[0], LINES[1].replace("bytes 54", "bytes 55"), LINES[2]], "OtherPart 2.pcap"),
     ([LINES[0], LINES[1].replace("2.pcap", "other.pcap"), LINES[2]], "OtherPart other.pcap"),
     ([LINES[0], "x", LINES[2]], "Lines 2"),
+    ([LINES[0], LINES[1].replace("2.pcap", "folder"), LINES[2]], "OtherPart folder"),
+    ([LINES[0], "x", "y"], "Lines 2"),
     ([LINES[0], LINES[1] + "\n"], "Lines 3"),
+    ([LINES[0].replace("packets 1 ", "")], "Lines 1"),
+    ([LINES[0].replace("packets 1", f"packets {2**64}")], "Lines 1"),
     ([LINES[0].replace("24-54", "024-54")], "Lines 1"),
     ([LINES[0].replace("Clean", "clean")], "Lines 1"),
     ([LINES[0].replace("Clean", "Device 1")], "Lines 1"),
@@ -208,6 +212,7 @@ REFUSED = [
 def parts_that_do_not_belong_together_are_refused(scene):
     """No file is made, nor a part overwritten."""
     scene.put({**PARTS, "other.pcap": header(60) + ARP_RECORD})
+    os.mkdir(scene.folder / "folder")
     for lines, fault in REFUSED:
         scene.put({"lines.txt": "".join(f"{line}\n" for line in lines)})
         scene.refuse("join lines.txt out.pcap", 1, fault)

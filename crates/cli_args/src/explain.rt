@@ -50,7 +50,8 @@ that is accepted ends the reading, as with grep -q:
 -l prints the paths of those IN that have an accepted packet. Both end at the first fault: to pass
 over a torn IN, call them for each. --exactly, --at-least and --at-most ask how many packets of all
 IN are accepted; then all IN are read.
-With --json each packet is an object on a line of its own, and so are the counts; -p has no JSON:
+With --json each packet is an object on a line of its own, and so are the counts; with -p the object
+has what each primitive looked at, and the program's run:
   bpftap explain --json -e 'tcp port 8080' examples/veth.pcap | jq -r '.answer // empty' | sort | uniq -c
 
 Exit status: 0 clean, with -q and -l: a packet is accepted, with a bound: as many as it asks for; 1
@@ -126,11 +127,6 @@ fn shown_group<'a>(alloc: Global) -> Result<ArgGroup<'a>, AllocError> {
         .arg("listed")
 }
 
-/// One packet in full has no form in JSON.
-fn form_group<'a>(alloc: Global) -> Result<ArgGroup<'a>, AllocError> {
-    ArgGroup::new(alloc, "form").arg("place")?.arg("json")
-}
-
 /// The subcommand, of which no filter is wanted.
 fn bare_command<'a>(alloc: Global) -> Result<Command<'a>, AllocError> {
     subcommand(
@@ -146,11 +142,7 @@ fn bare_command<'a>(alloc: Global) -> Result<Command<'a>, AllocError> {
 pub fn explain_usage<'a>(alloc: Global) -> Result<Command<'a>, AllocError> {
     let filter = filter_group(alloc)?;
     let shown = shown_group(alloc)?;
-    let form = form_group(alloc)?;
-    bare_command(alloc)?
-        .group(filter)?
-        .group(shown)?
-        .group(form)
+    bare_command(alloc)?.group(filter)?.group(shown)
 }
 
 /// The places of packets, if they are given; `None` if they are invalid.

@@ -19,9 +19,9 @@ const JOIN_EXAMPLES: &str =
 sort -t- -k1,1n -k2,2nr. OUT is then what one cut of the whole capture writes, byte for byte.
 
 A part that ends inside a record, though the capture goes on, was parted at a wrong place. join
-then prints the range FIRST-END to cut in place of it and of what follows, writes nothing, and ends
-with 4. Cut that range, add its line to LINES, sort, and join again. A line whose part begins
-inside a part that is taken is passed over.
+then prints each range FIRST-END that has to be cut in place of such a part and of what follows it,
+writes nothing, and ends with 4. Cut these ranges, add their lines to LINES, sort, and join again.
+A line whose part begins inside a part that is taken is passed over.
 
 Examples:
   bpftap parts 2 examples/veth.pcap > ranges.txt
@@ -31,7 +31,7 @@ Examples:
 
 Exit status: 0 clean; 1 bad usage, lines or parts that do not make a whole capture, or out of
 memory; 2 the capture has a torn or bad record, and OUT the packets before it; 3 a file or device
-failed; 4 a range has to be cut again.";
+failed; 4 ranges have to be cut again.";
 
 static ARGUMENTS: [Argument; 2] = [
     Argument::Path(

@@ -28,8 +28,8 @@ const PARTS_EXAMPLES: &str =
 END. Cut each by cut --bytes, in any order, on any machine, and put the cuts together by join. IN
 is a regular file that does not change meanwhile.
 
-Where a record begins is guessed: where eight plausible records follow each other. A wrong guess
-costs time and no packet, since join finds it. There may be fewer parts than N.
+Where a record begins is guessed: where plausible records follow each other. A wrong guess costs
+time and no packet, since join finds it. There may be fewer parts than N.
 
 Examples:
   bpftap parts 4 examples/veth.pcap

@@ -4,3 +4,4 @@ pub mod Captures
 pub mod Objects
 pub mod Cutting
 pub mod Checking
+pub mod Parts

@@ -1,6 +1,8 @@
 //! `bpftap cut --bytes`, over files: one part of a capture.
 
 ghost use Rattle.std.specs.Prelude.{◌≡◌};
+ghost use Rattle.pcap_parts.specs.Parts.{IsCounted};
+ghost use Rattle.cli_cut.specs.Parts.{IsCutAndEmptied, IsEmptied, PrintsPart};
 ghost use Rattle.cli_cut.specs.Telling.{status_of};
 
 use crate::command::report_cut;
@@ -15,7 +17,6 @@ use cli_files::paths::{Opening, STANDARD_OUTPUT, refuse_shared_files};
 use cli_parts::input::{OpenPart, open_part};
 use cli_parts::line::print_part;
 use cli_report::HintSink;
-use cli_report::probe::{ProbedInput, ProbedOutput};
 use cli_report::stream::give_hint;
 use cli_store::disk::is_standard_output;
 use cli_text::Status;
@@ -24,10 +25,11 @@ use fault_report::reporting::report_output;
 use line_text::LineForm;
 use pcap_cut::cut::{CutEnd, End, cut};
 use pcap_parts::part::PartCut;
-use savefile::{Counted, Fault};
+use savefile::{Counted, Fault, Source};
 use std::alloc::Global;
 use std::fs::Files;
-use std::io::{Read, Write};
+use std::io;
+use std::io::Write;
 
 /// What a cut needs: its filter, IN, and OUT.
 struct Job<I, O> {
@@ -44,7 +46,9 @@ struct PartJob<I, O> {
 }
 
 /// Empties the buffer in front of OUT. What fails only now is a fault of OUT too, and goes before a torn record.
-fn flush<R, W: Write>(mut end: CutEnd<R, Counted<W>>) -> CutEnd<R, Counted<W>> {
+fn flush<R, W: Write>(mut end: CutEnd<R, Counted<W>>) -> CutEnd<R, Counted<W>>
+    ensures { IsEmptied (λ sink. W.contents sink.inner) end result }
+{
     if end.sink.inner.flush().is_err() {
         end.end = End::Output(Fault::Device);
     }
@@ -52,11 +56,13 @@ fn flush<R, W: Write>(mut end: CutEnd<R, Counted<W>>) -> CutEnd<R, Counted<W>> {
 }
 
 /// Cuts the part, and empties the buffer in front of OUT.
-fn cut_job<R: Read + Drop, W: Write + Drop>(
+fn cut_job<R: Source + Drop, W: Write + Drop>(
     alloc: Global,
     words: &CutWords<'_>,
-    job: Job<ProbedInput<R>, ProbedOutput<W>>,
-) -> CutEnd<ProbedInput<R>, ProbedOutput<W>> {
+    job: Job<R, Counted<W>>,
+) -> CutEnd<R, Counted<W>>
+    ensures { IsCutAndEmptied R.left (λ sink. W.contents sink.inner) job.input job.output job.program words.now.snap words.now.order words.now.«unit» result }
+{
     let Job {
         program,
         input,
@@ -72,6 +78,41 @@ fn cut_job<R: Read + Drop, W: Write + Drop>(
         output,
     );
     flush(end)
+}
+
+/// Prints the line of a part of this range, whose cut ended so, if the part was read to its end or to a torn or bad record and all was written.
+fn print_end<R, W, O: Write>(
+    alloc: Global,
+    bytes: ByteRange,
+    size: u64,
+    output: &str,
+    end: &CutEnd<R, W>,
+    out: &mut O,
+) -> io::Result<()>
+    ensures line { PrintsPart bytes size output.now end.now (O.contents out.old) (O.contents out.new) result }
+    ensures none { (IsCounted end.now.end → ⊥) → out.new ≡ out.old }
+{
+    match PartCut::of(bytes.first, bytes.end, size, output, end) {
+        Some(part) => print_part(alloc, &part, out),
+        None => Ok(()),
+    }
+}
+
+/// Cuts a part, and prints its line.
+fn cut_and_print<R: Source + Drop, W: Write + Drop, O: Write>(
+    alloc: Global,
+    words: &CutWords<'_>,
+    part: PartJob<R, Counted<W>>,
+    out: &mut O,
+) -> (CutEnd<R, Counted<W>>, io::Result<()>)
+    ensures cut { IsCutAndEmptied R.left (λ sink. W.contents sink.inner) part.job.input part.job.output part.job.program words.now.snap words.now.order words.now.«unit» result.0 }
+    ensures line { PrintsPart part.bytes part.size words.now.output.now result.0 (O.contents out.old) (O.contents out.new) result.1 }
+    ensures none { (IsCounted result.0.end → ⊥) → out.new ≡ out.old }
+{
+    let PartJob { bytes, size, job } = part;
+    let end = cut_job(alloc, words, job);
+    let printed = print_end(alloc, bytes, size, words.output, &end, out);
+    (end, printed)
 }
 
 /// What a torn record is if IN goes on after the range.
@@ -112,32 +153,6 @@ fn report_part<F: Files, E: HintSink>(
     }
 }
 
-/// Cuts a part, prints its line if the part was read to its end or to a torn or bad record and all was written, and reports how that ended.
-fn cut_and_print<
-    F: Files + AllocGlobal + Screen,
-    R: Read + Drop,
-    W: Write + Drop,
-    O: Write,
-    E: HintSink,
->(
-    rt: &F,
-    words: &CutWords<'_>,
-    path: &str,
-    part: PartJob<ProbedInput<R>, ProbedOutput<W>>,
-    out: &mut O,
-    err: &mut E,
-) -> Status {
-    let PartJob { bytes, size, job } = part;
-    let end = cut_job(rt.alloc(), words, job);
-    let part = PartCut::of(bytes.first, bytes.end, size, words.output, &end);
-    let printed = match &part {
-        Some(part) => report_output(&print_part(rt.alloc(), part, out), err),
-        None => Status::Clean,
-    };
-    let from = (path, bytes.end < size);
-    report_part(rt, &CutReport::of(end), words, from, err).max(printed)
-}
-
 /// Accepts the filter, compares the paths, and opens the part, in this order; then cuts it.
 fn cut_part<'r, R: Files + AllocGlobal + Screen, O: Write, E: HintSink>(
     rt: &'r R,
@@ -159,8 +174,10 @@ fn cut_part<'r, R: Files + AllocGlobal + Screen, O: Write, E: HintSink>(
         input,
         output,
     };
-    let part = PartJob { bytes, size, job };
-    Ok(cut_and_print(rt, words, path, part, out, err))
+    let (end, printed) = cut_and_print(rt.alloc(), words, PartJob { bytes, size, job }, out);
+    let printed = report_output(&printed, err);
+    let from = (path, bytes.end < size);
+    Ok(report_part(rt, &CutReport::of(end), words, from, err).max(printed))
 }
 
 /// `bpftap cut --bytes`: the filter is accepted, and the paths are compared, before IN is opened, which is a regular file. OUT is made at its

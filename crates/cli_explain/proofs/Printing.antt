@@ -112,27 +112,27 @@ lends-it old new (Ok false) leaves is = absurd (cc)
 lends-it old new (Err fault) leaves is = absurd (cc)
 
 -- so one packet is found, or none
-pub finds-it : {R : Type 0} (left : R → Option (List ℕ)) (from : R) (f : AskedFilter) (place : ℕ) (old new : Option (List ℕ)) (header : Header) (r : Reading R) (e : Found R) (read : Result Bool Fault) →
+pub finds-it : {R : Type 0} (left : R → Option (List ℕ)) (from : R) (form : PacketForm) (f : AskedFilter) (place : ℕ) (old new : Option (List ℕ)) (header : Header) (r : Reading R) (e : Found R) (read : Result Bool Fault) →
     ((packets : List Packet) → HasGiven left (left from) header packets r → WasBegun (left from) header packets) →
-    e.source ≡ r.source → e.read ≡ read → GoesTo left (left from) header place r read → PrintsFound f place r.lent old new read e.printed →
-    Finds left from f place old new e
-finds-it left from f place old new header r e (Ok true) begins same is (before, here, gives) prints =
+    e.source ≡ r.source → e.read ≡ read → GoesTo left (left from) header place r read → PrintsFound form f place r.lent old new read e.printed →
+    Finds left from form f place old new e
+finds-it left from form f place old new header r e (Ok true) begins same is (before, here, gives) prints =
     inr (inl (header, before, r.lent, begins (before ++ r.lent ∷ []) gives, here, is, prints))
-finds-it left from f place old new header r e (Ok false) begins same is (packets, few, was) (kept, ok) =
+finds-it left from form f place old new header r e (Ok false) begins same is (packets, few, was) (kept, ok) =
     inr (inr (header, packets, few, ok, kept, inl (was, is)))
-finds-it left from f place old new header r e (Err fault) begins same is (packets, few, cause) (kept, ok) =
+finds-it left from form f place old new header r e (Err fault) begins same is (packets, few, cause) (kept, ok) =
     inr (inr (header, packets, few, ok, kept, inr (fault, subst (λ s. IsCause (left from) (left s) header packets fault) (sym same) cause, is)))
 
 -- a packet's line, and then more
 pub prints-whole : {A : Type 0} (f : AskedFilter) (place : ℕ) (p : Packet) (old mid new : Option (List ℕ)) (v : Verdict) (result : Result A Unprinted) →
-    PrintsLine Text f place p old mid v → PrintsMore mid new result → PrintsWhole f place p old new result
+    PrintsLine Text f place p old mid v → PrintsMore mid new result → PrintsWhole Text f place p old new result
 prints-whole f place p old mid new v (Ok x) (reason, is, line) (text, taken) = (v, reason, is, text, Appends-trans old mid new _ text line taken)
 prints-whole f place p old mid new v (Err unprinted.NoMemory) (reason, is, line) kept = inr (v, (reason, is, Appends-kept old mid new _ line kept))
 prints-whole f place p old mid new v (Err (unprinted.Output error)) (reason, is, line) (text, part) = (v, reason, is, text, TakesPart-then old mid new _ text line part)
 
 -- or its line broke off
 pub broken-line : {A : Type 0} (f : AskedFilter) (place : ℕ) (p : Packet) (old new : Option (List ℕ)) (result : Result A Unprinted) (u : Unprinted) →
-    result ≡ Err u → IsLineBroken Text f place p old new u → PrintsWhole f place p old new result
+    result ≡ Err u → IsLineBroken Text f place p old new u → PrintsWhole Text f place p old new result
 broken-line f place p old new result unprinted.NoMemory is kept = rw is (inl kept)
 broken-line f place p old new result (unprinted.Output error) is (verdict, reason, answers, part) =
     rw is (verdict, reason, answers, [], TakesPart-more old new (answer_line place (answer p verdict reason)) [] part)

@@ -18,14 +18,13 @@ use Rattle.cli_answers.specs.declared.printing.Unprinted.TheVariants as unprinte
 use Rattle.cli_explain.specs.declared.one.Found.{Found}
 use Rattle.cli_answers.specs.declared.filter.AskedFilter.{AskedFilter}
 use Rattle.cli_answers.specs.declared.form.PacketForm.{PacketForm}
-use Rattle.cli_answers.specs.declared.form.PacketForm.TheVariants.{Text}
+use Rattle.cli_answers.specs.declared.form.PacketForm.TheVariants.{Text, Json}
 use Rattle.cli_answers.specs.Verdicts.{is_yes, is_no, is_abort}
-use Rattle.cli_answers.specs.Answers.{Answer, answer, IsAnswer}
+use Rattle.cli_answers.specs.Answers.{Answer, answer}
 use Rattle.cli_answers.specs.Counts.{AreCounts, count_of, counts_in}
 use Rattle.cli_answers.specs.Reading.{IsUnopened, ReadsTo}
 use Rattle.cli_answers.specs.Objects.{IsAnswerIn}
-use Rattle.cli_explain.specs.Forms.{line_in}
-use Rattle.cli_explain.specs.Printed.{answer_line}
+use Rattle.cli_explain.specs.Forms.{line_in, whole_in}
 
 -- ---- What is printed
 
@@ -110,23 +109,28 @@ PrintsMore old new (Ok done) = (text : List ℕ) × Appends old new text
 PrintsMore old new (Err unprinted.NoMemory) = Keeps old new
 PrintsMore old new (Err (unprinted.Output error)) = (text : List ℕ) × TakesPart old new text
 
--- The line of a packet was printed, and more behind it. Where memory was wanting that line alone was, or nothing; and where the
--- writer failed a beginning of the line, or that line and what stands behind it.
-abbrev pub PrintsWhole : {A : Type 0} → AskedFilter → ℕ → Packet → Option (List ℕ) → Option (List ℕ) → Result A Unprinted → Type 0
-PrintsWhole filter place p old new (Ok done) =
-    (verdict : Verdict) × (reason : List ℕ) × IsAnswer filter (answer p verdict reason)
-    × (more : List ℕ) × Appends old new (answer_line place (answer p verdict reason) ++ more)
-PrintsWhole filter place p old new (Err unprinted.NoMemory) =
-    Keeps old new ⊎ ((verdict : Verdict) × PrintsLine Text filter place p old new verdict)
-PrintsWhole filter place p old new (Err (unprinted.Output error)) =
-    (verdict : Verdict) × (reason : List ℕ) × IsAnswer filter (answer p verdict reason)
-    × (more : List ℕ) × TakesPart old new (answer_line place (answer p verdict reason) ++ more)
+-- where memory was wanting for a packet in full: nothing was printed, or of the text its line alone
+abbrev pub PrintsNoMore : PacketForm → AskedFilter → ℕ → Packet → Option (List ℕ) → Option (List ℕ) → Type 0
+PrintsNoMore Text filter place p old new = Keeps old new ⊎ ((verdict : Verdict) × PrintsLine Text filter place p old new verdict)
+PrintsNoMore (Json capture) filter place p old new = Keeps old new
+
+-- this holds of a text that is printed of a packet in full
+abbrev pub IsOfWhole : PacketForm → AskedFilter → ℕ → Packet → (List ℕ → Type 0) → Type 0
+IsOfWhole form filter place p Holds =
+    (verdict : Verdict) × (reason : List ℕ) × IsAnswerIn form filter (answer p verdict reason)
+    × (more : List ℕ) × Holds (whole_in form place (answer p verdict reason) more)
+
+-- A packet was printed in full, in this form: its line and more behind it, or its object. Where the writer failed a beginning of that was.
+abbrev pub PrintsWhole : {A : Type 0} → PacketForm → AskedFilter → ℕ → Packet → Option (List ℕ) → Option (List ℕ) → Result A Unprinted → Type 0
+PrintsWhole form filter place p old new (Ok done) = IsOfWhole form filter place p (Appends old new)
+PrintsWhole form filter place p old new (Err unprinted.NoMemory) = PrintsNoMore form filter place p old new
+PrintsWhole form filter place p old new (Err (unprinted.Output error)) = IsOfWhole form filter place p (TakesPart old new)
 
 -- what is printed where the packet is found, and nothing else
-abbrev pub PrintsFound : {A : Type 0} → AskedFilter → ℕ → Packet → Option (List ℕ) → Option (List ℕ) → Result Bool Fault → Result A Unprinted → Type 0
-PrintsFound filter place p old new (Ok true) done = PrintsWhole filter place p old new done
-PrintsFound filter place p old new (Ok false) done = Keeps old new × IsOk done
-PrintsFound filter place p old new (Err fault) done = Keeps old new × IsOk done
+abbrev pub PrintsFound : {A : Type 0} → PacketForm → AskedFilter → ℕ → Packet → Option (List ℕ) → Option (List ℕ) → Result Bool Fault → Result A Unprinted → Type 0
+PrintsFound form filter place p old new (Ok true) done = PrintsWhole form filter place p old new done
+PrintsFound form filter place p old new (Ok false) done = Keeps old new × IsOk done
+PrintsFound form filter place p old new (Err fault) done = Keeps old new × IsOk done
 
 -- where a reader goes on to the packet at a place
 abbrev pub GoesTo : {R : Type 0} → (R → Option (List ℕ)) → Option (List ℕ) → Header → ℕ → Reading R → Result Bool Fault → Type 0
@@ -138,11 +142,11 @@ GoesTo left from header place r (Err fault) =
     (packets : List Packet) × (length packets ≤ place) × IsCause from (left r.source) header packets fault
 
 -- The header was not read; or the capture has a packet at this place, and that was printed; or it has not, or can't be read so far.
-abbrev pub Finds : {R : Type 0} → (R → Option (List ℕ)) → R → AskedFilter → ℕ → Option (List ℕ) → Option (List ℕ) → Found R → Type 0
-Finds left from filter place old new f =
+abbrev pub Finds : {R : Type 0} → (R → Option (List ℕ)) → R → PacketForm → AskedFilter → ℕ → Option (List ℕ) → Option (List ℕ) → Found R → Type 0
+Finds left from form filter place old new f =
     ((fault : Fault) × IsUnopened left from f.source fault × IsErrOf f.read fault × IsOk f.printed × Keeps old new)
     ⊎ ((header : Header) × (before : List Packet) × (p : Packet) × WasBegun (left from) header (before ++ p ∷ [])
-    × (length before ≡ place) × (f.read ≡ Ok true) × PrintsWhole filter place p old new f.printed)
+    × (length before ≡ place) × (f.read ≡ Ok true) × PrintsWhole form filter place p old new f.printed)
     ⊎ ((header : Header) × (packets : List Packet) × (length packets ≤ place) × IsOk f.printed × Keeps old new
     × ((WasRead (left from) header packets None × (f.read ≡ Ok false))
     ⊎ ((fault : Fault) × IsCause (left from) (left f.source) header packets fault × (f.read ≡ Err fault))))

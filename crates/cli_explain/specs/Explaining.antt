@@ -1,5 +1,5 @@
 -- What `bpftap explain` prints of files, and its exit status. Read it from the last definition up.
-use Rattle.std.specs.Prelude.{◌≡◌, ◌⊎◌, ℕ, Bool, true, false, List, [], ◌∷◌, Option, Some, None, Result, Ok, Err, IsErr, IsOk, option_copied}
+use Rattle.std.specs.Prelude.{◌≡◌, ◌⊎◌, ℕ, ◌+◌, Bool, true, false, List, [], ◌∷◌, Option, Some, None, Result, Ok, Err, IsErr, IsOk, option_copied}
 use Rattle.line_text.specs.Sending.{Takes}
 use Rattle.savefile.specs.declared.fault.Fault.{Fault}
 use Rattle.savefile.specs.declared.fault.Fault.TheVariants.{Device}
@@ -18,7 +18,7 @@ use Rattle.cli_answers.specs.declared.form.PacketForm.{PacketForm}
 use Rattle.cli_answers.specs.declared.printing.Unprinted.{Unprinted}
 use Rattle.cli_answers.specs.Asked.{IsAsked, IsUnasked, IsUnaskedStatus}
 use Rattle.cli_answers.specs.Captures.{SeeksIn}
-use Rattle.cli_answers.specs.Counts.{asked_form, counts_in}
+use Rattle.cli_answers.specs.Counts.{asked_form, counts_in, of_capture}
 use Rattle.cli_answers.specs.Seeking.{accepts}
 use Rattle.cli_answers.specs.Telling.{printed_status, stop_status}
 use Rattle.cli_explain.specs.declared.captures.ExplainedCaptures.{ExplainedCaptures}
@@ -89,24 +89,24 @@ goes_on_after (Ok found) (Ok all) = true
 goes_on_after (Ok found) (Err unprinted) = false
 goes_on_after (Err fault) printed = false
 
--- the packets of a range of places of a capture were printed in full
-abbrev pub FindsOne : {R : Type 0} → (R → Option (List ℕ)) → AskedFilter → (first last : ℕ) → R → Option (List ℕ) → Option (List ℕ) → FullEnd → Type 0
-FindsOne {R = R} left filter first last from old new end =
-    (found : Found R) × FindsRange left from filter first last old new found
+-- the packets of a range of places of the capture of this number were printed in full
+abbrev pub FindsOne : {R : Type 0} → (R → Option (List ℕ)) → PacketForm → ℕ → AskedFilter → (first last : ℕ) → R → Option (List ℕ) → Option (List ℕ) → FullEnd → Type 0
+FindsOne {R = R} left form n filter first last from old new end =
+    (found : Found R) × FindsRange left from (of_capture form n) filter first last old new found
     × (end.status ≡ greater (printed_status found.printed) (found_status found.read)) × (end.goes_on ≡ goes_on_after found.read found.printed)
 
--- The same of each capture, in order, while the next one is read. The status is the greatest one.
-abbrev pub FindsIn : {R O : Type 0} → (R → Option (List ℕ)) → (O → Option (List ℕ)) → AskedFilter → (first last : ℕ) → Bool → Status → List R → O → O → Status → Type 0
-FindsIn left contents filter first last false so captures old new status = (new ≡ old) × (status ≡ so)
-FindsIn left contents filter first last true so [] old new status = (new ≡ old) × (status ≡ so)
-FindsIn {O = O} left contents filter first last true so (from ∷ froms) old new status =
-    (end : FullEnd) × (mid : O) × FindsOne left filter first last from (contents old) (contents mid) end
-    × FindsIn left contents filter first last end.goes_on (greater so end.status) froms mid new status
+-- The same of each capture, of which the first has the number n, in order, while the next one is read. The status is the greatest one.
+abbrev pub FindsIn : {R O : Type 0} → (R → Option (List ℕ)) → (O → Option (List ℕ)) → PacketForm → AskedFilter → (first last : ℕ) → ℕ → Bool → Status → List R → O → O → Status → Type 0
+FindsIn left contents form filter first last n false so captures old new status = (new ≡ old) × (status ≡ so)
+FindsIn left contents form filter first last n true so [] old new status = (new ≡ old) × (status ≡ so)
+FindsIn {O = O} left contents form filter first last n true so (from ∷ froms) old new status =
+    (end : FullEnd) × (mid : O) × FindsOne left form n filter first last from (contents old) (contents mid) end
+    × FindsIn left contents form filter first last (n + 1) end.goes_on (greater so end.status) froms mid new status
 
 pub record PrintsPlaces {R O : Type 0} (left : R → Option (List ℕ)) (failures : R → ℕ) (contents : O → Option (List ℕ)) (place : Places) (text : Texts) (printed : Option (List ℕ)) (words : ExplainWords) (places : PlaceRange) (old new : O) (ended : Status) : Type 0 where
   pub asked : Asked R
   pub asks : Asks left failures place text printed words asked
-  pub finds : FindsIn left contents asked.filter places.first places.last true Clean asked.captures.items old new ended
+  pub finds : FindsIn left contents (asked_form words.json) asked.filter places.first places.last 0 true Clean asked.captures.items old new ended
 
 -- they were, or nothing was
 abbrev pub PlacesAnswer : {R O : Type 0} → (R → Option (List ℕ)) → (R → ℕ) → (O → Option (List ℕ)) → Places → Texts → Option (List ℕ) → Bool → ExplainWords → PlaceRange → O → O → Status → Type 0

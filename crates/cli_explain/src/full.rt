@@ -12,11 +12,11 @@ use crate::program::FilterWithProgram;
 use crate::range::explain_range;
 use crate::report::report_one;
 use bpfvm::Program;
-use cli_answers::AskedFilter;
 use cli_answers::asked::{Asked, ask};
 use cli_answers::hints::hint_capture;
 use cli_answers::printing::Unprinted;
 use cli_answers::report::report_unasked;
+use cli_answers::{AskedFilter, PacketForm};
 use cli_args::explain::ExplainWords;
 use cli_args::places::PlaceRange;
 use cli_report::HintSink;
@@ -56,14 +56,19 @@ fn explain_places_of<'p, F: FileStore<'p>, O: Write, E: HintSink>(
     err: &mut E,
 ) -> FullEnd
     ensures kept { Keeps (F.place files.old) (F.place files.new) (F.text files.old) (F.text files.new) (F.pending files.old) (F.pending files.new) }
-    ensures finds { FindsOne F.Input.left asked.now.filter.filter.now asked.now.places.first asked.now.places.last capture (O.contents out.old) (O.contents out.new) result }
+    ensures finds { FindsOne F.Input.left asked.now.filter.form number asked.now.filter.filter.now asked.now.places.first asked.now.places.last capture (O.contents out.old) (O.contents out.new) result }
 {
     let PlaceRange { first, last } = asked.places;
+    let form = asked.filter.form.of_capture(number);
+    let filter = FilterWithProgram {
+        form,
+        ..asked.filter
+    };
     let Found {
         source,
         read,
         printed,
-    } = explain_range(asked.alloc, capture, &asked.filter, first, last, out);
+    } = explain_range(asked.alloc, capture, &filter, first, last, out);
     let noted = files.done(source);
     let goes_on = goes_on_after(read, &printed);
     let found = Found {
@@ -74,7 +79,7 @@ fn explain_places_of<'p, F: FileStore<'p>, O: Write, E: HintSink>(
     let status = report_one(&found, first, asked.paths, number, err);
     match read {
         Ok(true) => {}
-        Ok(false) => hint_place(err),
+        Ok(false) => hint_place(asked.paths, number, err),
         Err(fault) => hint_capture(asked.paths, number, fault, &noted, err),
     }
     FullEnd { status, goes_on }
@@ -89,7 +94,7 @@ fn explain_in_full<'p, F: FileStore<'p>, O: Write, E: HintSink>(
     err: &mut E,
 ) -> Status
     ensures kept { Keeps (F.place files.old) (F.place files.new) (F.text files.old) (F.text files.new) (F.pending files.old) (F.pending files.new) }
-    ensures finds { FindsIn F.Input.left O.contents asked.now.filter.filter.now asked.now.places.first asked.now.places.last true Clean captures.items out.old out.new result }
+    ensures finds { FindsIn F.Input.left O.contents asked.now.filter.form asked.now.filter.filter.now asked.now.places.first asked.now.places.last 0 true Clean captures.items out.old out.new result }
 {
     let mut status = Status::Clean;
     let mut goes_on = true;
@@ -99,7 +104,7 @@ fn explain_in_full<'p, F: FileStore<'p>, O: Write, E: HintSink>(
             let end = explain_places_of(asked, files, number, capture, out, err);
             status = status.max(end.status);
             goes_on = end.goes_on;
-            number = number.saturating_add(1);
+            number += 1;
         } else {
             let _ = files.done(capture);
         }
@@ -115,7 +120,8 @@ fn program_of(compiled: &Result<Program, Refusal>) -> Result<&Program, Refusal> 
     }
 }
 
-/// Prints the packets of a range of places of each capture in full, with the run of the filter's program, and reports how that ended.
+/// Prints the packets of a range of places of each capture in full, with the run of the filter's program, as texts or as objects; and reports
+/// how that ended.
 pub fn explain_places<'p, F: FileStore<'p>, O: Write, E: HintSink>(
     alloc: Global,
     files: &mut F,
@@ -132,6 +138,7 @@ pub fn explain_places<'p, F: FileStore<'p>, O: Write, E: HintSink>(
         Ok(asked) => asked,
         Err(reason) => return report_unasked(alloc, &reason, words.expr, err),
     };
+    let form = PacketForm::asked(words.json);
     match &filter {
         AskedFilter::Expression(expr) => {
             let compiled = compile(expr, words.snap);
@@ -139,6 +146,7 @@ pub fn explain_places<'p, F: FileStore<'p>, O: Write, E: HintSink>(
             let filter = FilterWithProgram {
                 filter: &filter,
                 program,
+                form,
             };
             let asked = InFull {
                 alloc,
@@ -152,6 +160,7 @@ pub fn explain_places<'p, F: FileStore<'p>, O: Write, E: HintSink>(
             let filter = FilterWithProgram {
                 filter: &filter,
                 program: Ok(program),
+                form,
             };
             let asked = InFull {
                 alloc,

@@ -9,6 +9,7 @@ mod form;
 pub mod full;
 mod hints;
 pub mod line;
+mod object;
 pub mod one;
 pub mod outcome;
 pub mod program;

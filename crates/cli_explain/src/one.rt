@@ -4,10 +4,12 @@ ghost use Rattle.std.specs.Prelude.{◌≡◌, ◌≢◌, ◌↔◌, ℕ, List, 
 ghost use Rattle.std.specs.Io.KnownBytes.{Consumes};
 ghost use Rattle.savefile.specs.declared.header.Header.{Header};
 ghost use Rattle.savefile.specs.Reader.{HasGiven, Lends};
+ghost use Rattle.cli_answers.specs.declared.form.PacketForm.TheVariants.{Json, Text};
 ghost use Rattle.cli_explain.specs.Explained.{Finds, GoesTo, PrintsFound, PrintsMore, PrintsWhole};
 
 use crate::each::print_line;
 use crate::form::Asking;
+use crate::object::whole_object;
 use crate::program::FilterWithProgram;
 use crate::whole::whole_text;
 use cli_answers::PacketForm;
@@ -30,11 +32,13 @@ pub struct Found<R> {
 
 /// Prints all of the packet at a place of a capture, from 0: its line as [`explain_each`](crate::each::explain_each) has it; of an
 /// expression how it was read, and each primitive and relation with its own answer and the bytes that it looked at, or that it was
-/// not asked; and the run of the program, by the names of its instructions, with the registers after each.
+/// not asked; and the run of the program, by the names of its instructions, with the registers after each. In JSON it prints an object on
+/// one line: the members of the packet's object, its bytes as digits, and the same facts.
 ///
 /// `read` is `Ok(false)` if the capture has no packet at that place; or it has the fault that comes before it, as that of the header, or of
 /// a torn or bad record. Then nothing is printed; with [`Fault::NoMemory`] the source is as it was too. If `printed` is `NoMemory`, `out`
-/// took only that line or nothing, and if it is `Output` a prefix of the line, or the line and what comes after it.
+/// took only that line or nothing, and if it is `Output` a prefix of the line, or the line and what comes after it. Of an object it took
+/// nothing, and a prefix.
 pub fn explain_one<R: Source, O: Write>(
     alloc: Global,
     from: R,
@@ -43,7 +47,7 @@ pub fn explain_one<R: Source, O: Write>(
     out: &mut O,
 ) -> Found<R>
     // Whether there is such a packet, and what was printed of it.
-    ensures finds { Finds R.left from filter.now.filter.now place (O.contents out.old) (O.contents out.new) result }
+    ensures finds { Finds R.left from filter.now.form filter.now.filter.now place (O.contents out.old) (O.contents out.new) result }
 
     // The next bytes of the source are taken, and its fault is returned if and only if it failed.
     ensures gave { (given : List ℕ) × Consumes (R.left from) (R.left result.source) given }
@@ -99,7 +103,7 @@ fn print_found<R: Source, O: Write>(
     out: &mut O,
 ) -> Result<(), Unprinted>
     requires { read ≡ Ok true → Lends reader.now }
-    ensures { PrintsFound filter.now.filter.now place reader.now.lent (O.contents out.old) (O.contents out.new) read result }
+    ensures { PrintsFound filter.now.form filter.now.filter.now place reader.now.lent (O.contents out.old) (O.contents out.new) read result }
 {
     match read {
         Ok(true) => print_whole(alloc, filter, place, &reader.packet(), out),
@@ -108,7 +112,7 @@ fn print_found<R: Source, O: Write>(
     }
 }
 
-/// Prints a packet's line, and then everything else about it.
+/// Prints a packet in full, in the form that is asked for.
 pub(crate) fn print_whole<O: Write>(
     alloc: Global,
     filter: &FilterWithProgram<'_, '_>,
@@ -116,7 +120,23 @@ pub(crate) fn print_whole<O: Write>(
     packet: &PacketRef<'_>,
     out: &mut O,
 ) -> Result<(), Unprinted>
-    ensures { PrintsWhole filter.now.filter.now place packet.now (O.contents out.old) (O.contents out.new) result }
+    ensures { PrintsWhole filter.now.form filter.now.filter.now place packet.now (O.contents out.old) (O.contents out.new) result }
+{
+    match filter.form {
+        PacketForm::Text => print_text(alloc, filter, place, packet, out),
+        PacketForm::Json(capture) => print_object(alloc, filter, capture, place, packet, out),
+    }
+}
+
+/// Prints a packet's line, and then everything else about it.
+fn print_text<O: Write>(
+    alloc: Global,
+    filter: &FilterWithProgram<'_, '_>,
+    place: u64,
+    packet: &PacketRef<'_>,
+    out: &mut O,
+) -> Result<(), Unprinted>
+    ensures { PrintsWhole Text filter.now.filter.now place packet.now (O.contents out.old) (O.contents out.new) result }
 {
     let mut buffer = LineBuffer::new(alloc);
     let asking = Asking {
@@ -139,5 +159,21 @@ fn print_rest<O: Write>(
 {
     let text = whole_text(alloc, filter, place, packet)?;
     send_last(text.as_bytes(), out)?;
+    Ok(())
+}
+
+/// Prints the object of a packet of the capture of this number, with everything about it.
+fn print_object<O: Write>(
+    alloc: Global,
+    filter: &FilterWithProgram<'_, '_>,
+    capture: usize,
+    place: u64,
+    packet: &PacketRef<'_>,
+    out: &mut O,
+) -> Result<(), Unprinted>
+    ensures { PrintsWhole (Json capture) filter.now.filter.now place packet.now (O.contents out.old) (O.contents out.new) result }
+{
+    let object = whole_object(alloc, filter, capture, place, packet)?;
+    send_last(object.as_bytes(), out)?;
     Ok(())
 }

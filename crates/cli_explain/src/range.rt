@@ -30,7 +30,7 @@ pub fn explain_range<R: Source, O: Write>(
     out: &mut O,
 ) -> Found<R>
     // Which packets there are, and what was printed of them.
-    ensures finds { FindsRange R.left from filter.now.filter.now first last (O.contents out.old) (O.contents out.new) result }
+    ensures finds { FindsRange R.left from filter.now.form filter.now.filter.now first last (O.contents out.old) (O.contents out.new) result }
 
     // The next bytes of the source are taken, and its fault is returned if and only if it failed.
     ensures gave { (given : List ℕ) × Consumes (R.left from) (R.left result.source) given }
@@ -64,7 +64,7 @@ fn show_range<R: Source, O: Write>(
     out: &mut O,
 ) -> Found<()>
     ensures shows { (from : Option (List ℕ)) (header : Header) → HasGiven R.left from header [] reader.old →
-        ShowsRange from (R.left reader.new.source) header filter.now.filter.now first last (O.contents out.old) (O.contents out.new) result.read result.printed }
+        ShowsRange from (R.left reader.new.source) header filter.now.form filter.now.filter.now first last (O.contents out.old) (O.contents out.new) result.read result.printed }
     ensures taken { (bytes : List ℕ) × Consumes (R.left reader.old.source) (R.left reader.new.source) bytes }
     ensures source_broke { (result.read ≡ Err Fault.Device) ↔ (R.failures reader.new.source ≢ R.failures reader.old.source) }
 {
@@ -99,7 +99,7 @@ fn print_range<R: Source, O: Write>(
     requires { Lends reader.old }
     ensures prints { (from : Option (List ℕ)) (header : Header) (before : List Packet) → length before ≡ first →
         HasGiven R.left from header (before ++ reader.old.lent ∷ []) reader.old →
-        PrintsRange from (R.left reader.new.source) header filter.now.filter.now first last before (O.contents out.old) (O.contents out.new) result.read result.printed }
+        PrintsRange from (R.left reader.new.source) header filter.now.form filter.now.filter.now first last before (O.contents out.old) (O.contents out.new) result.read result.printed }
     ensures taken { (bytes : List ℕ) × Consumes (R.left reader.old.source) (R.left reader.new.source) bytes }
     ensures source_broke { (result.read ≡ Err Fault.Device) ↔ (R.failures reader.new.source ≢ R.failures reader.old.source) }
 {

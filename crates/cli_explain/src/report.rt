@@ -2,6 +2,7 @@
 
 ghost use Rattle.std.specs.Prelude.{◌≡◌};
 ghost use Rattle.cli_text.specs.Status.{greater};
+ghost use Rattle.cli_text.specs.declared.status.Status.TheVariants.{Refused};
 ghost use Rattle.cli_answers.specs.Telling.{printed_status};
 ghost use Rattle.cli_explain.specs.Telling.{read_status, found_status, sought_status};
 
@@ -9,10 +10,11 @@ use crate::each::Explained;
 use crate::one::Found;
 use cli_answers::report::{report_capture, report_printed};
 use cli_report::HintSink;
+use cli_report::failures::name_source;
 use cli_text::Status;
 use cli_walk::Stop;
 use fault_report::reporting::{report_capture as report_only, report_fault};
-use fault_report::{FaultSink, Report, Word};
+use fault_report::{FaultSink, Report, Subject, Word};
 
 /// Reports what was not printed and then the capture's fault, if there are these, and answers the greatest exit status that applies.
 pub fn report_each<R: Drop, E: FaultSink>(
@@ -29,6 +31,19 @@ pub fn report_each<R: Drop, E: FaultSink>(
     }
 }
 
+/// Reports that the capture of this number has no packet at a place, and below that the capture's path if there are several.
+fn report_no_packet<E: HintSink>(place: u64, paths: &[&str], number: usize, err: &mut E) -> Status
+    ensures { result ≡ Refused }
+{
+    let mut fault = Report::placed("NoPacket", Word::Number(place));
+    if let Some(path) = paths.get(number) {
+        fault = fault.about(Subject::Capture(*path));
+    }
+    let status = report_fault(&fault, Status::Refused, err);
+    let _ = name_source(paths, number, err);
+    status
+}
+
 /// Reports why a packet of the capture of this number was not printed, that its place has none, and then the capture's fault, and answers
 /// the greatest exit status that applies.
 pub fn report_one<R, E: HintSink>(
@@ -43,11 +58,7 @@ pub fn report_one<R, E: HintSink>(
     let printed = report_printed(&found.printed, err);
     match found.read {
         Ok(true) => printed,
-        Ok(false) => printed.max(report_fault(
-            &Report::placed("NoPacket", Word::Number(place)),
-            Status::Refused,
-            err,
-        )),
+        Ok(false) => printed.max(report_no_packet(place, paths, number, err)),
         Err(fault) => printed.max(report_capture(paths, number, fault, err)),
     }
 }

@@ -17,7 +17,7 @@ use std::alloc::{AllocError, Global};
 const NAME: usize = 48;
 
 /// The bytes at an offset as a number in network order; `None` if one of them was not captured.
-fn number_at(packet: &[u8], offset: usize, size: usize) -> Option<u64> {
+pub(crate) fn number_at(packet: &[u8], offset: usize, size: usize) -> Option<u64> {
     let end = offset.checked_add(size)?;
     let mut number = 0u64;
     for byte in packet.get(offset..end)? {
@@ -110,17 +110,8 @@ fn put_unasked(text: &mut String, part: &Expr) -> Result<(), AllocError> {
     text.push('\n')
 }
 
-/// The answer that a `not` turns this one into.
-fn opposite(answer: Verdict) -> Verdict {
-    match answer {
-        Verdict::Yes => Verdict::No,
-        Verdict::No => Verdict::Yes,
-        Verdict::Abort => Verdict::Abort,
-    }
-}
-
 /// What two parts answer, of which the second is asked after this answer of the first.
-fn join_verdicts(first: Verdict, goes_on: Verdict, second: Verdict) -> Verdict {
+pub(crate) fn join_verdicts(first: Verdict, goes_on: Verdict, second: Verdict) -> Verdict {
     if first == goes_on { second } else { first }
 }
 
@@ -152,7 +143,8 @@ fn put_parts(
 ) -> Result<Verdict, NoMemory> {
     let (left, goes_on, right) = match expr {
         Expr::Not(operand) => {
-            return Ok(opposite(put_parts(alloc, text, noted, operand, is_asked, packet)?));
+            let verdict = put_parts(alloc, text, noted, operand, is_asked, packet)?;
+            return Ok(verdict.opposite());
         }
         Expr::And(left, right) => (left, Verdict::Yes, right),
         Expr::Or(left, right) => (left, Verdict::No, right),

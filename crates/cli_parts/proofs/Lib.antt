@@ -1,2 +1,6 @@
+mod Joins
+mod Paths
 mod Printed
+mod Reading
 mod Selections
+mod Sizes

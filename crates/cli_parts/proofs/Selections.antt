@@ -1,24 +1,21 @@
 -- Parts that are selected of the lines.
-use Rattle.std.proofs.Common.{◌≡◌, ℕ, List, subst, sym}
+use Rattle.std.proofs.Common.{ℕ, List}
 use Rattle.std.specs.Prelude.{IfErr, IfOk, Result, Ok, Err}
-use Rattle.pcap_parts.specs.declared.again.Stretch.{Stretch}
-use Rattle.pcap_parts.specs.declared.join.Misfit.TheVariants.{CutOff}
 use Rattle.pcap_parts.specs.declared.part.PartCut.{PartCut}
 use Rattle.pcap_parts.specs.declared.select.Selection.{Selection}
-use Rattle.pcap_parts.specs.Again.{AreAgain}
-use Rattle.pcap_parts.specs.Selecting.{Selects, StopsAt}
+use Rattle.pcap_parts.specs.Selecting.{Selects}
 use Rattle.cli_parts.specs.declared.lines.LinesFault.{LinesFault}
 use Rattle.cli_parts.specs.declared.lines.LinesFault.TheVariants.{Line, Misfit, Again, NoMemory}
 use Rattle.cli_parts.specs.Selected.{size_of, IsLineFault, IsLinesFault, IsPartsFault, IsSelection, SayParts}
 
-pub line_fault : (text : List ℕ) (fault : LinesFault) → IsLineFault fault → IsLinesFault text fault
-line_fault text (Line number) is = tt
+pub line_fault : (text : List ℕ) (fault : LinesFault) → IsLineFault text fault → IsLinesFault text fault
+line_fault text (Line number) is = is
 line_fault text (Misfit misfit) is = absurd is
 line_fault text (Again again) is = absurd is
 line_fault text NoMemory is = tt
 
 parts_fault : (text : List ℕ) (parts : List PartCut) (fault : LinesFault) → SayParts text parts → IsPartsFault parts fault → IsLinesFault text fault
-parts_fault text parts (Line number) said is = tt
+parts_fault text parts (Line number) said is = absurd is
 parts_fault text parts (Misfit misfit) said is = (parts, said, is)
 parts_fault text parts (Again again) said is = (parts, said, is)
 parts_fault text parts NoMemory said is = tt

@@ -1,3 +1,4 @@
+pub mod Joined
 pub mod Lines
 pub mod Ranges
 pub mod Selected

@@ -1,19 +1,15 @@
 -- Which parts are joined, of those that LINES says.
-use Rattle.std.specs.Prelude.{◌≡◌, ℕ, List, [], ◌∷◌, ⊤}
-use Rattle.line_text.specs.Files.{IsFileOf}
+use Rattle.std.specs.Prelude.{ℕ, List, [], ◌∷◌, ⊤}
+use Rattle.line_text.specs.Files.{IsFileOf, IsFirstBad}
 use Rattle.pcap_parts.specs.declared.again.Stretch.{Stretch}
 use Rattle.pcap_parts.specs.declared.join.Misfit.TheVariants.{CutOff}
 use Rattle.pcap_parts.specs.declared.part.PartCut.{PartCut}
 use Rattle.pcap_parts.specs.declared.select.Selection.{Selection}
 use Rattle.pcap_parts.specs.Again.{AreAgain}
 use Rattle.pcap_parts.specs.Selecting.{Selects, StopsAt}
-use Rattle.cli_parts.specs.Lines.{part_text}
+use Rattle.cli_parts.specs.Lines.{IsPartLine}
 use Rattle.cli_parts.specs.declared.lines.LinesFault.{LinesFault}
 use Rattle.cli_parts.specs.declared.lines.LinesFault.TheVariants.{Line, Misfit, Again, NoMemory}
-
--- a line is the one that is printed of a part
-abbrev pub IsPartLine : List ℕ → PartCut → Type 0
-IsPartLine line part = line ≡ part_text part
 
 -- LINES says these parts, a line each
 abbrev pub SayParts : List ℕ → List PartCut → Type 0
@@ -24,11 +20,11 @@ abbrev pub size_of : List PartCut → ℕ
 size_of [] = 24
 size_of (p ∷ ps) = p.size
 
--- LINES has a line that is none of a part; or memory was refused
-abbrev pub IsLineFault : LinesFault → Type 0
-IsLineFault (Line number) = ⊤
-IsLineFault NoMemory = ⊤
-IsLineFault other = ⊥
+-- this line of LINES is the first that is none of a part; or memory was refused
+abbrev pub IsLineFault : List ℕ → LinesFault → Type 0
+IsLineFault text (Line number) = IsFirstBad IsPartLine text number
+IsLineFault text NoMemory = ⊤
+IsLineFault text other = ⊥
 
 -- Why these parts make no whole capture: one does not follow. If it does not since it is cut off, some stretches are to be cut again.
 abbrev pub IsPartsFault : List PartCut → LinesFault → Type 0
@@ -45,6 +41,6 @@ IsSelection text selection =
 
 -- why none are
 abbrev pub IsLinesFault : List ℕ → LinesFault → Type 0
-IsLinesFault text (Line number) = ⊤
+IsLinesFault text (Line number) = IsFirstBad IsPartLine text number
 IsLinesFault text NoMemory = ⊤
 IsLinesFault text other = (parts : List PartCut) × SayParts text parts × IsPartsFault parts other

@@ -1,7 +1,12 @@
 //! The header of a capture and a range of its bytes, as one source.
 
-ghost use Rattle.std.specs.Prelude.{◌≡◌, ◌&&◌, nat_le};
+ghost use Rattle.std.specs.Prelude.{◌≡◌, ◌&&◌, ◌++◌, Some, IfOk, IfSome, nat_le, take};
+ghost use Rattle.std.specs.Io.Chain.{chain_remaining};
+ghost use Rattle.std.specs.Io.Cursor.{cursor_remaining};
+ghost use Rattle.std.specs.Io.Take.{take_remaining};
+ghost use Rattle.pcap_parts.specs.Whole.{between};
 
+use crate::placed::{DiskFile, PlacedFile};
 use cli_args::places::ByteRange;
 use cli_files::reading::report_io;
 use cli_files::retried::Retried;
@@ -16,14 +21,16 @@ use fault_report::reporting::report_fault;
 use savefile::{Counted, HEADER_LEN};
 use std::alloc::Global;
 use std::fs::{Files, Metadata, OpenFile};
-use std::io::{Chain, Cursor, Read, Seek, SeekFrom, Take};
+use std::io::{Chain, Cursor, Read, Take};
 use std::{fs, io};
 
 /// The header of a capture, and a range of its bytes.
-pub type PartBytes<F> = Chain<Cursor<Vec<u8>>, Take<Retried<F>>>;
+pub type PartBytes<F> = Chain<Cursor<Vec<u8>>, Take<F>>;
 
 /// The same, watched while it is read.
-pub type PartInput<'w, 'r, R> = ProbedInput<Watched<'w, 'r, R, PartBytes<<R as Files>::File>>>;
+pub type PartInput<'w, 'r, R> = ProbedInput<
+    Watched<'w, 'r, R, PartBytes<Retried<<R as Files>::File>>>,
+>;
 
 /// A part that is open, and how many bytes the whole capture has.
 #[derive(Drop)]
@@ -76,7 +83,9 @@ pub(crate) fn open_regular<R: Files, E: HintSink>(
 }
 
 /// The first bytes of a file, as many as a header has, or fewer if the file is shorter.
-pub(crate) fn header_bytes<F: Read>(alloc: Global, file: &mut F) -> io::Result<Vec<u8>> {
+pub(crate) fn header_bytes<F: Read>(alloc: Global, file: &mut F) -> io::Result<Vec<u8>>
+    ensures { IfOk result (λ front. IfSome (F.remaining file.old) (λ left. front.items ≡ take 24 left)) }
+{
     let mut bytes = Vec::new(alloc);
     Retried::new(file)
         .take(HEADER_LEN as u64)
@@ -91,16 +100,19 @@ fn is_inside(bytes: ByteRange, size: u64) -> bool
     bytes.first >= HEADER_LEN as u64 && bytes.end <= size
 }
 
-/// Reads the header, and goes to the first byte of a range.
-fn header_and_range<F: Read + Seek + Drop>(
+/// The header of a file, and a range of its bytes.
+pub fn header_and_range<F: PlacedFile + Drop>(
     alloc: Global,
     mut file: F,
     bytes: ByteRange,
-) -> io::Result<PartBytes<F>> {
-    let header = header_bytes(alloc, &mut file)?;
-    file.seek(SeekFrom::Start(bytes.first))?;
+) -> io::Result<PartBytes<F::Rest>>
+    ensures { IfOk result (λ part. IfSome (F.bytes file) (λ whole.
+        chain_remaining (cursor_remaining (λ v. Some v.items)) (take_remaining F.Rest.remaining) part ≡ Some (take 24 whole ++ between bytes.first bytes.end whole))) }
+{
+    let header = file.front(alloc, HEADER_LEN as u64)?;
+    let rest = file.rest(bytes.first)?;
     let count = bytes.end.saturating_sub(bytes.first);
-    Ok(Cursor::new(header).chain(Retried::new(file).take(count)))
+    Ok(Cursor::new(header).chain(rest.take(count)))
 }
 
 /// Reports that a range is none of the packets of a capture of so many bytes, and returns the exit status.
@@ -133,7 +145,7 @@ pub fn open_part<'w, 'r, R: Files + AllocGlobal + Screen, E: HintSink>(
     if !is_inside(bytes, size) {
         return Err(report_range(path, size, err));
     }
-    match header_and_range(rt.alloc(), file, bytes) {
+    match header_and_range(rt.alloc(), DiskFile::new(file), bytes) {
         Ok(input) => Ok(OpenPart {
             input: Counted::new(FailureProbe::new(watch.watched(input))),
             size,

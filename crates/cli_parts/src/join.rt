@@ -1,12 +1,12 @@
 //! `bpftap join`, over files.
 
-ghost use Rattle.std.specs.Prelude.{None, false};
+ghost use Rattle.std.specs.Prelude.{◌≡◌, ◌∷◌, None, false, true, IfOk, map};
 
-use crate::lines::select_lines;
+use crate::joining::{JoinFault, JoinFiles, join_files};
 use crate::report::{report_lines, report_other_file};
 use cli_args::join::JoinWords;
 use cli_files::late::LateFile;
-use cli_files::paths::{Opening, STANDARD_OUTPUT, refuse_shared_files};
+use cli_files::paths::{Opening, PathFault, STANDARD_OUTPUT, check_shared_files, report_path};
 use cli_files::reading::{read_text, report_io};
 use cli_files::retried::Retried;
 use cli_report::failures::hint_failure;
@@ -15,8 +15,7 @@ use cli_text::Status;
 use fault_report::reporting::{report_capture, report_device, report_memory};
 use pcap_parts::files::PartFiles;
 use pcap_parts::part::PartCut;
-use pcap_parts::select::Selection;
-use pcap_parts::writing::{WriteFault, write_parts};
+use pcap_parts::writing::WriteFault;
 use savefile::Counted;
 use std::alloc::{AllocError, Global};
 use std::fs::Files;
@@ -32,11 +31,12 @@ const OTHER_HEADER: &str =
 
 /// The files of the system. Contracts know nothing of them.
 #[derive(Drop)]
-struct DiskParts<'r, R> {
+struct DiskFiles<'r, 'p, R> {
     rt: &'r R,
+    words: JoinWords<'p>,
 }
 
-impl<R: Files> PartFiles for DiskParts<'_, R> {
+impl<R: Files> PartFiles for DiskFiles<'_, '_, R> {
     type File = Counted<FailureProbe<Retried<R::File>>>;
 
     type Failure = io::Error;
@@ -58,12 +58,15 @@ impl<R: Files> PartFiles for DiskParts<'_, R> {
     }
 }
 
-/// The paths of all files that are read.
+/// The paths of all files that are read: LINES, and those of the parts.
+#[tactic(auto, using(crate::proofs::Paths::next_path, crate::proofs::Paths::all_paths))]
 fn read_paths<'a>(
     alloc: Global,
     lines: &'a str,
     parts: &[PartCut<'a>],
-) -> Result<Vec<&'a str>, AllocError> {
+) -> Result<Vec<&'a str>, AllocError>
+    ensures { IfOk result (λ paths. map (λ path. path.now) paths.items ≡ lines.now ∷ map (λ part. part.file.now) parts.now) }
+{
     let mut paths = Vec::with_capacity(alloc, parts.len().saturating_add(1))?;
     paths.push(lines)?;
     for part in parts {
@@ -72,80 +75,78 @@ fn read_paths<'a>(
     Ok(paths)
 }
 
-/// Refuses an OUT that is a file which is read.
-fn check_paths<R: Files + AllocGlobal, E: HintSink>(
-    rt: &R,
+impl<'p, R: Files + AllocGlobal> JoinFiles<'p> for DiskFiles<'_, 'p, R> {
+    ghost apart = { λ _ _. true };
+
+    fn check_apart(&self, parts: &[PartCut<'p>]) -> Result<(), PathFault<'p>> {
+        let Ok(read) = read_paths(self.rt.alloc(), self.words.lines, parts) else {
+            return Err(PathFault::NoMemory);
+        };
+        let written = [self.words.output];
+        check_shared_files(
+            self.rt,
+            Opening::Late,
+            Some(STANDARD_OUTPUT),
+            read.as_slice(),
+            &written,
+        )
+    }
+
+    fn size(&self, path: &str) -> io::Result<Option<u64>> {
+        let metadata = fs::metadata(self.rt, path)?;
+        Ok(metadata.is_file().then_some(metadata.len()))
+    }
+}
+
+/// Reports why a file of a part is not joined, and returns the exit status.
+fn report_file<E: HintSink>(
+    fault: &WriteFault<'_, io::Error>,
     words: &JoinWords<'_>,
-    parts: &[PartCut<'_>],
     err: &mut E,
-) -> Result<(), Status> {
-    let Ok(read) = read_paths(rt.alloc(), words.lines, parts) else {
-        return Err(report_memory(err));
-    };
-    let (out, written) = (Some(STANDARD_OUTPUT), [words.output]);
-    refuse_shared_files(rt, Opening::Late, out, read.as_slice(), &written, err)
-}
-
-/// Checks that each part is a regular file, and has as many bytes as its line says. What is written rests on [`write_parts`], which counts them.
-fn check_sizes<R: Files, E: HintSink>(
-    rt: &R,
-    parts: &[PartCut<'_>],
-    err: &mut E,
-) -> Result<(), Status> {
-    for part in parts {
-        match fs::metadata(rt, part.file) {
-            Ok(metadata) if metadata.is_file() && metadata.len() == part.sent => {}
-            Ok(_) => return Err(report_other_file(part.file, OTHER_SIZE, err)),
-            Err(error) => return Err(report_io(&error, part.file, err)),
-        }
-    }
-    Ok(())
-}
-
-/// Writes the cuts of these parts into OUT, which is made at its first byte.
-fn write_files<R: Files + AllocGlobal, E: HintSink>(
-    rt: &R,
-    output: &str,
-    parts: &[PartCut<'_>],
-    err: &mut E,
-) -> Result<(), Status> {
-    // `select_lines` returns one part at least.
-    if parts.is_empty() {
-        return Ok(());
-    }
-    let mut sink = Counted::new(FailureProbe::new(LateFile::new(rt, output)));
-    match write_parts(rt.alloc(), &DiskParts { rt }, parts, &mut sink) {
-        Ok(()) => Ok(()),
-        Err(WriteFault::OtherHeader(path)) => Err(report_other_file(path, OTHER_HEADER, err)),
-        Err(WriteFault::OtherSize(path)) => Err(report_other_file(path, OTHER_SIZE, err)),
-        Err(WriteFault::Unread(path, error)) => Err(report_io(&error, path, err)),
-        Err(WriteFault::Output) => {
-            let status = report_device(output, err);
-            hint_failure(&sink.inner, err);
-            Err(status)
-        }
-        Err(WriteFault::NoMemory) => Err(report_memory(err)),
+) -> Status {
+    match fault {
+        WriteFault::OtherHeader(path) => report_other_file(path, OTHER_HEADER, err),
+        WriteFault::OtherSize(path) => report_other_file(path, OTHER_SIZE, err),
+        WriteFault::Unread(path, error) => report_io(error, path, err),
+        WriteFault::Output => report_device(words.output, err),
+        WriteFault::NoMemory => report_memory(err),
     }
 }
 
-/// Joins the parts of LINES.
-fn join_files<R: Files + AllocGlobal, O: Write, E: HintSink>(
+/// Reports why LINES, of this text, is not joined, or prints what has to be cut again; returns the exit status.
+fn report_join<O: Write, E: HintSink>(
+    alloc: Global,
+    fault: &JoinFault<'_, io::Error>,
+    (words, text): (&JoinWords<'_>, &[u8]),
+    out: &mut O,
+    err: &mut E,
+) -> Status {
+    match fault {
+        JoinFault::Lines(fault) => report_lines(alloc, fault, text, out, err),
+        JoinFault::Paths(fault) => report_path(fault, err),
+        JoinFault::Sizes(fault) | JoinFault::Writing(fault) => report_file(fault, words, err),
+    }
+}
+
+/// Joins the parts of LINES of the system's files, and reports how that ended.
+fn join_system<R: Files + AllocGlobal, O: Write, E: HintSink>(
     rt: &R,
     words: &JoinWords<'_>,
     out: &mut O,
     err: &mut E,
 ) -> Result<Status, Status> {
     let text = read_text(rt, words.lines, err)?;
-    let Selection { parts, whole } = match select_lines(rt.alloc(), text.as_slice()) {
-        Ok(selection) => selection,
-        Err(fault) => return Err(report_lines(rt.alloc(), &fault, text.as_slice(), out, err)),
-    };
-    check_paths(rt, words, parts.as_slice(), err)?;
-    check_sizes(rt, parts.as_slice(), err)?;
-    write_files(rt, words.output, parts.as_slice(), err)?;
-    match whole.fault {
-        Some(fault) => Ok(report_capture(fault, words.output, err)),
-        None => Ok(Status::Clean),
+    let text = text.as_slice();
+    let files = DiskFiles { rt, words: *words };
+    let mut sink = Counted::new(FailureProbe::new(LateFile::new(rt, words.output)));
+    match join_files(rt.alloc(), &files, text, &mut sink) {
+        Ok(None) => Ok(Status::Clean),
+        Ok(Some(fault)) => Ok(report_capture(fault, words.output, err)),
+        Err(fault) => {
+            let status = report_join(rt.alloc(), &fault, (words, text), out, err);
+            hint_failure(&sink.inner, err);
+            Err(status)
+        }
     }
 }
 
@@ -157,7 +158,7 @@ pub fn join_command<R: Files + AllocGlobal, O: Write, E: HintSink>(
     out: &mut O,
     err: &mut E,
 ) -> Status {
-    match join_files(rt, words, out, err) {
+    match join_system(rt, words, out, err) {
         Ok(status) | Err(status) => status,
     }
 }

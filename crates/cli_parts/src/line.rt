@@ -1,19 +1,19 @@
 //! The line of a range, and that of a part that was cut.
 
-ghost use Rattle.std.specs.Prelude.{◌≡◌, ◌++◌, IfOk, IfSome, OnOk, codes, string_bytes};
+ghost use Rattle.std.specs.Prelude.{◌≡◌, ◌++◌, IfNone, IfOk, IfSome, OnOk, codes, string_bytes};
 ghost use Rattle.line_text.specs.Sending.{Takes};
-ghost use Rattle.cli_parts.specs.Lines.{end_text, part_text, range_line, range_text};
+ghost use Rattle.pcap_parts.specs.declared.part.PartCut.{PartCut};
+ghost use Rattle.cli_parts.specs.Lines.{IsPartLine, end_text, part_text, range_line, range_text};
 
-use cli_args::places::{ByteRange, byte_range};
+use crate::fields::part_in;
 use line_text::LineForm;
-use line_text::fields::{number, split_once};
 use line_text::sending::send;
 use pcap_cut::cut::Tally;
 use pcap_parts::part::PartCut;
 use savefile::Fault;
 use std::alloc::{AllocError, Global};
+use std::io;
 use std::io::Write;
-use std::{io, str};
 
 /// Appends a range as `--bytes` takes it: `FIRST-END`.
 #[tactic(auto, unfolding(crate::specs::Lines::range_text))]
@@ -87,72 +87,10 @@ pub fn print_part<O: Write>(alloc: Global, part: &PartCut<'_>, out: &mut O) -> i
     send(line.as_bytes(), out)
 }
 
-/// The fields of a line that are still to be read.
-#[derive(Drop)]
-struct Fields<'a> {
-    rest: &'a [u8],
-}
-
-impl<'a> Fields<'a> {
-    /// The bytes before the next space.
-    fn field(&mut self) -> Option<&'a [u8]> {
-        let (field, rest) = split_once(self.rest, b' ')?;
-        self.rest = rest;
-        Some(field)
-    }
-
-    /// The number after this word.
-    fn number_after(&mut self, word: &str) -> Option<u64> {
-        if self.field()? != word.as_bytes() {
-            return None;
-        }
-        number(self.field()?, u64::MAX)
-    }
-
-    fn range(&mut self) -> Option<ByteRange> {
-        byte_range(str::from_utf8(self.field()?).ok()?)
-    }
-
-    /// How a part ends: inside `Some` the fault, if there is one.
-    fn end(&mut self) -> Option<Option<Fault>> {
-        let name = self.field()?;
-        if name == b"Clean".as_slice() {
-            return Some(None);
-        }
-        let place = number(self.field()?, u64::MAX)?;
-        let faults = [
-            Fault::TornRecord(place),
-            Fault::BadFraction(place),
-            Fault::TooLong(place),
-        ];
-        let fault = faults.iter().find(|fault| fault.name().as_bytes() == name)?;
-        Some(Some(*fault))
-    }
-}
-
-/// The part whose line may be this one, without its end.
-fn part_in(line: &[u8]) -> Option<PartCut<'_>> {
-    let mut fields = Fields { rest: line };
-    let ByteRange { first, end } = fields.range()?;
-    let size = fields.number_after("of")?;
-    let read = fields.number_after("packets")?;
-    let written = fields.number_after("kept")?;
-    let sent = fields.number_after("bytes")?;
-    let fault = fields.end()?;
-    Some(PartCut {
-        first,
-        end,
-        size,
-        tally: Tally { read, written },
-        sent,
-        fault,
-        file: str::from_utf8(fields.rest).ok()?,
-    })
-}
-
 /// The part that a line, without its end, is printed of by [`print_part`]; `None` if there is none.
 pub fn read_part(alloc: Global, line: &[u8]) -> Result<Option<PartCut<'_>>, AllocError>
-    ensures { IfOk result (λ found. IfSome found (λ part. line.now ≡ part_text part)) }
+    ensures some { IfOk result (λ found. IfSome found (IsPartLine line.now)) }
+    ensures none { IfOk result (λ found. IfNone found ((part : PartCut) → IsPartLine line.now part → ⊥)) }
 {
     let Some(part) = part_in(line) else {
         return Ok(None);

@@ -44,7 +44,7 @@ impl<T: Drop> From<AllocFailed<T>> for LinesFault {
 /// The part of each line.
 fn parts_of(alloc: Global, text: &[u8]) -> Result<Vec<PartCut<'_>>, LinesFault>
     ensures said { IfOk result (λ parts. SayParts text.now parts.items) }
-    ensures fault { IfErr result IsLineFault }
+    ensures fault { IfErr result (IsLineFault text.now) }
 {
     let mut parts = Vec::new(alloc);
     let mut rest = text;

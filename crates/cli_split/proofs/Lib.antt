@@ -6,5 +6,7 @@ pub mod Planned
 pub mod Splits
 pub mod Printing
 pub mod Texts
-pub mod Openings
+pub mod OwnFiles
 pub mod Closings
+pub mod Openings
+pub mod Parting

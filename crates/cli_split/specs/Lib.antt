@@ -6,5 +6,6 @@ pub mod Lines
 pub mod Printed
 pub mod Statuses
 pub mod Texts
+pub mod SplitFiles
 pub mod Opened
 pub mod Closed

@@ -1,17 +1,31 @@
 //! How the files of a split are closed.
 
-ghost use Rattle.std.specs.Prelude.{◌≡◌, ◌<◌, ◌≤◌, ◌+◌, length, true, vec_capacity};
+ghost use Rattle.std.specs.Prelude.{◌≡◌, ◌≢◌, ◌<◌, ◌≤◌, ◌+◌, [], ℕ, List, All, Some, length, true, vec_capacity};
 ghost use Rattle.cli_store.specs.Files.{Keeps};
 ghost use Rattle.cli_split.specs.Texts.{NotesFailures};
 ghost use Rattle.cli_split.specs.Closed.{Closes, ClosesAll};
 
 use crate::outcome::{ClosedEnd, ClosedPart};
-use crate::part::PartEnd;
+use crate::part::{Part, PartEnd};
 use crate::split::SplitEnd;
 use cli_report::probe::ProbedInput;
 use cli_store::FileStore;
 use savefile::{Counted, Fault};
 use std::alloc::Global;
+
+/// Closes files that took nothing.
+pub(crate) fn close_unused<'p, F: FileStore<'p>>(files: &mut F, parts: Vec<Part<F::Output>>)
+    requires made { F.known ≡ true → length parts.items ≤ F.pending files.old }
+    requires empty { F.known ≡ true → All (λ part. F.Output.taken part.sink ≡ Some []) parts.items }
+    ensures places { F.place files.new ≡ F.place files.old }
+    ensures texts { F.known ≡ true → (p : List ℕ) → F.text files.new p ≡ F.text files.old p }
+    ensures pending { F.known ≡ true → F.pending files.old ≡ F.pending files.new + length parts.items }
+    ensures denied { F.denied files.new ≡ F.denied files.old }
+{
+    for part in parts {
+        let _ = files.close(part.sink);
+    }
+}
 
 /// Closes the captures, and returns what was noted of them. Hints alone need that: so a note for which no memory is left is left out.
 fn close_captures<'p, F: FileStore<'p>>(

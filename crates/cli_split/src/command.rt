@@ -1,154 +1,166 @@
 //! `bpftap split`, over files.
 
-use crate::hints::{counts_frames, hint_split};
-use crate::line::line_for;
-use crate::part::{Part, PartEnd};
-use crate::paths::{SplitOutput, check_paths, parts};
-use crate::plan::{MAX_LINES, SplitLine, fault_text, read_plan};
+ghost use Rattle.std.specs.Prelude.{◌≡◌, [], true};
+ghost use Rattle.cli_text.specs.declared.status.Status.TheVariants.{Refused};
+ghost use Rattle.cli_split.specs.SplitFiles.{IsRefusalStatus, ReportsOutcome, SplitsFiles, form_of};
+ghost use Rattle.cli_split.specs.Statuses.{ReportsSplit};
+ghost use Rattle.cli_split.specs.declared.outcome.SplitOutcome.{SplitOutcome};
+
+use crate::files::split_files;
+use crate::hints::{counts_frames, hint_ended};
+use crate::outcome::{Refusal, SplitOutcome, SplitReport};
+use crate::plan::{MAX_LINES, SplitLine, fault_text};
 use crate::report::{SplitFiles, report_split};
-use crate::split::{SplitEnd, split};
-use bpfvm::Program;
 use cli_args::split::SplitWords;
-use cli_files::captures::output_buffer;
-use cli_files::reading::read_text;
-use cli_filter::plan::{Plan, PlanFault};
+use cli_files::captures::{OUTPUT_BUFFER, output_buffer};
+use cli_files::paths::report_path;
+use cli_files::reading::{report_io, report_long_text};
+use cli_filter::plan::PlanFault;
 use cli_filter::plan_hints::hint_plan;
 use cli_report::HintSink;
 use cli_report::failures::hint_printed;
 use cli_report::files::{LINES, hint_returns};
 use cli_report::stream::give_hint;
+use cli_store::{DiskFiles, FileStore};
 use cli_text::Status;
-use cli_watch::captures::watched_inputs;
 use cli_watch::hints::report_unseen;
 use cli_watch::{Screen, Watch};
 use fault_report::reporting::{report_fault, report_memory};
 use line_text::LineForm;
-use savefile::{Counted, Fault, Order, Source, Unit};
 use std::alloc::Global;
 use std::fs::Files;
-use std::io;
 use std::io::Write;
 
-/// What LINES asks for; or reports why it is refused.
-fn plan_of<'p, E: HintSink>(
+/// Where the text of LINES is kept.
+#[derive(Drop)]
+pub struct LinesText<'p> {
+    pub bytes: &'p mut Vec<u8>,
+}
+
+/// A call of `bpftap split` that was reported.
+#[derive(Clone, Copy, Debug, PartialEq, Eq)]
+pub struct Reported<'p> {
+    pub status: Status,
+    /// The text of LINES, if captures were split as it asks.
+    pub text: Option<&'p [u8]>,
+    /// Whether captures were split by an expression: then the frames into which it does not look are reported.
+    pub is_asked: bool,
+}
+
+/// Reports why LINES is refused.
+fn report_lines<E: HintSink>(alloc: Global, text: &[u8], fault: PlanFault, err: &mut E) -> Status
+    ensures { result ≡ Refused }
+{
+    let status = report_fault(&fault_text(fault).report(), Status::Refused, err);
+    hint_plan::<SplitLine<'_>, E>(alloc, text, (), LINES, fault, err);
+    if fault == PlanFault::TooMany {
+        give_hint(
+            format_args!("LINES has at most {MAX_LINES} lines: split several times"),
+            err,
+        );
+    }
+    status
+}
+
+/// Reports why nothing was split, and returns the exit status.
+fn report_refusal<E: HintSink>(alloc: Global, refusal: &Refusal<'_>, err: &mut E) -> Status
+    ensures { IsRefusalStatus refusal.now result }
+{
+    match refusal {
+        Refusal::Lines(text, fault) => report_lines(alloc, *text, *fault, err),
+        Refusal::TextTooLong(path) => report_long_text(*path, err),
+        Refusal::Paths(fault) => report_path(fault, err),
+        Refusal::File(path, error) => report_io(error, *path, err),
+        Refusal::NoMemory => report_memory(err),
+    }
+}
+
+/// Reports why nothing was split.
+fn report_refused<'p, E: HintSink>(
     alloc: Global,
-    text: &'p [u8],
+    refusal: &Refusal<'p>,
     err: &mut E,
-) -> Result<Plan<SplitLine<'p>>, Status> {
-    match read_plan(alloc, text) {
-        Ok(plan) => Ok(plan),
-        Err(fault) => {
-            let status = report_fault(&fault_text(fault).report(), Status::Refused, err);
-            hint_plan::<SplitLine<'_>, E>(alloc, text, (), LINES, fault, err);
-            if fault == PlanFault::TooMany {
-                give_hint(
-                    format_args!("LINES has at most {MAX_LINES} lines: split several times"),
-                    err,
-                );
-            }
-            Err(status)
-        }
+) -> Reported<'p>
+    ensures { IsRefusalStatus refusal.now result.status }
+{
+    Reported {
+        status: report_refusal(alloc, refusal, err),
+        text: None,
+        is_asked: false,
     }
 }
 
-/// Empties the buffers in front of all OUTs.
-fn flush_all<W: Write>(parts: &mut [PartEnd<Counted<W>>]) {
-    for part in parts {
-        if part.sink.inner.flush().is_err() {
-            part.written = Err(Fault::Device);
-        }
-    }
-}
-
-/// Splits captures, and empties the buffers in front of their OUTs. What fails only then is a fault of its OUT too.
-pub fn split_flushed<R: Source + Drop, W: Write + Drop>(
-    alloc: Global,
-    captures: Vec<R>,
-    parts: Vec<Part<Counted<W>>>,
-    order: Order,
-    unit: Unit,
-) -> io::Result<SplitEnd<R, Counted<W>>> {
-    let mut end = split(alloc, captures, parts, order, unit)?;
-    flush_all(end.parts.as_mut_slice());
-    Ok(end)
-}
-
-/// Splits the captures as the lines ask. An OUT is made at its first write.
-fn split_lines<'r, 'p, R: Files + AllocGlobal, I: Source + Drop>(
-    rt: &'r R,
-    words: &SplitWords<'p>,
-    lines: &[SplitLine<'p>],
-    programs: Vec<Program>,
-    captures: Vec<I>,
-) -> io::Result<SplitEnd<I, SplitOutput<'r, 'p, R>>> {
-    let alloc = rt.alloc();
-    let parts = parts(rt, alloc, lines, programs)?;
-    split_flushed(alloc, captures, parts, words.order, words.unit)
-}
-
-/// Splits the captures as the plan says, and prints how many packets each part has.
-fn split_plan<'r, R: Files + AllocGlobal + Screen, O: Write, E: HintSink>(
-    rt: &'r R,
+/// Prints how many packets each part has, and reports what failed.
+fn report_ended<'p, O: Write, E: HintSink>(
     words: &SplitWords<'_>,
-    plan: Plan<SplitLine<'_>>,
-    watch: &Watch<'r, R>,
+    report: SplitReport<'p>,
     out: &mut O,
     err: &mut E,
-) -> Result<Status, Status> {
-    let Plan { lines, programs } = plan;
-    let (alloc, form) = (rt.alloc(), LineForm::asked(words.json));
-    let mut out = output_buffer(alloc, &mut *out, err)?;
+) -> Reported<'p>
+    ensures { ReportsSplit (form_of words.now) report.entry.lines.items report.entry.end (O.contents out.old) (O.contents out.new) result.status }
+{
+    let SplitReport {
+        text,
+        lines,
+        end,
+        mut line,
+    } = report;
     let paths = words.inputs.as_slice();
-    let Ok(mut line) = line_for(alloc, form, lines.as_slice()) else {
-        return Err(report_memory(err));
-    };
-    let Ok(captures) = watched_inputs(rt, alloc, paths, watch) else {
-        return Err(report_memory(err));
-    };
-    let Ok(end) = split_lines(rt, words, lines.as_slice(), programs, captures) else {
-        return Err(report_memory(err));
-    };
-    watch.erase();
     let files = SplitFiles {
         captures: paths,
         lines: lines.as_slice(),
     };
-    let status = report_split(form, files, &end, &mut line, &mut out, err);
-    hint_split(paths, lines.as_slice(), &end, err);
-    hint_printed(out.get_ref(), err);
-    if counts_frames(lines.as_slice()) {
-        let _ = report_unseen(watch.frames(), status, err);
+    let form = LineForm::asked(words.json);
+    let status = report_split(form, files, &end, &mut line, out, err);
+    hint_ended(paths, lines.as_slice(), &end, err);
+    Reported {
+        status,
+        text: Some(text),
+        is_asked: counts_frames(lines.as_slice()),
     }
-    Ok(status)
 }
 
-/// Compares the paths, and splits as the plan says.
-fn split_apart<R: Files + AllocGlobal + Screen, O: Write, E: HintSink>(
-    rt: &R,
-    words: &SplitWords<'_>,
-    plan: Plan<SplitLine<'_>>,
+/// Splits, and reports how that ended: prints how many packets each part has, and reports what failed.
+pub fn split_and_report<'p, F: FileStore<'p>, O: Write, E: HintSink>(
+    alloc: Global,
+    files: &mut F,
+    words: &SplitWords<'p>,
+    text: LinesText<'p>,
     out: &mut O,
     err: &mut E,
-) -> Result<Status, Status> {
-    check_paths(rt, words, plan.lines.as_slice(), err)?;
-    let watch = Watch::new(rt, words.inputs.as_slice(), err.takes_hints()).counting(counts_frames(
-        plan.lines.as_slice(),
-    ));
-    split_plan(rt, words, plan, &watch, out, err)
+) -> Reported<'p>
+    requires none_open { F.opened files.old ≡ [] }
+    ensures splits { F.known ≡ true → (outcome : SplitOutcome)
+        × SplitsFiles (F.place files.old) (F.text files.old) (F.text files.new) (F.printed files.old) (F.failed files.new) (F.denied files.new) words.now outcome
+        × ReportsOutcome words.now outcome (O.contents out.old) (O.contents out.new) result.status }
+    ensures closed { F.known ≡ true → F.pending files.new ≡ F.pending files.old }
+{
+    let LinesText { bytes } = text;
+    match split_files(alloc, files, words, bytes) {
+        SplitOutcome::Refused(refusal) => report_refused(alloc, &refusal, err),
+        SplitOutcome::Ended(report) => report_ended(words, report, out, err),
+    }
 }
 
-/// Reads LINES, and splits as it asks.
-fn split_files<R: Files + AllocGlobal + Screen, O: Write, E: HintSink>(
+/// Splits the files of the system.
+fn split_on_disk<'w: 'p, 'p, R: Files + AllocGlobal + Screen, O: Write, E: HintSink>(
     rt: &R,
-    words: &SplitWords<'_>,
+    words: &SplitWords<'w>,
+    text: LinesText<'p>,
     out: &mut O,
     err: &mut E,
-) -> Result<Status, Status> {
-    let text = read_text(rt, words.lines, err)?;
-    let plan = plan_of(rt.alloc(), text.as_slice(), err)?;
-    let status = split_apart(rt, words, plan, out, err);
-    hint_returns("LINES", text.as_slice(), err);
-    status
+) -> Result<Reported<'p>, Status> {
+    let alloc = rt.alloc();
+    let mut out = output_buffer(alloc, &mut *out, err)?;
+    let watch = Watch::new(rt, words.inputs.as_slice(), err.takes_hints()).counting(true);
+    let mut files = DiskFiles::new(rt, &watch).gathering(OUTPUT_BUFFER);
+    let asked: &SplitWords<'p> = words;
+    let reported = split_and_report(alloc, &mut files, asked, text, &mut out, err);
+    hint_printed(out.get_ref(), err);
+    if reported.is_asked {
+        let _ = report_unseen(watch.frames(), reported.status, err);
+    }
+    Ok(reported)
 }
 
 /// `bpftap split`: LINES is accepted and the paths are compared before a capture is opened.
@@ -158,7 +170,15 @@ pub fn split_command<R: Files + AllocGlobal + Screen, O: Write, E: HintSink>(
     out: &mut O,
     err: &mut E,
 ) -> Status {
-    match split_files(rt, words, out, err) {
-        Ok(status) | Err(status) => status,
+    let mut text = Vec::new(rt.alloc());
+    let kept = LinesText { bytes: &mut text };
+    match split_on_disk(rt, words, kept, out, err) {
+        Ok(reported) => {
+            if let Some(text) = reported.text {
+                hint_returns("LINES", text, err);
+            }
+            reported.status
+        }
+        Err(status) => status,
     }
 }

@@ -1,31 +1,16 @@
 //! Hints on how `bpftap split` ended, below the lines of its faults.
 
 use crate::outcome::{ClosedEnd, ClosedPart};
-use crate::part::PartEnd;
 use crate::plan::SplitLine;
-use crate::split::{SplitEnd, Stop};
+use crate::split::Stop;
 use cli_report::HintSink;
-use cli_report::failures::{hint_failure, hint_source};
+use cli_report::failures::hint_source;
 use cli_report::files::hint_reason;
-use cli_report::probe::{ProbedInput, ProbedOutput};
 use cli_report::stream::give_hint;
 use cli_text::report::EscapedPath;
 use cli_watch::hints::is_asked;
-use std::io::Write;
 
 /// Hints on a capture that was not written.
-fn hint_part<W: Write + Drop, E: HintSink>(
-    line: &SplitLine<'_>,
-    part: &PartEnd<ProbedOutput<W>>,
-    err: &mut E,
-) {
-    if part.written.is_err() {
-        give_hint(format_args!("{}:", EscapedPath(line.output)), err);
-        hint_failure(part.sink.inner.get_ref(), err);
-    }
-}
-
-/// Hints on a capture that was not written, which is closed.
 fn hint_closed<E: HintSink>(line: &SplitLine<'_>, part: &ClosedPart, err: &mut E) {
     if part.written.is_err() {
         give_hint(format_args!("{}:", EscapedPath(line.output)), err);
@@ -35,7 +20,7 @@ fn hint_closed<E: HintSink>(line: &SplitLine<'_>, part: &ClosedPart, err: &mut E
     }
 }
 
-/// Hints on the captures that were not written, and on the one that ended the reading, where the files are closed.
+/// Hints on the captures that were not written, and on the one that ended the reading.
 pub fn hint_ended<E: HintSink>(
     inputs: &[&str],
     lines: &[SplitLine<'_>],
@@ -53,19 +38,4 @@ pub fn hint_ended<E: HintSink>(
 /// Whether it is reported into how many frames the expressions of the lines do not look.
 pub(crate) fn counts_frames(lines: &[SplitLine<'_>]) -> bool {
     lines.iter().any(|line| is_asked(line.expression))
-}
-
-/// Hints on the captures that were not written, and on the one that ended the reading.
-pub fn hint_split<R, W: Write + Drop, E: HintSink>(
-    inputs: &[&str],
-    lines: &[SplitLine<'_>],
-    end: &SplitEnd<ProbedInput<R>, ProbedOutput<W>>,
-    err: &mut E,
-) {
-    for (line, part) in lines.iter().zip(end.parts.iter()) {
-        hint_part(line, part, err);
-    }
-    if let Err(Stop::AtHeader(n, fault) | Stop::AtRecord(n, fault)) = end.end {
-        hint_source(inputs, end.sources.as_slice(), n, fault, err);
-    }
 }

@@ -3,6 +3,7 @@
 
 pub mod closing;
 pub mod command;
+pub mod files;
 pub mod hints;
 pub mod line;
 pub mod opening;

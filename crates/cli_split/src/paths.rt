@@ -1,60 +1,61 @@
-//! The files of `bpftap split`: those that are compared, the captures that it reads and those that it writes.
+//! Which paths of a split are compared: no file that is read is an OUT, and no two OUTs are one file.
 
-use crate::part::Part;
-use crate::plan::SplitLine;
-use bpfvm::Program;
+ghost use Rattle.std.specs.Prelude.{◌≡◌, ◌∷◌, ◌≢◌, All, IfErr, IfOk, OnOk, false, true};
+ghost use Rattle.cli_store.specs.Files.{Keeps};
+ghost use Rattle.cli_split.specs.SplitFiles.{AreApart, AreUnprinted, HaveOwnFiles, IsShared, own_outputs};
+
+use crate::outcome::Refusal;
+use crate::plan::{SplitLine, is_null};
 use cli_args::split::SplitWords;
-use cli_files::captures::{OUTPUT_BUFFER, with_buffer};
-use cli_files::late::LateFile;
-use cli_filter::plan_files::check_outputs;
-use cli_report::probe::ProbedOutput;
-use cli_report::{FailureProbe, HintSink};
-use cli_text::Status;
-use fault_report::reporting::report_memory;
+use cli_files::paths::Opening;
+use cli_store::FileStore;
 use std::alloc::{AllocError, Global};
-use std::fs::Files;
-use std::io;
-
-/// A capture that is made at its first write.
-pub(crate) type SplitOutput<'r, 'p, R> = ProbedOutput<LateFile<'r, 'p, R>>;
-
-/// Refuses, with a line on `err`, an OUT by which something would be lost: it is a file that is read, the file of another OUT, or the
-/// one that lines are printed to.
-pub(crate) fn check_paths<R: Files + AllocGlobal, E: HintSink>(
-    rt: &R,
-    words: &SplitWords<'_>,
-    lines: &[SplitLine<'_>],
-    err: &mut E,
-) -> Result<(), Status> {
-    let Ok(read) = read_paths(rt.alloc(), words) else {
-        return Err(report_memory(err));
-    };
-    check_outputs(rt, read.as_slice(), lines, err)
-}
 
 /// The paths of all files that are read.
-fn read_paths<'a>(alloc: Global, words: &SplitWords<'a>) -> Result<Vec<&'a str>, AllocError> {
+fn read_paths<'p>(alloc: Global, words: &SplitWords<'p>) -> Result<Vec<&'p str>, AllocError>
+    ensures { IfOk result (λ paths. paths.items ≡ words.now.lines ∷ words.now.inputs.items) }
+{
     let mut paths = Vec::new(alloc);
     paths.push(words.lines)?;
     paths.extend_from_slice(words.inputs.as_slice())?;
     Ok(paths)
 }
 
-/// The captures to write: what each line asks for, with its program.
-pub(crate) fn parts<'r, 'p, R: Files>(
-    rt: &'r R,
-    alloc: Global,
-    lines: &[SplitLine<'p>],
-    programs: Vec<Program>,
-) -> io::Result<Vec<Part<SplitOutput<'r, 'p, R>>>> {
-    let mut parts = Vec::with_capacity(alloc, lines.len())?;
-    for (line, program) in lines.iter().zip(programs) {
-        let output = FailureProbe::new(LateFile::new(rt, line.output));
-        parts.push(Part {
-            program,
-            snap: line.snap,
-            sink: with_buffer(alloc, OUTPUT_BUFFER, output)?,
-        })?;
+/// The OUT of each line; of the null device, which loses nothing, the first alone.
+fn own_outputs<'p>(alloc: Global, lines: &[SplitLine<'p>]) -> Result<Vec<&'p str>, AllocError>
+    ensures { IfOk result (λ outputs. outputs.items ≡ own_outputs false lines.now) }
+{
+    let mut outputs = Vec::new(alloc);
+    let mut has_null = false;
+    for line in lines {
+        let null = is_null(line.output);
+        if !(has_null && null) {
+            outputs.push(line.output)?;
+        }
+        has_null = has_null || null;
     }
-    Ok(parts)
+    Ok(outputs)
+}
+
+/// Refuses an OUT by which something would be lost: it is a file that is read, the file of another OUT, or the one that lines are printed
+/// to.
+pub(crate) fn check_paths<'p, F: FileStore<'p>>(
+    alloc: Global,
+    files: &mut F,
+    words: &SplitWords<'p>,
+    lines: &[SplitLine<'p>],
+) -> Result<(), Refusal<'p>>
+    ensures kept { Keeps (F.place files.old) (F.place files.new) (F.text files.old) (F.text files.new) (F.pending files.old) (F.pending files.new) }
+    ensures opened { F.opened files.new ≡ F.opened files.old }
+    ensures apart { F.known ≡ true → OnOk result (AreApart (F.place files.old) words.now lines.now) }
+    ensures own { F.known ≡ true → OnOk result (HaveOwnFiles (F.place files.old) lines.now) }
+    ensures unprinted { F.known ≡ true → OnOk result (AreUnprinted (F.place files.old) (F.printed files.old) words.now lines.now) }
+    ensures refused { F.known ≡ true → IfErr result (IsShared (F.place files.old) (F.printed files.old) (F.failed files.new) words.now lines.now) }
+{
+    let read = read_paths(alloc, words)?;
+    let outputs = own_outputs(alloc, lines)?;
+    match files.check_apart(Opening::Late, true, read.as_slice(), outputs.as_slice()) {
+        Ok(()) => Ok(()),
+        Err(fault) => Err(Refusal::Paths(fault)),
+    }
 }

@@ -7,7 +7,7 @@ use Rattle.filter_same.specs.declared.find.Claim.TheVariants.{Same, SameAsCaptur
 use Rattle.filter_same.specs.Filters.{filter_test, filter_accepts}
 use Rattle.filter_same.specs.Findings.{Claims}
 use Rattle.filter_same.specs.Same.{AcceptSame, AcceptSameAsCaptured, AreNeverApart}
-use Rattle.filter_same.proofs.Runs.{programs-say-yes}
+use Rattle.filter_diagrams.proofs.Runs.{programs-say-yes}
 
 -- a filter accepts the packets of which it says Yes
 accepts-yes : (f : Filter) (p : Packet) → filter_accepts f p ≡ is_yes (filter_test f p)

@@ -21,9 +21,9 @@ use Rattle.filter_same.specs.Same.{IsCaptured}
 use Rattle.filter_symbols.specs.Packets.{bit_of, verdict_of, IsPacket, HasHeader}
 use Rattle.filter_symbols.specs.Symbols.{SaysOf, Extends}
 use Rattle.filter_same.specs.Findings.{KeepsNo, HoldsUnlessNo, AcceptsAlike, AreNotApart, ClaimOf, Claims, ClaimsOf}
-use Rattle.filter_same.proofs.Builders.{head-back, verdict-grown}
-use Rattle.filter_same.proofs.Bits.{wire-number, header-number}
-use Rattle.filter_same.proofs.Means.{all-ones}
+use Rattle.filter_diagrams.proofs.Builders.{head-back, verdict-grown}
+use Rattle.filter_diagrams.proofs.Bits.{wire-number, header-number}
+use Rattle.filter_diagrams.proofs.Means.{all-ones}
 
 -- ---- Both accept
 

@@ -1,11 +1,3 @@
-pub mod Builders
-pub mod Bits
-pub mod Means
+pub use Rattle.filter_diagrams.proofs.Builders
 pub mod Ends
-pub mod States
-pub mod Runs
-pub mod Walks
 pub mod Accepting
-pub mod Layers
-pub mod Codes
-pub mod Instructions

@@ -5,7 +5,7 @@ use Rattle.filter_meaning.specs.Meaning.{Packet, Test, accepts, meaning}
 use Rattle.filter_same.specs.declared.filters.Filter.{Filter}
 use Rattle.filter_same.specs.declared.filters.Filter.TheVariants.{Expression, Program}
 use Rattle.filter_same.specs.declared.sameness.Sameness.{Sameness}
-use Rattle.filter_same.specs.Programs.{keeps, program_test}
+use Rattle.filter_diagrams.specs.Programs.{keeps, program_test}
 use Rattle.filter_same.specs.Same.{HoldsOf}
 
 -- what a filter says of a packet

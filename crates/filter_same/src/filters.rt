@@ -4,15 +4,14 @@ ghost use Rattle.std.specs.Prelude.{◌≡◌, ◌<◌, IfOk, IfSome, IsTrue};
 ghost use Rattle.filter_meaning.specs.Meaning.{decided};
 ghost use Rattle.filter_same.specs.Filters.{filter_test, filter_accepts};
 ghost use Rattle.filter_symbols.specs.Symbols.{SaysOf, Extends};
-ghost use Rattle.filter_same.specs.Programs.{ended, program_test};
+ghost use Rattle.filter_diagrams.specs.Programs.{ended, program_test};
 ghost use Rattle.filter_same.specs.Same.{packet, AcceptSame};
 
 use crate::alike::is_same_expr;
-use crate::builder::Builder;
 use crate::depth::{Limits, is_shallow};
-use crate::refusal::Refusal;
 use crate::witness::Witness;
 use bpfvm::{How, Program, run_to_end};
+use filter_diagrams::{Builder, Refusal};
 use filter_meaning::{Verdict, evaluate};
 use filter_tree::Expr;
 use std::alloc::Global;

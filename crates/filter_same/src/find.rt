@@ -8,12 +8,12 @@ ghost use Rattle.filter_symbols.specs.Symbols.{SaysOf, Extends};
 ghost use Rattle.filter_same.specs.Filters.{filter_test};
 ghost use Rattle.filter_same.specs.Findings.{ClaimOf, ClaimsOf, Claims, HoldsUnlessNo, AcceptsAlike, AreNotApart};
 
-use crate::builder::Builder;
+use crate::cut::{cut, cut_header};
 use crate::filters::Filter;
 use crate::ordering::order_of;
-use crate::refusal::Refusal;
-use crate::witness::{Extent, Witness};
+use crate::witness::{Extent, Witness, witness_of};
 use filter_bdd::{Answer, Budget, Operation, Stop};
+use filter_diagrams::{Builder, Refusal};
 use std::alloc::Global;
 
 /// What is so of two filters. Each claim is so where the one before it is.
@@ -61,132 +61,136 @@ fn is_captured(seen: &Option<Witness>) -> bool {
     }
 }
 
-impl Builder {
-    /// Whether a node says Yes of everything.
-    fn is_always(&self, place: u32) -> bool
-        requires { place < length self.now.symbols.words.diagrams }
-        ensures { IsTrue result → (v : ℕ → Bool) → answer self.now.symbols.words.diagrams v place ≡ Final 0 true }
-    {
-        self.symbols
-            .words
-            .diagrams
-            .is(place, Answer::Final(0, true))
-    }
-
-    /// A node that says No where one of two nodes accepts a packet and the other does not.
-    #[tactic(auto, using(crate::proofs::Builders::extends_by))]
-    fn agreement(&mut self, left: u32, right: u32) -> Result<u32, Stop>
-        requires left { left < length self.old.symbols.words.diagrams }
-        requires right { right < length self.old.symbols.words.diagrams }
-        ensures says { IfOk result (λ i. (t u : Test) → SaysOf self.old.symbols t left → SaysOf self.old.symbols u right → HoldsUnlessNo self.new.symbols i (AcceptsAlike t u)) }
-        ensures inside { IfOk result (λ i. i < length self.new.symbols.words.diagrams) }
-        ensures extends { Extends self.old.symbols self.new.symbols }
-    {
-        self.symbols
-            .words
-            .diagrams
-            .apply(Operation::Agree, left, right)
-    }
-
-    /// A node that says No where one of two nodes says Yes of a packet and the other No.
-    #[tactic(auto, using(crate::proofs::Builders::extends_by))]
-    fn clash(&mut self, left: u32, right: u32) -> Result<u32, Stop>
-        requires left { left < length self.old.symbols.words.diagrams }
-        requires right { right < length self.old.symbols.words.diagrams }
-        ensures says { IfOk result (λ i. (t u : Test) → SaysOf self.old.symbols t left → SaysOf self.old.symbols u right → HoldsUnlessNo self.new.symbols i (AreNotApart t u)) }
-        ensures inside { IfOk result (λ i. i < length self.new.symbols.words.diagrams) }
-        ensures extends { Extends self.old.symbols self.new.symbols }
-    {
-        self.symbols
-            .words
-            .diagrams
-            .apply(Operation::Apart, left, right)
-    }
-
-    /// What is claimed of packets of which no more was captured than was on the wire, by a node of what both accept and one of where they
-    /// clash.
-    #[tactic(auto, using(crate::proofs::Builders::extends_more, crate::proofs::Builders::extends_same, crate::proofs::Builders::inside_extended))]
-    #[inline(never)]
-    fn find_captured(&mut self, alloc: Global, agree: u32, clash: u32) -> Result<Finding, Stop>
-        requires header { IfSome self.old.symbols.header (λ n. n < 16) }
-        requires agree { agree < length self.old.symbols.words.diagrams }
-        requires clash { clash < length self.old.symbols.words.diagrams }
-        ensures { IfOk result (λ found. (t u : Test) → HoldsUnlessNo self.old.symbols agree (AcceptsAlike t u) → HoldsUnlessNo self.old.symbols clash (AreNotApart t u)
-            → ClaimsOf self.old.symbols.header t u found.claim) }
-    {
-        let short = self.cut(agree)?;
-        if self.is_always(short) {
-            return Ok(Finding {
-                claim: Claim::SameAsCaptured,
-                witness: None,
-            });
-        }
-        let apart = self.cut(clash)?;
-        if self.is_always(apart) {
-            return Ok(Finding {
-                claim: Claim::NeverApart,
-                witness: self.witness(alloc, short, Extent::Least)?,
-            });
-        }
-        Ok(Finding {
-            claim: Claim::Nothing,
-            witness: self.witness(alloc, apart, Extent::Whole)?,
-        })
-    }
-
-    /// Compares two filters on the packets of the header length, by the nodes that they are. A packet that shows a difference is looked for
-    /// before what cannot be captured is cut away.
-    #[tactic(auto, using(crate::proofs::Builders::extends_more, crate::proofs::Builders::extends_same, crate::proofs::Builders::inside_extended))]
-    fn find(&mut self, alloc: Global, left: u32, right: u32) -> Result<Finding, Stop>
-        requires header { IfSome self.old.symbols.header (λ n. n < 16) }
-        requires left { left < length self.old.symbols.words.diagrams }
-        requires right { right < length self.old.symbols.words.diagrams }
-        ensures { IfOk result (λ found. (t u : Test) → SaysOf self.old.symbols t left → SaysOf self.old.symbols u right → ClaimsOf self.old.symbols.header t u found.claim) }
-    {
-        let all = self.agreement(left, right)?;
-        if self.is_always(all) {
-            return Ok(Finding {
-                claim: Claim::Same,
-                witness: None,
-            });
-        }
-        let agree = self.cut_header(all)?;
-        if self.is_always(agree) {
-            return Ok(Finding {
-                claim: Claim::Same,
-                witness: None,
-            });
-        }
-        let apart = self.clash(left, right)?;
-        let clash = self.cut_header(apart)?;
-        let seen = self.witness(alloc, clash, Extent::Whole)?;
-        if is_captured(&seen) {
-            return Ok(Finding {
-                claim: Claim::Nothing,
-                witness: seen,
-            });
-        }
-        self.find_captured(alloc, agree, clash)
-    }
+/// Whether a node says Yes of everything.
+fn is_always(builder: &Builder, place: u32) -> bool
+    requires { place < length builder.now.symbols.words.diagrams }
+    ensures { IsTrue result → (v : ℕ → Bool) → answer builder.now.symbols.words.diagrams v place ≡ Final 0 true }
+{
+    builder
+        .symbols
+        .words
+        .diagrams
+        .is(place, Answer::Final(0, true))
 }
 
-impl Builder {
-    /// Compares two filters on the packets of the header length.
-    #[inline(never)]
-    fn find_filters(
-        &mut self,
-        alloc: Global,
-        first: Filter<'_>,
-        second: Filter<'_>,
-    ) -> Result<Finding, Refusal>
-        requires { IfSome self.old.symbols.header (λ n. n < 16) }
-        ensures { IfOk result (λ found. ClaimsOf self.old.symbols.header (filter_test first.entry) (filter_test second.entry) found.claim) }
-    {
-        let left = first.node(self, alloc)?;
-        let right = second.node(self, alloc)?;
-        let found = self.find(alloc, left, right)?;
-        Ok(found)
+/// A node that says No where one of two nodes accepts a packet and the other does not.
+#[tactic(auto, using(filter_diagrams::proofs::Builders::extends_by))]
+fn agreement(builder: &mut Builder, left: u32, right: u32) -> Result<u32, Stop>
+    requires left { left < length builder.old.symbols.words.diagrams }
+    requires right { right < length builder.old.symbols.words.diagrams }
+    ensures says { IfOk result (λ i. (t u : Test) → SaysOf builder.old.symbols t left → SaysOf builder.old.symbols u right → HoldsUnlessNo builder.new.symbols i (AcceptsAlike t u)) }
+    ensures inside { IfOk result (λ i. i < length builder.new.symbols.words.diagrams) }
+    ensures extends { Extends builder.old.symbols builder.new.symbols }
+{
+    builder
+        .symbols
+        .words
+        .diagrams
+        .apply(Operation::Agree, left, right)
+}
+
+/// A node that says No where one of two nodes says Yes of a packet and the other No.
+#[tactic(auto, using(filter_diagrams::proofs::Builders::extends_by))]
+fn clash(builder: &mut Builder, left: u32, right: u32) -> Result<u32, Stop>
+    requires left { left < length builder.old.symbols.words.diagrams }
+    requires right { right < length builder.old.symbols.words.diagrams }
+    ensures says { IfOk result (λ i. (t u : Test) → SaysOf builder.old.symbols t left → SaysOf builder.old.symbols u right → HoldsUnlessNo builder.new.symbols i (AreNotApart t u)) }
+    ensures inside { IfOk result (λ i. i < length builder.new.symbols.words.diagrams) }
+    ensures extends { Extends builder.old.symbols builder.new.symbols }
+{
+    builder
+        .symbols
+        .words
+        .diagrams
+        .apply(Operation::Apart, left, right)
+}
+
+/// What is claimed of packets of which no more was captured than was on the wire, by a node of what both accept and one of where they
+/// clash.
+#[tactic(auto, using(filter_diagrams::proofs::Builders::extends_more, filter_diagrams::proofs::Builders::extends_same, filter_diagrams::proofs::Builders::inside_extended))]
+#[inline(never)]
+fn find_captured(
+    builder: &mut Builder,
+    alloc: Global,
+    agree: u32,
+    clash: u32,
+) -> Result<Finding, Stop>
+    requires header { IfSome builder.old.symbols.header (λ n. n < 16) }
+    requires agree { agree < length builder.old.symbols.words.diagrams }
+    requires clash { clash < length builder.old.symbols.words.diagrams }
+    ensures { IfOk result (λ found. (t u : Test) → HoldsUnlessNo builder.old.symbols agree (AcceptsAlike t u) → HoldsUnlessNo builder.old.symbols clash (AreNotApart t u)
+        → ClaimsOf builder.old.symbols.header t u found.claim) }
+{
+    let short = cut(builder, agree)?;
+    if is_always(builder, short) {
+        return Ok(Finding {
+            claim: Claim::SameAsCaptured,
+            witness: None,
+        });
     }
+    let apart = cut(builder, clash)?;
+    if is_always(builder, apart) {
+        return Ok(Finding {
+            claim: Claim::NeverApart,
+            witness: witness_of(builder, alloc, short, Extent::Least)?,
+        });
+    }
+    Ok(Finding {
+        claim: Claim::Nothing,
+        witness: witness_of(builder, alloc, apart, Extent::Whole)?,
+    })
+}
+
+/// Compares two filters on the packets of the header length, by the nodes that they are. A packet that shows a difference is looked for
+/// before what cannot be captured is cut away.
+#[tactic(auto, using(filter_diagrams::proofs::Builders::extends_more, filter_diagrams::proofs::Builders::extends_same, filter_diagrams::proofs::Builders::inside_extended))]
+fn find_nodes(builder: &mut Builder, alloc: Global, left: u32, right: u32) -> Result<Finding, Stop>
+    requires header { IfSome builder.old.symbols.header (λ n. n < 16) }
+    requires left { left < length builder.old.symbols.words.diagrams }
+    requires right { right < length builder.old.symbols.words.diagrams }
+    ensures { IfOk result (λ found. (t u : Test) → SaysOf builder.old.symbols t left → SaysOf builder.old.symbols u right → ClaimsOf builder.old.symbols.header t u found.claim) }
+{
+    let all = agreement(builder, left, right)?;
+    if is_always(builder, all) {
+        return Ok(Finding {
+            claim: Claim::Same,
+            witness: None,
+        });
+    }
+    let agree = cut_header(builder, all)?;
+    if is_always(builder, agree) {
+        return Ok(Finding {
+            claim: Claim::Same,
+            witness: None,
+        });
+    }
+    let apart = clash(builder, left, right)?;
+    let clash = cut_header(builder, apart)?;
+    let seen = witness_of(builder, alloc, clash, Extent::Whole)?;
+    if is_captured(&seen) {
+        return Ok(Finding {
+            claim: Claim::Nothing,
+            witness: seen,
+        });
+    }
+    find_captured(builder, alloc, agree, clash)
+}
+
+/// Compares two filters on the packets of the header length.
+#[inline(never)]
+fn find_filters(
+    builder: &mut Builder,
+    alloc: Global,
+    first: Filter<'_>,
+    second: Filter<'_>,
+) -> Result<Finding, Refusal>
+    requires { IfSome builder.old.symbols.header (λ n. n < 16) }
+    ensures { IfOk result (λ found. ClaimsOf builder.old.symbols.header (filter_test first.entry) (filter_test second.entry) found.claim) }
+{
+    let left = first.node(builder, alloc)?;
+    let right = second.node(builder, alloc)?;
+    let found = find_nodes(builder, alloc, left, right)?;
+    Ok(found)
 }
 
 /// Compares two filters on the packets of one header length, or on all where none is given and none is asked for. It leaves of the budget
@@ -203,7 +207,7 @@ fn find(
 {
     let order = order_of(alloc, header, first, second)?;
     let mut builder = Builder::new(alloc, header, *budget, order);
-    match builder.find_filters(alloc, first, second) {
+    match find_filters(&mut builder, alloc, first, second) {
         Ok(found) => {
             *budget = builder.symbols.words.diagrams.budget();
             Ok(found)

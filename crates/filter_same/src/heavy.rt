@@ -1,8 +1,8 @@
 //! What in a filter takes many nodes, by its form.
 
-use crate::actions::{Action, Operand, Source, action_of};
 use crate::filters::Filter;
 use bpfvm::Insn;
+use filter_diagrams::{Action, Operand, Source, action_of};
 use filter_tree::{Expr, Operator, Value};
 
 /// An offset of a layer that is far from its first byte.

@@ -1,11 +1,11 @@
 //! The order in which the bits of a packet are asked for, by what two filters do with them.
 
-use crate::actions::{Action, Operand, Register, Source, action_of};
 use crate::filters::Filter;
 use crate::shape::Shape;
 use crate::standings::{Standings, WIRE};
 use bpfvm::Insn;
 use filter_bdd::{Order, Stop};
+use filter_diagrams::{Action, Operand, Register, Source, action_of};
 use filter_tree::headers::ETHER_HDR_LEN;
 use filter_tree::{Expr, Layer, Operator, Size, Value};
 use std::alloc::Global;

@@ -2,9 +2,9 @@
 
 ghost use Rattle.std.specs.Prelude.{◌<◌, ◌≤◌, length, IfSome, IsTrue};
 
-use crate::builder::Builder;
 use crate::plain::{LENGTH, Plain};
 use filter_bdd::{Answer, Node, Stop};
+use filter_diagrams::Builder;
 use std::alloc::Global;
 
 /// The longest Ethernet frame, without its checksum. A longer packet is captured only as far as an answer needs.
@@ -75,66 +75,74 @@ impl Witness {
     }
 }
 
-impl Builder {
-    /// One step down to an answer other than Yes, if there is one to take: the bit that a node asks for, and the node after it. Where both
-    /// ways lead to such an answer, it takes that of the plain frame.
-    fn step_down(&self, place: u32, plain: Plain) -> Option<(Bit, u32)>
-        requires place { place < length self.now.symbols.words.diagrams }
-        requires header { plain.header < 16 }
-        ensures less { IfSome result (λ step. step.1 < place) }
+/// One step down to an answer other than Yes, if there is one to take: the bit that a node asks for, and the node after it. Where both
+/// ways lead to such an answer, it takes that of the plain frame.
+fn step_down(builder: &Builder, place: u32, plain: Plain) -> Option<(Bit, u32)>
+    requires place { place < length builder.now.symbols.words.diagrams }
+    requires header { plain.header < 16 }
+    ensures less { IfSome result (λ step. step.1 < place) }
+{
+    let Node::Branch(name, zero, one) = builder.symbols.words.diagrams.node(place) else {
+        return None;
+    };
+    let usual = plain.is_set(name);
+    let (there, other) = if usual { (one, zero) } else { (zero, one) };
+    if builder
+        .symbols
+        .words
+        .diagrams
+        .is(there, Answer::Final(0, true))
     {
-        let Node::Branch(name, zero, one) = self.symbols.words.diagrams.node(place) else {
-            return None;
-        };
-        let usual = plain.is_set(name);
-        let (there, other) = if usual { (one, zero) } else { (zero, one) };
-        if self
-            .symbols
-            .words
-            .diagrams
-            .is(there, Answer::Final(0, true))
-        {
-            Some((Bit { name, one: !usual }, other))
-        } else {
-            Some((Bit { name, one: usual }, there))
-        }
+        Some((Bit { name, one: !usual }, other))
+    } else {
+        Some((Bit { name, one: usual }, there))
     }
+}
 
-    /// The bits on the way down, and the answer there.
-    fn way_down(&self, alloc: Global, from: u32, plain: Plain) -> Result<(Vec<Bit>, Answer), Stop>
-        requires from { from < length self.now.symbols.words.diagrams }
-        requires header { plain.header < 16 }
-    {
-        let mut bits = Vec::new(alloc);
-        let mut place = from;
-        while let Some((bit, next)) = self.step_down(place, plain) {
-            if bits.push(bit).is_err() {
-                return Err(Stop::Memory);
-            }
-            place = next;
+/// The bits on the way down, and the answer there.
+fn way_down(
+    builder: &Builder,
+    alloc: Global,
+    from: u32,
+    plain: Plain,
+) -> Result<(Vec<Bit>, Answer), Stop>
+    requires from { from < length builder.now.symbols.words.diagrams }
+    requires header { plain.header < 16 }
+{
+    let mut bits = Vec::new(alloc);
+    let mut place = from;
+    while let Some((bit, next)) = step_down(builder, place, plain) {
+        if bits.push(bit).is_err() {
+            return Err(Stop::Memory);
         }
-        match self.symbols.words.diagrams.node(place) {
-            Node::Leaf(says) => Ok((bits, says)),
-            Node::Branch(_, _, _) => Ok((bits, Answer::Never)),
-        }
+        place = next;
     }
+    match builder.symbols.words.diagrams.node(place) {
+        Node::Leaf(says) => Ok((bits, says)),
+        Node::Branch(_, _, _) => Ok((bits, Answer::Never)),
+    }
+}
 
-    /// A packet whose bits lead from a node to a No, with as many captured bytes as that needs or more, if there is one.
-    pub fn witness(&self, alloc: Global, from: u32, extent: Extent) -> Result<Option<Witness>, Stop>
-        requires from { from < length self.now.symbols.words.diagrams }
-        requires header { IfSome self.now.symbols.header (λ n. n < 16) }
-    {
-        let plain = Plain {
-            header: self.symbols.header.unwrap_or(5),
-        };
-        let (bits, says) = self.way_down(alloc, from, plain)?;
-        let Answer::Final(need, false) = says else {
-            return Ok(None);
-        };
-        let wire = wire_of(&bits, need);
-        let bytes = frame(alloc, &bits, plain, extent.captured(wire, need))?;
-        Ok(Some(Witness { bytes, wire }))
-    }
+/// A packet whose bits lead from a node to a No, with as many captured bytes as that needs or more, if there is one.
+pub(crate) fn witness_of(
+    builder: &Builder,
+    alloc: Global,
+    from: u32,
+    extent: Extent,
+) -> Result<Option<Witness>, Stop>
+    requires from { from < length builder.now.symbols.words.diagrams }
+    requires header { IfSome builder.now.symbols.header (λ n. n < 16) }
+{
+    let plain = Plain {
+        header: builder.symbols.header.unwrap_or(5),
+    };
+    let (bits, says) = way_down(builder, alloc, from, plain)?;
+    let Answer::Final(need, false) = says else {
+        return Ok(None);
+    };
+    let wire = wire_of(&bits, need);
+    let bytes = frame(alloc, &bits, plain, extent.captured(wire, need))?;
+    Ok(Some(Witness { bytes, wire }))
 }
 
 /// A length on the wire with these bits, and the others from another length.

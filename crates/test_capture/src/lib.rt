@@ -29,6 +29,8 @@ mod sought;
 #[cfg(test)]
 mod split;
 #[cfg(test)]
+mod split_memory;
+#[cfg(test)]
 mod surveyed;
 #[cfg(test)]
 mod system;

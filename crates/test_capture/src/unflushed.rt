@@ -51,6 +51,7 @@ fn a_packet_that_is_not_sent_on_is_a_fault(rt: HostRuntime) {
     let filter = FilterWithProgram {
         filter: &filter,
         program: Err(Refusal::TooLong),
+        form: PacketForm::Text,
     };
     let found = explain_one(rt.alloc(), capture.as_slice(), &filter, 0, &mut out);
     same(&rt, is_output(&found.printed), true);

@@ -1,4 +1,4 @@
-use Rattle.std.proofs.Common.{◌≡◌, true}
+use Rattle.std.proofs.Common.{◌≡◌, ◌+◌, ◌≤◌, length, true}
 use Rattle.cli_store.specs.Files.{Keeps}
 use Rattle.cli_text.specs.declared.status.Status.{Status}
 use Rattle.cli_text.specs.declared.status.Status.TheVariants.{Clean}
@@ -13,5 +13,6 @@ invariant-loop-capture g l =
     let contents = g.O.Write.contents in
     (goal.iterator-loop-capture g).can_next l.capture-iterator × (goal.iterator-loop-capture g).is_finite l.capture-iterator
     × Keeps (F.place l.fn.files) (F.place l.files) (F.text l.fn.files) (F.text l.files) (F.pending l.fn.files) (F.pending l.files)
-    × ((new : g.row.O.Denot) (ended : Status) → FindsIn left contents l.asked.filter.filter.now l.asked.places.first l.asked.places.last l.goes_on l.status l.capture-iterator.rest.items l.out new ended →
-    FindsIn left contents l.asked.filter.filter.now l.asked.places.first l.asked.places.last true Clean l.fn.captures.items l.fn.out new ended)
+    × (l.number + length l.capture-iterator.rest.items ≤ length l.fn.captures.items)
+    × ((new : g.row.O.Denot) (ended : Status) → FindsIn left contents l.asked.filter.form l.asked.filter.filter.now l.asked.places.first l.asked.places.last l.number l.goes_on l.status l.capture-iterator.rest.items l.out new ended →
+    FindsIn left contents l.asked.filter.form l.asked.filter.filter.now l.asked.places.first l.asked.places.last 0 true Clean l.fn.captures.items l.fn.out new ended)

@@ -1,15 +1,7 @@
-use Rattle.std.proofs.Common.{subst, sym}
-use Rattle.std.proofs.lemmas.Result.{err_from_is_err_and}
-use Rattle.cli_answers.specs.declared.form.PacketForm.TheVariants.{Text}
-use Rattle.cli_explain.specs.Explained.{IsLineBroken}
-use Rattle.cli_explain.proofs.Printing.{broken-line, prints-whole}
 use Rattle.cli_explain.proofs.one.print_whole.Goals as goal
 
-pub returns-in_err-print_line : goal.returns-in_err-print_line
-returns-in_err-print_line g c =
-    let p = err_from_is_err_and c.from_residual.result c.from_residual.ensures.1 in
-    broken-line c.args.filter.now.filter.now c.args.place c.args.packet.now _ _ c.from_residual.result p.0 p.1
-    (subst (IsLineBroken Text c.args.filter.now.filter.now c.args.place c.args.packet.now _ _) (sym p.2) c.in_err-print_line.ensures.fault)
+pub returns-in-Text : goal.returns-in-Text
+returns-in-Text g c = rw c.in-Text.is c.print_text.ensures
 
-pub returns : goal.returns
-returns g c = prints-whole c.args.filter.now.filter.now c.args.place c.args.packet.now _ _ _ _ c.print_rest.result c.in_ok-print_line.ensures.ok c.print_rest.ensures
+pub returns-in-Json : goal.returns-in-Json
+returns-in-Json g c = rw c.in-Json.is c.print_object.ensures

@@ -14,7 +14,7 @@ invariant-loop-alloc g l =
           HasGiven g.R.Source.left from header (before ++ l.fn.reader.lent ∷ []) l.fn.reader →
           (shown : List Packet) × (l.place ≡ l.first + length shown)
           × HasGiven g.R.Source.left from header ((before ++ shown) ++ l.reader.lent ∷ []) l.reader
-          × PrintsEach l.filter.filter.now l.first shown (g.O.Write.contents l.fn.out) (g.O.Write.contents l.out);
+          × PrintsEach l.filter.form l.filter.filter.now l.first shown (g.O.Write.contents l.fn.out) (g.O.Write.contents l.out);
       lends : Lends l.reader;
       above : l.first ≤ l.place;
       within : l.place ≤ l.first + (l.last - l.first);

@@ -1,7 +1,7 @@
 use Rattle.std.proofs.Common.{length}
 use Rattle.bpfvm.specs.Listing.{further_lines}
 use Rattle.line_text.proofs.Reading.{IsRead}
-use Rattle.cli_parts.specs.Selected.{IsPartLine}
+use Rattle.cli_parts.specs.Lines.{IsPartLine}
 use Rattle.cli_parts.proofs.lines.parts_of.Given as goal
 
 abbrev pub invariant-loop-rest : goal.invariant-loop-rest

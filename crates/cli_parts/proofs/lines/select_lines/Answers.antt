@@ -1,5 +1,4 @@
-use Rattle.std.proofs.Common.{List, subst, sym}
-use Rattle.pcap_parts.specs.declared.part.PartCut.{PartCut}
+use Rattle.std.proofs.Common.{subst, sym}
 use Rattle.cli_parts.specs.Selected.{SayParts}
 use Rattle.cli_parts.proofs.Selections.{fault_of, line_fault, selection_of}
 use Rattle.cli_parts.proofs.lines.select_lines.Goals as goal

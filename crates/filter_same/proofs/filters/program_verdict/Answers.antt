@@ -5,8 +5,8 @@ use Rattle.bpfvm.specs.declared.ending.How.TheVariants.{NotCaptured, ZeroDivisor
 use Rattle.bpfvm.specs.Endings.{IsEnd}
 use Rattle.filter_same.specs.declared.witness.Witness.{Witness}
 use Rattle.filter_same.specs.Same.{packet}
-use Rattle.filter_same.specs.Programs.{program_test}
-use Rattle.filter_same.proofs.Runs.{end-says, verdict_by}
+use Rattle.filter_diagrams.specs.Programs.{program_test}
+use Rattle.filter_diagrams.proofs.Runs.{end-says, verdict_by}
 use Rattle.filter_same.proofs.filters.program_verdict.Goals as goal
 
 -- the end that is told, of the packet that the witness is

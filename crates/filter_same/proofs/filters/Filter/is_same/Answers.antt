@@ -1,8 +1,8 @@
 use Rattle.std.proofs.Common.{rules, ap, sym, ◌∙◌}
 use Rattle.filter_meaning.specs.Meaning.{accepts}
 use Rattle.filter_same.specs.Filters.{filter_accepts}
-use Rattle.filter_same.specs.Programs.{keeps}
-use Rattle.filter_same.proofs.States.{lists-same}
+use Rattle.filter_diagrams.specs.Programs.{keeps}
+use Rattle.filter_diagrams.proofs.States.{lists-same}
 use Rattle.filter_same.proofs.filters.Filter.is_same.Goals as goal
 
 pub returns-in-Expression-Expression : goal.returns-in-Expression-Expression

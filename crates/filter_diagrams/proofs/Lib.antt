@@ -1,0 +1,9 @@
+pub mod Builders
+pub mod Bits
+pub mod Means
+pub mod States
+pub mod Runs
+pub mod Walks
+pub mod Layers
+pub mod Codes
+pub mod Instructions

@@ -1,0 +1,4 @@
+pub mod Programs
+pub mod Actions
+pub mod States
+pub mod Walks

@@ -1,9 +1,0 @@
-use Rattle.filter_same.proofs.Builders.{map-some}
-use Rattle.filter_same.proofs.Walks.{node-read}
-use Rattle.filter_same.proofs.spots.Spots.known.Goals as goal
-
-pub returns : goal.returns
-returns c =
-    map-some c.node.result
-    (λ i h b insns nodes words. node-read b insns c.args.spot.now c.live.result i c.live.ensures.place c.live.ensures.state words (h b insns nodes))
-    c.node.ensures
