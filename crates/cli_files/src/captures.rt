@@ -8,7 +8,8 @@ use std::alloc::Global;
 use std::io;
 use std::io::{BufWriter, Write};
 
-/// How many bytes are gathered before they are written, of one capture of many or of standard output.
+/// How many bytes are gathered before they are written, of one capture of many or of standard
+/// output.
 pub const OUTPUT_BUFFER: usize = 1 << 16;
 
 /// A capture that is written, with a buffer of `room` bytes in front of it.

@@ -12,15 +12,16 @@ use std::{fs, io};
 /// A read here is empty, and nothing can be written, since it is opened only for reading.
 const NULL_DEVICE: &str = "/dev/null";
 
-/// Opens the null device, which takes the number of the first standard stream that is closed; if none is, another number does
-/// no harm. While three are held, no file that is opened gets a stream's number, so no report of a fault goes into a file.
+/// Opens the null device, which takes the number of the first standard stream that is closed; if
+/// none is, another number does no harm. While three are held, no file that is opened gets a
+/// stream's number, so no report of a fault goes into a file.
 pub fn reserve_std_fd<R: Files>(rt: &R) -> Option<R::File> {
     fs::open(rt, NULL_DEVICE).ok()
 }
 
-/// A file that is made at its first write, so that what was there stays if nothing is written. Once a call has failed, or
-/// taken nothing of what it was given, every later one fails and touches nothing: nothing is written after a fault that was
-/// reported.
+/// A file that is made at its first write, so that what was there stays if nothing is written. Once
+/// a call has failed, or taken nothing of what it was given, every later one fails and touches
+/// nothing: nothing is written after a fault that was reported.
 #[derive(Drop)]
 pub struct LateFile<'r, 'p, R: Files> {
     rt: &'r R,
@@ -91,7 +92,8 @@ impl<R: Files> Write for LateFile<'_, '_, R> {
     }
 }
 
-/// A file that is opened at its first read, and closed at its end. Once a call has failed every later one fails too.
+/// A file that is opened at its first read, and closed at its end. Once a call has failed every
+/// later one fails too.
 #[derive(Drop)]
 pub struct LateInput<'r, 'p, R: Files> {
     rt: &'r R,

@@ -1,4 +1,5 @@
-//! Files as a command uses them: each opened or created once, when it is first needed, and none instead of another.
+//! Files as a command uses them: each opened or created once, when it is first needed, and none
+//! instead of another.
 #![tactic(auto)]
 
 pub mod captures;

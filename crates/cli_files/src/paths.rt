@@ -1,5 +1,5 @@
-//! Which paths are one file. This is checked before a file is opened for writing, so that no file that is read is lost and no two
-//! captures go into one file.
+//! Which paths are one file. This is checked before a file is opened for writing, so that no file
+//! that is read is lost and no two captures go into one file.
 
 ghost use Rattle.std.specs.Prelude.{◌≡◌};
 ghost use Rattle.cli_text.specs.declared.status.Status.TheVariants.{Refused};
@@ -110,7 +110,8 @@ fn id_of(metadata: &Metadata) -> FileId {
     }
 }
 
-/// Whether an error says that a path leads nowhere: then nothing can be opened or made there either.
+/// Whether an error says that a path leads nowhere: then nothing can be opened or made there
+/// either.
 fn is_no_way(error: &io::Error) -> bool {
     match error.kind() {
         ErrorKind::NotFound
@@ -157,7 +158,8 @@ fn link_target<R: Files + AllocGlobal>(rt: &R, path: &str) -> io::Result<Option<
     }
 }
 
-/// Where a file would be made by a path at which there is none: a symbolic link at its end is followed.
+/// Where a file would be made by a path at which there is none: a symbolic link at its end is
+/// followed.
 fn new_file<R: Files + AllocGlobal>(rt: &R, path: &str) -> io::Result<Option<Target>> {
     let mut path = String::from_str(rt.alloc(), path)?;
     for _ in 0..MAX_LINKS {
@@ -169,7 +171,8 @@ fn new_file<R: Files + AllocGlobal>(rt: &R, path: &str) -> io::Result<Option<Tar
     Err(io::Error::from(ErrorKind::FilesystemLoop))
 }
 
-/// The target that a new file would be. None can be made in a folder that does not exist, nor without a name.
+/// The target that a new file would be. None can be made in a folder that does not exist, nor
+/// without a name.
 fn in_folder<R: Files + AllocGlobal>(rt: &R, path: &str) -> io::Result<Option<Target>> {
     let (folder, name) = folder_and_name(path);
     match metadata_of(rt, folder)? {
@@ -181,14 +184,15 @@ fn in_folder<R: Files + AllocGlobal>(rt: &R, path: &str) -> io::Result<Option<Ta
     }
 }
 
-/// A file that loses something if it is written while it is used otherwise: a regular file or a fifo.
+/// A file that loses something if it is written while it is used otherwise: a regular file or a
+/// fifo.
 fn lost_file(metadata: &Metadata) -> Option<Target> {
     let is_lost = metadata.is_file() || metadata.file_type().is_fifo();
     is_lost.then_some(Target::File(id_of(metadata)))
 }
 
-/// Where a path leads. Nothing if there is no file and none can be made, and for a device or a folder, which lose nothing. An
-/// error means that the system does not say.
+/// Where a path leads. Nothing if there is no file and none can be made, and for a device or a
+/// folder, which lose nothing. An error means that the system does not say.
 pub fn target_of<R: Files + AllocGlobal>(rt: &R, path: &str) -> io::Result<Option<Target>> {
     match metadata_of(rt, path)? {
         Some(metadata) => Ok(lost_file(&metadata)),
@@ -215,7 +219,8 @@ fn is_missing<'a, R: Files>(rt: &R, path: &'a str) -> Result<bool, PathFault<'a>
     }
 }
 
-/// The regular file or pipe that standard input comes from. Who writes to that pipe waits for what was written there.
+/// The regular file or pipe that standard input comes from. Who writes to that pipe waits for what
+/// was written there.
 fn input_file<R: Files>(rt: &R) -> Result<Option<Target>, PathFault<'static>> {
     match metadata_of(rt, STANDARD_INPUT) {
         Ok(Some(metadata)) => Ok(lost_file(&metadata)),
@@ -224,7 +229,8 @@ fn input_file<R: Files>(rt: &R) -> Result<Option<Target>, PathFault<'static>> {
     }
 }
 
-/// The regular file that standard error goes to. A pipe loses nothing if another stream goes there too.
+/// The regular file that standard error goes to. A pipe loses nothing if another stream goes there
+/// too.
 fn error_file<R: Files>(rt: &R) -> Result<Option<Target>, PathFault<'static>> {
     match metadata_of(rt, STANDARD_ERROR) {
         Ok(Some(metadata)) if metadata.is_file() => Ok(Some(Target::File(id_of(&metadata)))),
@@ -250,8 +256,8 @@ impl<'a> Taken<'a> {
         }
     }
 
-    /// Takes the files that are read, which may be the same file, but not the one that is printed to; then the file of standard input,
-    /// and those that are printed and reported to.
+    /// Takes the files that are read, which may be the same file, but not the one that is printed
+    /// to; then the file of standard input, and those that are printed and reported to.
     fn add_read<R: Files + AllocGlobal>(
         &mut self,
         rt: &R,
@@ -337,12 +343,14 @@ pub fn report_path<E: HintSink>(fault: &PathFault<'_>, err: &mut E) -> Status
     }
 }
 
-/// Checks that no file that is written is one that is read, the file of an earlier path that is written, the one that standard input
-/// comes from, or the one that standard output or standard error goes to; and that standard output goes to no file that is read.
+/// Checks that no file that is written is one that is read, the file of an earlier path that is
+/// written, the one that standard input comes from, or the one that standard output or standard
+/// error goes to; and that standard output goes to no file that is read.
 ///
-/// Two paths are one file if they lead to one regular file or fifo, or to one new file; one that is read and one that is written also
-/// if they have the same text. `standard_output` is its path, if the command prints there. With [`Opening::First`] a path that is read
-/// and leads to nothing is skipped: the command can't open it.
+/// Two paths are one file if they lead to one regular file or fifo, or to one new file; one that is
+/// read and one that is written also if they have the same text. `standard_output` is its path, if
+/// the command prints there. With [`Opening::First`] a path that is read and leads to nothing is
+/// skipped: the command can't open it.
 pub fn check_shared_files<'a, R: Files + AllocGlobal>(
     rt: &R,
     opening: Opening,

@@ -19,8 +19,8 @@ use std::{fs, io};
 /// How many bytes a LISTING, LINES, LISTENERS or SCRIPT has at most.
 pub const MAX_TEXT: usize = 1 << 24;
 
-/// Whether memory was refused to this program. An error that the system gave for a file has a number, even if it is that of
-/// memory (`ENOMEM`).
+/// Whether memory was refused to this program. An error that the system gave for a file has a
+/// number, even if it is that of memory (`ENOMEM`).
 fn is_refused_memory(error: &io::Error) -> bool
     ensures { IsTrue result ↔ IsRefusedMemory error.now }
 {
@@ -75,8 +75,9 @@ pub fn report_long_text<E: HintSink>(path: &str, err: &mut E) -> Status
     status
 }
 
-/// The bytes of a LISTING, LINES, LISTENERS or SCRIPT; or reports why there are none, and returns the exit status. One that is longer than
-/// [`MAX_TEXT`], as a pipe without end, is `TextTooLong`, and no more of it is read.
+/// The bytes of a LISTING, LINES, LISTENERS or SCRIPT; or reports why there are none, and returns
+/// the exit status. One that is longer than [`MAX_TEXT`], as a pipe without end, is `TextTooLong`,
+/// and no more of it is read.
 pub fn read_text<R: Files + AllocGlobal, E: HintSink>(
     rt: &R,
     path: &str,

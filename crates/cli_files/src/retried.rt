@@ -8,7 +8,8 @@ ghost use Rattle.std.specs.IoError.{error_kind};
 use std::io;
 use std::io::{ErrorKind, Read, Write};
 
-/// A reader or a writer whose calls are made again if a signal interrupted them: that is no fault of a device.
+/// A reader or a writer whose calls are made again if a signal interrupted them: that is no fault
+/// of a device.
 #[derive(Debug, Drop)]
 pub struct Retried<T> {
     inner: T,

@@ -46,7 +46,7 @@ impl<'w, 'r, R> DiskFiles<'w, 'r, R> {
         }
     }
 
-    /// The same, where so many bytes of each output are gathered before they are written.
+    /// The same files, but `gathered` bytes of each output are gathered before they are written.
     pub fn gathering(self, gathered: usize) -> DiskFiles<'w, 'r, R> {
         DiskFiles { gathered, ..self }
     }

@@ -1,4 +1,5 @@
-//! Files as a command sees them: where a path leads, what is there, what was opened and made. Over the system, and in memory.
+//! Files as a command sees them: where a path leads, what is there, what was opened and made. Over
+//! the system, and in memory.
 #![tactic(auto)]
 
 pub mod disk;

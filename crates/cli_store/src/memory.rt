@@ -64,7 +64,7 @@ impl Endurance {
 #[derive(Debug, Drop)]
 pub struct MemoryInput {
     bytes: Counted<VecDeque<u8>>,
-    /// How often it can be read; where there is no file, never.
+    /// How often it can be read; if there is no file, never.
     reads: usize,
 }
 
@@ -99,6 +99,8 @@ impl Sink for MemoryOutput<'_> {
 
     ghost failures = { λ output. output.taken.failures };
 
+    ghost waits = { λ output. output.taken.waits };
+
     fn write(&mut self, from: &[u8]) -> Result<usize, Broken> {
         if self.writes == 0 {
             self.taken.failures = self.taken.failures.wrapping_add(1);
@@ -106,6 +108,10 @@ impl Sink for MemoryOutput<'_> {
         }
         self.writes -= 1;
         self.taken.write(from)
+    }
+
+    fn flush(&mut self) {
+        self.taken.flush();
     }
 }
 
@@ -302,7 +308,8 @@ fn copy_of(
     }
 }
 
-/// Opens the file at a path, if there is one, and notes that. Where there is none, it can't be read.
+/// Opens the file at a path, if there is one, and notes that. If there is none, it can't be
+/// read.
 fn open_in<'p>(
     alloc: Global,
     files: &[MemoryFile<'_>],

@@ -9,16 +9,18 @@ use cli_report::FailureProbe;
 use savefile::{Sink, Source};
 use std::io;
 
-/// The files that a command reads, and the one that it writes. A file is named by the place where its path leads: two paths are one file
-/// if they lead to one place.
+/// The files that a command reads, and the one that it writes. A file is named by the place where
+/// its path leads: two paths are one file if they lead to one place.
 ///
-/// Contracts know the files if [`known`](FileStore) holds: those in memory, and not those of the system. Over these a command is the same
-/// code, and what is said of its files rests on what [`DiskFiles`](crate::DiskFiles) says.
+/// Contracts know the files if [`known`](FileStore) holds: those in memory, and not those of the
+/// system. Over these a command is the same code, and what is said of its files rests on what
+/// [`DiskFiles`](crate::DiskFiles) says.
 pub trait FileStore<'p> {
     /// A file that is read. Who has opened one gives it back to [`FileStore::done`].
     type Input: Source + Drop;
 
-    /// A file that is written. Who has made one gives it back to [`FileStore::close`]: [`pending`](FileStore) counts those that were not.
+    /// A file that is written. Who has made one gives it back to [`FileStore::close`]:
+    /// [`pending`](FileStore) counts those that were not.
     type Output: Sink + Drop;
 
     /// Whether contracts know the files.
@@ -45,9 +47,10 @@ pub trait FileStore<'p> {
     /// The place of the file that could not be read, opened or made last, if there was one.
     ghost denied: { Self → Option (List ℕ) };
 
-    /// Checks that no file would be lost: no OUT is a file that is read, another OUT, or a file that a standard stream comes from or goes to.
-    /// With `prints` standard output goes to no file that is read. With [`Opening::First`] a path that is read and leads to no file is
-    /// skipped, since it can't be opened.
+    /// Checks that no file would be lost: no OUT is a file that is read, another OUT, or a file
+    /// that a standard stream comes from or goes to. With `prints` standard output goes to no file
+    /// that is read. With [`Opening::First`] a path that is read and leads to no file is skipped,
+    /// since it can't be opened.
     fn check_apart(
         &mut self,
         opening: Opening,
@@ -84,8 +87,8 @@ pub trait FileStore<'p> {
         ensures failed { known ≡ true → IfErr result (λ error. IsRefusedMemory error ⊎ (failed self.new ≡ true)) }
         ensures denied { known ≡ true → IfErr result (λ error. IsRefusedMemory error ⊎ (denied self.new ≡ Some (place self.old path.now))) };
 
-    /// A file that is opened when it is read first. That it can't be opened shows only then, as a failure of what is read. The error is that
-    /// memory ran out.
+    /// A file that is opened when it is read first. That it can't be opened shows only then, as a
+    /// failure of what is read. The error is that memory ran out.
     fn late(&mut self, path: &'p str) -> io::Result<Self::Input>
         ensures kept { Keeps (place self.old) (place self.new) (text self.old) (text self.new) (pending self.old) (pending self.new) }
         ensures printed { printed self.new ≡ printed self.old }
@@ -118,8 +121,8 @@ pub trait FileStore<'p> {
         ensures failed { known ≡ true → IfErr result (λ error. IsRefusedMemory error ⊎ (failed self.new ≡ true)) }
         ensures denied { known ≡ true → IfErr result (λ error. IsRefusedMemory error ⊎ (denied self.new ≡ Some (place self.old path.now))) };
 
-    /// Hands on all that the file took, and closes it. The error is why that, or a write before, failed: the file then has a beginning of
-    /// what it took, or is as it was.
+    /// Hands on all that the file took, and closes it. The error is why that, or a write before,
+    /// failed: the file then has a beginning of what it took, or is as it was.
     fn close(&mut self, output: Self::Output) -> io::Result<()>
         requires made { known ≡ true → 0 < pending self.old }
         ensures places { place self.new ≡ place self.old }

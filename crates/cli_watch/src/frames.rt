@@ -64,7 +64,7 @@ enum Next {
     FileHeader,
     /// A record.
     Record(Header),
-    /// So many further bytes of a frame, which is unseen or not.
+    /// This many further bytes of a frame, which is unseen or not.
     Frame(Header, usize, bool),
     /// No further frame: the header is refused, or a record is bad.
     Nothing,
@@ -107,8 +107,8 @@ impl Front {
     }
 }
 
-/// A walk over the bytes of a capture, which come in any pieces. It counts the frames of the records that came whole, up to the first bad
-/// one, as `savefile` reads them.
+/// A walk over the bytes of a capture, which come in any pieces. It counts the frames of the
+/// records that came whole, up to the first bad one, as `savefile` reads them.
 #[derive(Debug, Drop)]
 pub struct FrameWalk {
     next: Next,
@@ -198,7 +198,8 @@ impl FrameWalk {
     }
 }
 
-/// Goes over the bytes that there are of a record, which has its front among them; returns how many these are, and what comes next.
+/// Goes over the bytes that there are of a record, which has its front among them; returns how many
+/// these are, and what comes next.
 fn take_record(header: Header, bytes: &[u8], counts: &mut FrameCounts) -> (usize, Next)
     requires { 0 < length bytes.now }
     ensures some { 0 < result.0 }
@@ -234,7 +235,8 @@ fn captured_len(order: Order, front: &[u8]) -> usize
     }
 }
 
-/// How many bytes are to be seen of a record before its frame is known: its header, and then the front of its frame too.
+/// How many bytes are to be seen of a record before its frame is known: its header, and then the
+/// front of its frame too.
 fn front_len(order: Order, front: &[u8]) -> usize
     ensures { 0 < result }
 {

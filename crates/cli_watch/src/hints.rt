@@ -51,9 +51,10 @@ fn unseen_object(counts: FrameCounts) -> io::Result<Line>
     Ok(line)
 }
 
-/// Reports IPv6 and VLAN, below what a command printed that asked an expression: how many of the frames are these, and the way to a
-/// program that looks inside; with `--json` an object `{"frames":5258,"unseen":336}`. If there are none, or if the command was refused or
-/// failed with this status, it reports nothing. The error is that of standard error, which took a prefix.
+/// Reports IPv6 and VLAN, below what a command printed that asked an expression: how many of the
+/// frames are these, and the way to a program that looks inside; with `--json` an object
+/// `{"frames":5258,"unseen":336}`. If there are none, or if the command was refused or failed with
+/// this status, it reports nothing. The error is that of standard error, which took a prefix.
 pub fn report_unseen<E: FaultSink>(
     counts: FrameCounts,
     status: Status,

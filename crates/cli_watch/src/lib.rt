@@ -1,4 +1,5 @@
-//! The captures of a command, watched while it reads them: how far the reading is, and how many frames no filter looks into.
+//! The captures of a command, watched while it reads them: how far the reading is, and how many
+//! frames no filter looks into.
 #![tactic(auto)]
 
 pub mod captures;

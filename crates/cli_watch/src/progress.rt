@@ -83,7 +83,7 @@ impl Display for ProgressText {
     }
 }
 
-/// So many blanks.
+/// Prints as this many blanks.
 #[derive(Clone, Copy, Drop)]
 struct Blanks(usize);
 
@@ -147,7 +147,8 @@ fn total_size<R: Files>(rt: &R, paths: &[&str]) -> Option<u64> {
 }
 
 impl Progress {
-    /// Of a command that begins to read these captures now; nothing if standard error is no terminal, or not all are regular files.
+    /// Of a command that begins to read these captures now; nothing if standard error is no
+    /// terminal, or not all are regular files.
     pub(crate) fn new<R: Files + Screen>(rt: &R, paths: &[&str]) -> Option<Progress> {
         if !rt.is_error_terminal() {
             return None;
@@ -165,7 +166,8 @@ impl Progress {
         })
     }
 
-    /// Whether it is time to draw the line, `millis` milliseconds after the start. Of several threads that ask, one gets a yes.
+    /// Whether it is time to draw the line, `millis` milliseconds after the start. Of several
+    /// threads that ask, one gets a yes.
     fn is_due(&self, millis: u64) -> bool {
         let drawn = self.drawn.load(SeqCst);
         millis >= FIRST_MILLIS
@@ -177,7 +179,8 @@ impl Progress {
                 .is_ok()
     }
 
-    /// Counts bytes that were read, and draws the line if it is time to. So many packets were read so far.
+    /// Adds `count` to the bytes that were read, and draws the line if it is time to. `packets`
+    /// were read so far.
     pub(crate) fn advance<R: Screen>(&self, rt: &R, count: usize, packets: u64) {
         self.read.fetch_add(count as u64, SeqCst);
         if let Ok(elapsed) = self.start.elapsed(rt) {
@@ -215,8 +218,8 @@ impl Progress {
         }
     }
 
-    /// Makes room for a text on standard output. If that is a terminal, the line is erased for good, since the text may end in the midst
-    /// of a line.
+    /// Makes room for a text on standard output. If that is a terminal, the line is erased for
+    /// good, since the text may end in the midst of a line.
     pub(crate) fn give_way<R: Screen>(&self, rt: &R) {
         if self.is_output_shown {
             self.erase(rt);

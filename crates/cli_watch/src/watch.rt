@@ -9,7 +9,8 @@ use std::io::Read;
 use std::sync::atomic::AtomicU64;
 use std::sync::atomic::Ordering::SeqCst;
 
-/// What is seen of the captures that a command reads, maybe in several threads: their frames, and how far the reading is.
+/// What is seen of the captures that a command reads, maybe in several threads: their frames, and
+/// how far the reading is.
 #[derive(Drop)]
 pub struct Watch<'r, R> {
     rt: &'r R,
@@ -21,8 +22,9 @@ pub struct Watch<'r, R> {
 }
 
 impl<'r, R: Files + Screen> Watch<'r, R> {
-    /// For a command that begins to read the captures at these paths. The progress is shown if that is wanted, standard error is a
-    /// terminal and all captures are regular files; else nothing is watched.
+    /// For a command that begins to read the captures at these paths. The progress is shown if that
+    /// is wanted, standard error is a terminal and all captures are regular files; else nothing is
+    /// watched.
     pub fn new(rt: &'r R, paths: &[&str], is_wanted: bool) -> Watch<'r, R> {
         let progress = if is_wanted {
             Progress::new(rt, paths)
@@ -38,7 +40,8 @@ impl<'r, R: Files + Screen> Watch<'r, R> {
         }
     }
 
-    /// The same, whose frames are counted too if that is wanted, whether the progress is shown or not.
+    /// The same, whose frames are counted too if that is wanted, whether the progress is shown or
+    /// not.
     pub fn counting(self, is_wanted: bool) -> Watch<'r, R> {
         Watch {
             is_counting: self.is_counting || is_wanted,
@@ -74,7 +77,8 @@ impl<'r, R: Screen> Watch<'r, R> {
         }
     }
 
-    /// Erases the line of the progress, if there is one on the screen. It is called before anything is written to standard error.
+    /// Erases the line of the progress, if there is one on the screen. It is called before anything
+    /// is written to standard error.
     pub fn erase(&self) {
         if let Some(progress) = &self.progress {
             progress.erase(self.rt);

@@ -28,7 +28,7 @@ nothing-appended : (taken : Option (List ℕ)) → Appends taken taken []
 nothing-appended None = tt
 nothing-appended (Some bytes) = sym (append-nil bytes)
 
--- the text that a source has left, where it tells
+-- the text that a source has left, if it is known
 pub told-text : (left : Option (List ℕ)) → IfSome left (λ bytes. bytes ≡ unwrap_or left [])
 told-text None = tt
 told-text (Some bytes) = refl
@@ -44,7 +44,7 @@ IsOutcome left taken from back to sink count program snap order unit tally end =
 pub is-read : (from : Option (List ℕ)) (header : Header) (packets : List Packet) (fault : Option Fault) (w : WasRead from header packets fault) → IsCapture w.text packets fault
 is-read from header packets fault w = record { order = header.order; unit = header.unit; snap = header.snap; holds = w.holds }
 
--- what was taken stops behind the packets that a reader gave
+-- what was taken stops after the packets that a reader gave
 pub stops-behind : (from left : Option (List ℕ)) (header : Header) (packets : List Packet) (w : WasTaken from left header packets) → StopsBehind w.text packets
 stops-behind from left header packets w =
     record { order = header.order; unit = header.unit; snap = header.snap; rest = w.rest; reads = w.reads; no_more = w.no_more }

@@ -86,8 +86,8 @@ pub record Took {W : Type 0} (taken : W → Option (List ℕ)) (old new : W) (co
   pub appends : Appends (taken old) (taken new) bytes
   pub counts : count ≡ length bytes
 
--- A cut from a source to a sink: the text that the source had left, what it gave of that, and what the sink took, where
--- these tell their bytes; and all was sent, or it broke off.
+-- A cut from a source to a sink: the text that the source had left, what it gave of that, and what the sink took, if
+-- their bytes are known; and all was sent, or it broke off.
 pub record Cuts {R W : Type 0} (left : R → Option (List ℕ)) (taken : W → Option (List ℕ)) (from : R) (to : W)
     (program : List Insn) (snap : ℕ) (order : Order) (unit : TimeUnit) (end : CutEnd R W) : Type 0 where
   pub text : List ℕ

@@ -51,29 +51,33 @@ pub struct CutEnd<R, W> {
     pub sink: W,
     /// How many bytes the sink took in this call.
     pub sent: u64,
-    /// How many packets the capture has, and how many of these the program accepts, if it was read to its end or to a torn
-    /// or bad record, and all was written.
+    /// How many packets the capture has, and how many of these the program accepts, if it was read
+    /// to its end or to a torn or bad record, and all was written.
     pub tally: Tally,
     pub end: End,
 }
 
 /// Writes the packets of a capture that a program accepts, each cut, as a capture of its own.
 ///
-/// Of a packet it keeps as many bytes as the least of the snapshot length, the program's answer and the captured length;
-/// its time and its original length stay. The new header has the snapshot length, and 0 means 262,144. The capture is a
-/// savefile of pcap-savefile(5), in any byte order and unit; it is written in those given. Each packet is written before
-/// the next one is read, and the sink is flushed whenever the source has to be asked for the next one.
+/// Of a packet it keeps as many bytes as the least of the snapshot length, the program's answer and
+/// the captured length; its time and its original length stay. The new header has the snapshot
+/// length, and 0 means 262,144. The capture is a savefile of pcap-savefile(5), in any byte order
+/// and unit; it is written in those given. Each packet is written before the next one is read, and
+/// the sink is flushed whenever the source has to be asked for the next one.
 ///
 /// The end is [`End::Clean`] if the whole capture was read and written. It is [`End::Input`]
 ///
-/// - with the header's fault, and the sink is as it was; so it is with [`Fault::NoMemory`], and then the source is too;
+/// - with the header's fault, and the sink is as it was; so it is with [`Fault::NoMemory`], and then
+///   the source is too;
 /// - with the fault of the first torn or bad record, after all packets before it;
-/// - with [`Fault::Device`] if and only if the source failed: after all packets that came whole in what the source gave, or, with the
-///   sink as it was, if that was fewer than the 24 bytes of a header;
+/// - with [`Fault::Device`] if and only if the source failed: after all packets that came whole in
+///   what the source gave, or, with the sink as it was, if that was fewer than the 24 bytes of a
+///   header;
 /// - with [`Fault::CountFull`] after 2^64 - 1 packets.
 ///
-/// It is [`End::Output`] with [`Fault::Device`] if and only if the sink failed, or [`Fault::CountFull`] if the text has 2^64 bytes or
-/// more. In every case the sink took exactly `sent` bytes, a prefix of the text that was to be written.
+/// It is [`End::Output`] with [`Fault::Device`] if and only if the sink failed, or
+/// [`Fault::CountFull`] if the text has 2^64 bytes or more. In every case the sink took exactly
+/// `sent` bytes, a prefix of the text that was to be written.
 pub fn cut<R: Source, W: Sink>(
     alloc: Global,
     from: R,
@@ -198,10 +202,11 @@ fn copy_accepted<R: Source, W: Sink>(
     }
 }
 
-/// Goes on to the next packet, as [`Reader::advance`] does. Before the source is asked for it the sink hands on what it has gathered: so
-/// whoever reads along has all that was accepted while the source is waited for, and a file is written in large pieces.
+/// Goes on to the next packet, as [`Reader::advance`] does. Before the source is asked for it the
+/// sink is told to hand on what it has gathered: so whoever reads along has all that was accepted
+/// while the source is waited for, and a file is written in large pieces.
 #[inline(always)]
-fn advance_flushed<R: Source, W: Sink>(
+pub fn advance_flushed<R: Source, W: Sink>(
     reader: &mut Reader<R>,
     writer: &mut Writer<W>,
 ) -> Result<bool, Fault>
@@ -223,6 +228,8 @@ fn advance_flushed<R: Source, W: Sink>(
     ensures sink_works { W.failures writer.new.sink ≡ W.failures writer.old.sink }
     ensures named { W.name writer.new.sink ≡ W.name writer.old.sink }
     ensures ahead { GoesOn reader.old × (reader.old.given ≢ 2 ^ 64 - 1) × HasRecord reader.old.header reader.old.ahead → writer.new ≡ writer.old }
+    // If none waits, the source is asked, and nothing that was written is held back.
+    ensures handed_on { (GoesOn reader.old × (reader.old.given ≢ 2 ^ 64 - 1) × HasRecord reader.old.header reader.old.ahead → ⊥) → W.waits writer.new.sink ≡ false }
 {
     given_so_far(reader);
     if reader.advance_ahead() {
@@ -232,11 +239,11 @@ fn advance_flushed<R: Source, W: Sink>(
     reader.advance()
 }
 
-/// Writes a packet, cut, if a program accepts it, as [`cut`] does, and counts it: one step of a cut, for callers that read
-/// packets themselves. At most `snap` bytes are kept; here 0 means 0.
+/// Writes a packet, cut, if a program accepts it, as [`cut`] does, and counts it: one step of a
+/// cut, for callers that read packets themselves. At most `snap` bytes are kept; here 0 means 0.
 ///
-/// The error is [`Fault::Device`] if and only if the sink failed, or [`Fault::CountFull`] if the text has 2^64 bytes or
-/// more. The sink then took a prefix of the text with this packet.
+/// The error is [`Fault::Device`] if and only if the sink failed, or [`Fault::CountFull`] if the
+/// text has 2^64 bytes or more. The sink then took a prefix of the text with this packet.
 // It is in the loop of each cut, and of each part of a split.
 #[inline(always)]
 pub fn put_accepted<W: Sink>(

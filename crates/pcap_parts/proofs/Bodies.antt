@@ -1,5 +1,5 @@
 -- The headers and the bodies of the files of parts.
-use Rattle.std.proofs.Common.{◌≡◌, ◌≢◌, ◌⊎◌, ℕ, suc, ◌+◌, ◌<◌, ◌≤◌, List, [], ◌∷◌, ◌++◌, length, take, drop, get_or, All, Option, Some, None, IfSome, refl, sym, ap, subst, ◌∙◌, inl, inr, append_assoc, append-nil, arith}
+use Rattle.std.proofs.Common.{◌≡◌, ◌≢◌, ℕ, suc, ◌+◌, ◌<◌, List, [], ◌∷◌, ◌++◌, length, take, drop, get_or, All, Option, Some, None, IfSome, refl, sym, ap, subst, ◌∙◌, inl, inr, append_assoc, append-nil, arith}
 use Rattle.std.specs.Prelude.{IfErr, IsSome, OnOk, Result, Ok, Err}
 use Rattle.std.specs.List.{AllZip, Contains, concat}
 use Rattle.std.proofs.lemmas.Bool.{cases_lt}
@@ -18,7 +18,7 @@ use Rattle.pcap_parts.proofs.Joining.{behind, cuts_of_parts}
 use Rattle.pcap_parts.specs.Copying.{Copies, IsOtherSize}
 use Rattle.pcap_parts.specs.declared.writing.WriteFault.{WriteFault}
 use Rattle.pcap_parts.specs.declared.writing.WriteFault.TheVariants.{OtherHeader, OtherSize, Unread, Output, NoMemory}
-use Rattle.pcap_parts.specs.Writing.{HasBody, HasHeader, HasOwnBody, HaveOneHeader, IsFileFault, IsHeaderFault, IsWriteFault, IsWritten, OneOf, Texts, TookBodies, TookBody}
+use Rattle.pcap_parts.specs.Writing.{HasBody, HasHeader, HasOwnBody, HaveOneHeader, IsFileFault, IsHeaderFault, IsOtherHeader, IsWriteFault, IsWritten, OneOf, Texts, TookBodies, TookBody}
 
 -- ---- One file
 
@@ -108,7 +108,7 @@ one_of Holds parts i d lt is = (get_or parts i d, Contains-get_or parts i d lt, 
 some_same : (xs ys : List ℕ) → Some xs ≡ Some ys → xs ≡ ys
 some_same xs ys is = ap (λ (o : Option (List ℕ)). elim o [ None ↦ [] | Some t ↦ t ]) is
 
-front_of : (header body : List ℕ) → length header ≡ 24 → take 24 (header ++ body) ≡ header
+pub front_of : (header body : List ℕ) → length header ≡ 24 → take 24 (header ++ body) ≡ header
 front_of header body long = take-append-le 24 header body (omega (arith, long)) ∙ take_all 24 header (omega (arith, long))
 
 pub same_header : (text : Texts) (part : PartCut) (one other : List ℕ) → HasHeader text one part → HasHeader text other part → one ≡ other
@@ -120,7 +120,7 @@ under_header text part header body has (own, long, (is, size)) =
     let same : own ≡ header = same_header text part own header (long, body, is) has in
     subst (λ (h : List ℕ). HasBody text h part body) same (is, size)
 
-all_later : (P : PartCut → Type 0) (p : PartCut) (ps : List PartCut) → All P (p ∷ ps) → All P ps
+pub all_later : (P : PartCut → Type 0) (p : PartCut) (ps : List PartCut) → All P (p ∷ ps) → All P ps
 all_later P p ps all = λ k d lt. all (suc k) d (omega (arith, lt))
 
 pub under_one : (text : Texts) (header : List ℕ) (parts : List PartCut) (bodies : List (List ℕ)) → All (HasHeader text header) parts
@@ -165,15 +165,24 @@ fault_of_one text parts (Unread path failure) one = one
 fault_of_one text parts Output one = tt
 fault_of_one text parts NoMemory one = tt
 
-pub fault_of_headers : {E : Type 0} (text : Texts) (parts : List PartCut) (header like : List ℕ) (first : PartCut) (fault : WriteFault E) → like ≡ header
-    → Contains parts first → HasHeader text header first → IsHeaderFault text parts like fault → IsWriteFault text parts fault
-fault_of_headers text parts header like first (OtherHeader path) same one has (odd, given, (is, (found, finds, differ))) =
-    let has_like = subst (λ (h : List ℕ). HasHeader text h first) (sym same) has in
-    ((odd, given, is), unlike text parts like first odd found one has_like given finds differ)
-fault_of_headers text parts header like first (OtherSize path) same one has fault = fault
-fault_of_headers text parts header like first (Unread path failure) same one has fault = fault
-fault_of_headers text parts header like first Output same one has fault = tt
-fault_of_headers text parts header like first NoMemory same one has fault = tt
+-- the first part's header is another one
+other_header : (text : Texts) (parts : List PartCut) (header found : List ℕ) (d : PartCut) → 0 < length parts → HasHeader text header (get_or parts 0 d) → found ≢ header
+    → IsOtherHeader text parts found
+other_header text [] header found d some has differ = omega (arith, some)
+other_header text (p ∷ ps) header found d some has differ = (header, has, differ)
+
+pub fault_of_headers : {E : Type 0} (text : Texts) (parts : List PartCut) (header like : List ℕ) (d : PartCut) (fault : WriteFault E) → like ≡ header
+    → 0 < length parts → HasHeader text header (get_or parts 0 d) → IsHeaderFault text parts like fault → IsWriteFault text parts fault
+fault_of_headers text parts header like d (OtherHeader path) same some has (odd, given, (is, (found, finds, differ))) =
+    let first = get_or parts 0 d in
+    let has_like = subst (λ (h : List ℕ). HasHeader text h first) (sym same) has in (
+      (odd, given, (is, (found, finds, other_header text parts like found d some has_like differ))),
+      unlike text parts like first odd found (Contains-get_or parts 0 d some) has_like given finds differ,
+    )
+fault_of_headers text parts header like d (OtherSize path) same some has fault = fault
+fault_of_headers text parts header like d (Unread path failure) same some has fault = fault
+fault_of_headers text parts header like d Output same some has fault = tt
+fault_of_headers text parts header like d NoMemory same some has fault = tt
 
 -- ---- The cut of the whole
 

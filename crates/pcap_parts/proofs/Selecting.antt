@@ -41,6 +41,14 @@ Takes-none j (q ∷ ps) taken k takes none = elim takes [
   | inr w ↦ Takes-none j ps taken k w.1 none
 ]
 
+-- the parts that are taken follow each other
+pub Takes-joins : (j : Joined) (ps taken : List PartCut) (k : Joined) → Takes j ps taken k → Joins j taken k
+Takes-joins j [] taken k takes = subst (λ (ts : List PartCut). Joins j ts k) (sym takes.0) takes.1
+Takes-joins j (q ∷ ps) taken k takes = elim takes [
+  | inl w ↦ let (others, is, first, more) = w in subst (λ (ts : List PartCut). Joins j ts k) (sym is) (first, Takes-joins (joined j q) ps others k more)
+  | inr w ↦ Takes-joins j ps taken k w.1
+]
+
 -- the same of the next one of all parts
 pub Takes-next-taken : (j : Joined) (parts taken : List PartCut) (k : Joined) (i : ℕ) (p : PartCut) → i < length parts
     → Takes j (take i parts) taken k → Fits k (get_or parts i p) → Takes j (take (i + 1) parts) (taken ++ get_or parts i p ∷ []) (joined k (get_or parts i p))

@@ -4,7 +4,7 @@ use Rattle.std.specs.Io.KnownBytes.{Appends, Consumes, IsAtEnd}
 use Rattle.pcap_parts.specs.declared.copy.CopyFault.{CopyFault}
 use Rattle.pcap_parts.specs.declared.copy.CopyFault.TheVariants.{Input, Size, Output}
 
--- a source gave a header of 24 bytes, and a body, to its end: so many bytes together; the sink took the body
+-- a source gave a header of 24 bytes, and a body, to its end: `count` bytes together; the sink took the body
 pub record Copies (left-old left-new taken-old taken-new : Option (List ℕ)) (count : ℕ) : Type 0 where
   pub header : List ℕ
   pub body : List ℕ
@@ -14,7 +14,7 @@ pub record Copies (left-old left-new taken-old taken-new : Option (List ℕ)) (c
   pub ended : IsAtEnd left-new
   pub taken : Appends taken-old taken-new body
 
--- a file has another number of bytes than that, or so many have no header among them
+-- a file has another number of bytes than that, or that is too few for a header
 abbrev pub IsOtherSize : ℕ → List ℕ → Type 0
 IsOtherSize count bytes = (count < 24) ⊎ (length bytes ≢ count)
 

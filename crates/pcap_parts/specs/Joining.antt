@@ -50,9 +50,9 @@ Joins j (p ∷ ps) k = Fits j p × Joins (joined j p) ps k
 abbrev pub IsWhole : Joined → Type 0
 IsWhole j = IsBad j.fault ⊎ (j.next ≡ j.size)
 
--- why a part does not follow
+-- why a part does not follow that is not passed over: no fault ended those before, and it does not begin inside them
 abbrev pub IsMisfit : Joined → PartCut → Misfit → Type 0
-IsMisfit j p (Missing at) = (at ≡ j.next) × (j.next < p.first)
-IsMisfit j p (OtherSize first) = (first ≡ p.first) × (p.size ≢ j.size)
-IsMisfit j p (CutOff first end) = (first ≡ p.first) × (end ≡ p.end) × (p.first ≡ j.next) × IsTorn p.fault × (p.end ≢ p.size)
-IsMisfit j p CountFull = 2 ^ 64 ≤ j.read + p.tally.read
+IsMisfit j p (Missing at) = (j.fault ≡ None) × (at ≡ j.next) × (j.next < p.first)
+IsMisfit j p (OtherSize first) = (j.fault ≡ None) × (first ≡ p.first) × (p.first ≡ j.next) × (p.size ≢ j.size)
+IsMisfit j p (CutOff first end) = (j.fault ≡ None) × (first ≡ p.first) × (end ≡ p.end) × (p.first ≡ j.next) × IsTorn p.fault × (p.end ≢ p.size)
+IsMisfit j p CountFull = (j.fault ≡ None) × (p.first ≡ j.next) × (2 ^ 64 ≤ j.read + p.tally.read)

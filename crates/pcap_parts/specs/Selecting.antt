@@ -18,7 +18,7 @@ Takes j [] taken k = (taken ≡ []) × (k ≡ j)
 Takes j (p ∷ ps) taken k =
     ((others : List PartCut) × (taken ≡ p ∷ others) × Fits j p × Takes (joined j p) ps others k) ⊎ (IsPassed j p × Takes j ps taken k)
 
--- Of these parts those are taken that follow each other from the header on: the whole capture, of so many bytes. There is one at least.
+-- Of these parts those are taken that follow each other from the header on: the whole capture, of `size` bytes. There is one at least.
 abbrev pub Selects : ℕ → (parts taken : List PartCut) → Joined → Type 0
 Selects size parts taken whole = Takes (begun size) parts taken whole × IsWhole whole × (taken ≢ [])
 

@@ -1,5 +1,5 @@
 -- What is written of the cuts of parts.
-use Rattle.std.specs.Prelude.{◌≡◌, ◌≢◌, ℕ, List, [], ◌++◌, length, Option, Some, All, ⊤}
+use Rattle.std.specs.Prelude.{◌≡◌, ◌≢◌, ℕ, List, [], ◌∷◌, ◌++◌, length, Option, Some, All, ⊤}
 use Rattle.std.specs.List.{AllZip, Contains, concat}
 use Rattle.std.specs.Io.KnownBytes.{Appends}
 use Rattle.bpfvm.specs.declared.insn.Insn.{Insn}
@@ -68,9 +68,18 @@ IsHeaderFault text parts header (OtherHeader path) =
     OneOf (λ part. (path.now ≡ part.file.now) × ((found : List ℕ) × HasHeader text found part × (found ≢ header))) parts
 IsHeaderFault text parts header other = OneOf (IsFileFault text other) parts
 
+-- this header is another one than that of the first part
+abbrev pub IsOtherHeader : Texts → List PartCut → List ℕ → Type 0
+IsOtherHeader text [] found = ⊥
+IsOtherHeader text (first ∷ others) found = (header : List ℕ) × HasHeader text header first × (found ≢ header)
+
+-- a part's file has another header than that of the first one
+abbrev pub IsOdd : Texts → List PartCut → PartCut → Type 0
+IsOdd text parts part = (found : List ℕ) × HasHeader text found part × IsOtherHeader text parts found
+
 -- why the cuts of parts are not written as one: not all have one header, the file of one is another one, the sink failed, or memory was refused
 abbrev pub IsWriteFault : {E : Type 0} → Texts → List PartCut → WriteFault E → Type 0
-IsWriteFault text parts (OtherHeader path) = OneOf (λ part. path.now ≡ part.file.now) parts × (HaveOneHeader text parts → ⊥)
+IsWriteFault text parts (OtherHeader path) = OneOf (λ part. (path.now ≡ part.file.now) × IsOdd text parts part) parts × (HaveOneHeader text parts → ⊥)
 IsWriteFault text parts Output = ⊤
 IsWriteFault text parts NoMemory = ⊤
 IsWriteFault text parts other = OneOf (IsFileFault text other) parts

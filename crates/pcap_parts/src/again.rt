@@ -46,8 +46,9 @@ fn next_after(part: &PartCut<'_>, size: u64) -> u64
     }
 }
 
-/// The stretches of a capture of so many bytes to cut again, in order, where one that begins at a record ends inside another one: a longer one in
-/// its place, and so for each further part that ends inside a record, as if what goes before were read clean then. Since each is longer by half,
+/// The stretches of a capture of `size` bytes to cut again, in order, if one that begins at a
+/// record ends inside another one: a longer one in its place, and so for each further part that
+/// ends inside a record, as if what goes before were read clean then. Since each is longer by half,
 /// all that is cut again from one place on is at most three times as long as the last of it.
 pub fn stretches_again(
     alloc: Global,

@@ -28,6 +28,8 @@ impl Sink for Nowhere {
     fn write(&mut self, from: &[u8]) -> Result<usize, Broken> {
         Ok(from.len())
     }
+
+    fn flush(&mut self) {}
 }
 
 /// Writes a text.
@@ -73,7 +75,7 @@ fn copy_piece<R: Source, W: Sink>(
     }
 }
 
-/// Copies so many bytes by way of `room`.
+/// Copies `count` bytes by way of `room`.
 pub fn copy_bytes<R: Source, W: Sink>(
     from: &mut R,
     count: u64,
@@ -100,7 +102,7 @@ pub fn copy_bytes<R: Source, W: Sink>(
     Ok(())
 }
 
-/// Copies what a file of so many bytes has after its header, to its end.
+/// Copies what a file of `count` bytes has after its header, to its end.
 pub fn copy_after_header<R: Source, W: Sink>(
     from: &mut R,
     count: u64,

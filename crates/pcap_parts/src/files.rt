@@ -6,7 +6,8 @@ use savefile::Source;
 
 /// The files that the cuts of parts were written to.
 ///
-/// Contracts know their bytes if [`known`](PartFiles) holds: those in memory, and not those of the system.
+/// Contracts know their bytes if [`known`](PartFiles) holds: those in memory, and not those of the
+/// system.
 pub trait PartFiles {
     /// A file that is open.
     type File: Source + Drop;

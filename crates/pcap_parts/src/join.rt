@@ -18,7 +18,8 @@ pub enum Misfit {
     Missing(u64),
     /// The part that begins at this byte is one of a capture of another size.
     OtherSize(u64),
-    /// The part between these bytes ends inside a record, and the capture goes on: where the part ends was guessed wrong.
+    /// The part between these bytes ends inside a record, and the capture goes on: where the part
+    /// ends was guessed wrong.
     CutOff(u64, u64),
     /// There are 2^64 packets or more.
     CountFull,
@@ -60,7 +61,7 @@ fn fault_at(fault: Option<Fault>, place: u64) -> Option<Fault>
 }
 
 impl Joined {
-    /// Of no part yet, of a capture of so many bytes.
+    /// Of no part yet, of a capture of `size` bytes.
     pub fn new(size: u64) -> Joined
         ensures { result ≡ begun size }
     {
@@ -72,8 +73,9 @@ impl Joined {
         }
     }
 
-    /// Adds the part that begins where the ones before end, and returns whether it was added: one that begins earlier is passed over, and so is
-    /// each one after a fault. A bad record lies whole in its part, so it ends the capture; a torn one does only at the end of the capture.
+    /// Adds the part that begins where the ones before end, and returns whether it was added: one
+    /// that begins earlier is passed over, and so is each one after a fault. A bad record lies
+    /// whole in its part, so it ends the capture; a torn one does only at the end of the capture.
     pub fn add(&mut self, part: &PartCut<'_>) -> Result<bool, Misfit>
         ensures added { result ≡ Ok true → Fits self.old part.now × (self.new ≡ joined self.old part.now) }
         ensures passed { result ≡ Ok false → (self.new ≡ self.old) × ((self.old.fault ≢ None) ⊎ (part.now.first < self.old.next)) }
@@ -103,7 +105,8 @@ impl Joined {
         Ok(true)
     }
 
-    /// Whether these parts are the whole capture: they end where it does, or a bad record ends it before.
+    /// Whether these parts are the whole capture: they end where it does, or a bad record ends it
+    /// before.
     pub fn finish(&self) -> Result<(), Misfit>
         ensures whole { OnOk result (IsWhole self.now) }
         ensures missing { IfErr result (λ misfit. (misfit ≡ Misfit.Missing self.now.next) × (IsWhole self.now → ⊥)) }

@@ -20,14 +20,16 @@ pub struct PartCut<'a> {
     pub tally: Tally,
     /// How many bytes were written, the header among them.
     pub sent: u64,
-    /// Why the part has no further packet, if it does not end clean. The place counts the records of the part.
+    /// Why the part has no further packet, if it does not end clean. The place counts the records
+    /// of the part.
     pub fault: Option<Fault>,
     /// The path of the file that was written.
     pub file: &'a str,
 }
 
 impl<'a> PartCut<'a> {
-    /// What a cut of a part came to; `None` if the part was not read to its end or to a torn or bad record, or not all was written.
+    /// What a cut of a part came to; `None` if the part was not read to its end or to a torn or bad
+    /// record, or not all was written.
     pub fn of<R, W>(
         first: u64,
         end: u64,

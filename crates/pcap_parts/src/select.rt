@@ -41,11 +41,13 @@ impl<T: Drop> From<AllocFailed<T>> for SelectionFault {
     }
 }
 
-/// Selects the parts that make a whole capture of so many bytes, of parts in the order of where they begin; of those that begin at one byte the
-/// first is taken. A part that begins inside a part that is taken is passed over, and so is all after a bad record.
+/// Selects the parts that make a whole capture of `size` bytes, of parts in the order of where they
+/// begin; of those that begin at one byte the first is taken. A part that begins inside a part that
+/// is taken is passed over, and so is all after a bad record.
 ///
-/// The error is that of the first part that does not follow: [`Misfit::Missing`] if none begins where the ones before end, also at the end;
-/// [`Misfit::OtherSize`]; [`Misfit::CutOff`] if it ends inside a record and the capture goes on; or [`Misfit::CountFull`]. It is `NoMemory` if memory
+/// The error is that of the first part that does not follow: [`Misfit::Missing`] if none begins
+/// where the ones before end, also at the end; [`Misfit::OtherSize`]; [`Misfit::CutOff`] if it ends
+/// inside a record and the capture goes on; or [`Misfit::CountFull`]. It is `NoMemory` if memory
 /// was refused.
 pub fn select_parts<'a>(
     alloc: Global,
@@ -54,7 +56,8 @@ pub fn select_parts<'a>(
 ) -> Result<Selection<'a>, SelectionFault>
     // They are among these parts.
     ensures given { IfOk result (λ selection. All (Contains parts.now) selection.parts.items) }
-    // From the header on each part begins where the one before ends, and each but the last is read clean.
+    // From the header on each part begins where the one before ends, and each but the last is read
+    // clean.
     ensures joins { IfOk result (λ selection. Joins (begun size) selection.parts.items selection.whole) }
     // All that follow are taken, up to the end of the capture or to a bad record; there is one.
     ensures selects { IfOk result (λ selection. Selects size parts.now selection.parts.items selection.whole) }

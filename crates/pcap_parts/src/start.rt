@@ -13,8 +13,9 @@ const MAX_CHAIN: usize = 1024;
 /// How many seconds lie at most between two packets that follow each other.
 const DAY: u32 = 86_400;
 
-/// Whether a record looks like that of a packet which was captured after one of this time: bytes of it were captured, no more than it had on the
-/// wire, and none is longer than the greatest snapshot length. Where packets are zeros their bytes are records of no bytes.
+/// Whether a record looks like that of a packet which was captured after one of this time: bytes of
+/// it were captured, no more than it had on the wire, and none is longer than the greatest snapshot
+/// length. If packets are zeros their bytes are records of no bytes.
 fn is_plausible(packet: &PacketRef<'_>, before: Option<u32>) -> bool {
     let is_near = match before {
         Some(sec) => packet.sec.abs_diff(sec) <= DAY,
@@ -24,8 +25,8 @@ fn is_plausible(packet: &PacketRef<'_>, before: Option<u32>) -> bool {
     is_near && packet.len <= MAX_SNAP && captured > 0 && captured <= packet.len as usize
 }
 
-/// Whether plausible records follow each other from the front of a text on, up to its end: eight or more. A packet that carries records breaks
-/// such a chain where it ends.
+/// Whether plausible records follow each other from the front of a text on, up to its end: eight or
+/// more. A packet that carries records breaks such a chain where it ends.
 fn begins_chain(header: Header, text: &[u8]) -> bool {
     let mut rest = text;
     let mut before = None;
@@ -44,8 +45,9 @@ fn begins_chain(header: Header, text: &[u8]) -> bool {
     true
 }
 
-/// How far from the front of a text a record seems to begin: the first place, in the front half, from which on eight whole records or more, up to the
-/// end of the text, follow each other that look like those of packets. A guess: no promise rests on it.
+/// How far from the front of a text a record seems to begin: the first place, in the front half,
+/// from which on eight whole records or more, up to the end of the text, follow each other that
+/// look like those of packets. A guess: no promise rests on it.
 pub fn record_start(header: Header, text: &[u8]) -> Option<usize>
     ensures { IfSome result (λ at. at < length text.now) }
 {

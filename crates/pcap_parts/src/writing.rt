@@ -123,8 +123,9 @@ fn append_parts<'p, F: PartFiles, W: Sink>(
     Ok(())
 }
 
-/// Writes the cuts of parts as one: the header that all have, and then the packets of each part, in this order. The sizes are those that the lines of
-/// the parts say. Nothing is written before the headers of all files were compared.
+/// Writes the cuts of parts as one: the header that all have, and then the packets of each part, in
+/// this order. The sizes are those that the lines of the parts say. Nothing is written before the
+/// headers of all files were compared.
 pub fn write_parts<'p, F: PartFiles, W: Sink>(
     alloc: Global,
     files: &F,

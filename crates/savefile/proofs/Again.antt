@@ -19,7 +19,7 @@ reads_back : (order : Order) (n x : ℕ) (rest : List ℕ) → x < 256 ^ n → n
 reads_back Little n x rest h = little_number-reads_back n x rest h
 reads_back Big n x rest h = big_number-reads_back n x rest h
 
--- a number that stands behind a front
+-- a number that comes after a front
 field_again : (order : Order) (n x k : ℕ) (front tail text : List ℕ) → text ≡ front ++ (bytes_in order n x ++ tail) → length front ≡ k → x < 256 ^ n → field order text k n ≡ x
 field_again order n x k front tail text e len lt =
     let there : drop k text ≡ bytes_in order n x ++ tail = ap (drop k) e ∙ drop_at front (bytes_in order n x ++ tail) k len in
@@ -90,7 +90,7 @@ record_again order unit p rest w =
     } in
     subst (λ (q : Packet). IsRecord order unit text q rest) (in_units-packet unit p) r
 
--- records are read again, one behind the other
+-- records are read again, one after the other
 records_again : (order : Order) (unit : TimeUnit) (ps : List Packet) (rest : List ℕ) → AllByRecursion IsWritable ps
     → AreRecords order unit (flat_map (record_text order unit) ps ++ rest) (map (in_units unit) ps) rest
 records_again order unit [] rest w = refl

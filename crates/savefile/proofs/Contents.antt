@@ -43,7 +43,7 @@ renamed text order order' unit unit' snap snap' qs rest e s =
     (subst (λ (x : TimeUnit). IsSavefile text order' x snap qs rest) (sym e.unit_is)
     (subst (λ (x : ℕ). IsSavefile text order' unit' x qs rest) (sym e.snap_is) s))
 
--- a text is read in one way as so many packets
+-- a text is read in one way as this many packets
 pub one_reading : (text : List ℕ) (order order' : Order) (unit unit' : TimeUnit) (snap snap' : ℕ) (ps qs : List Packet) (rest rest' : List ℕ)
     → IsText text → IsSavefile text order unit snap ps rest → IsSavefile text order' unit' snap' qs rest' → length ps ≡ length qs
     → (order ≡ order') × (unit ≡ unit') × (snap ≡ snap') × (ps ≡ qs) × (rest ≡ rest')

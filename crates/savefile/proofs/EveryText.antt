@@ -48,7 +48,7 @@ HasHeader text = (order : Order) × (unit : TimeUnit) × IsHeader order text uni
 abbrev IsRefused : List ℕ → Type 0
 IsRefused text = (fault : Fault) × RefusesHeader text fault
 
--- behind a magic number there is a header, or a fault
+-- after a magic number there is a header, or a fault
 behind_magic : (text : List ℕ) (order : Order) (unit : TimeUnit) → 24 ≤ length text → HasMagic text order unit → IsRefused text ⊎ HasHeader text
 behind_magic text order unit size magic = elim (cases_eq (field order text 4 2) 2) [
   | inr wrong ↦ inl (Version, (size, order, unit, magic, λ version. wrong version.0))
@@ -89,7 +89,7 @@ all_records order unit (suc n) text le = elim (record_or_fault order unit 0 text
   ]
 ]
 
--- behind a header there is what the savefile holds
+-- after a header there is what the savefile holds
 held : (text : List ℕ) (order : Order) (unit : TimeUnit) (snap : ℕ) → IsHeader order text unit snap
     → (packets : List Packet) × (end : Option Fault) × Holds text order unit snap packets end
 held text order unit snap header =

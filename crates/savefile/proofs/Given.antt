@@ -37,7 +37,7 @@ at_end : (left : Option (List ℕ)) → IsAtEnd left → IfSome left (λ bytes. 
 at_end None e = tt
 at_end (Some bytes) e = e
 
--- a savefile of these packets, and behind it no record
+-- a savefile of these packets, and after it no record
 holds_before : (text rest : List ℕ) (h : Header) (ps : List Packet) (fault : Option Fault) → IsSavefile text h.order h.unit h.snap ps []
     → NoRecord h.order h.unit rest → fault ≡ first_fault h.order h.unit (length ps) rest → Holds (text ++ rest) h.order h.unit h.snap ps fault
 holds_before text rest h ps fault s none ends =
@@ -67,7 +67,7 @@ gives_packet left start h ps a b g same counts ended failed passes =
       goes_on = (ended ∙ g.goes_on.0, failed ∙ g.goes_on.1);
     }
 
--- all packets, and nothing behind them, where the source is this one and these bytes wait
+-- all packets, and nothing after them, where the source is this one and these bytes wait
 pub gives_all : {R : Type 0} (left : R → Option (List ℕ)) (start : Option (List ℕ)) (h : Header) (ps : List Packet) (a : Reading R) (source : R) (waiting : List ℕ)
     → HasGiven left start h ps a → ((more : List ℕ) × (waiting ≡ a.ahead ++ more) × Consumes (left a.source) (left source) more) × (waiting ≡ []) × IsAtEnd (left source)
     → WasRead start h ps None
@@ -136,12 +136,12 @@ passed_first (Some s) (Some l) more text waiting p e = p ∙ ap (λ (t : List �
 
 -- ---- What the whole text holds
 
--- a source's text, where it tells
+-- a source's text, if it is known
 left_told : (left : Option (List ℕ)) → IfSome left (λ bytes. bytes ≡ unwrap_or left [])
 left_told None = tt
 left_told (Some bytes) = refl
 
--- records, and records behind them
+-- records, and records after them
 AreRecords-append : (order : Order) (unit : TimeUnit) (text mid rest : List ℕ) (ps qs : List Packet) → AreRecords order unit text ps mid → AreRecords order unit mid qs rest → AreRecords order unit text (ps ++ qs) rest
 AreRecords-append order unit text mid rest [] qs e f = subst (λ (t : List ℕ). AreRecords order unit t qs rest) (sym e) f
 AreRecords-append order unit text mid rest (p ∷ ps) qs e f = (e.0, e.1, AreRecords-append order unit e.0 mid rest ps qs e.2 f)

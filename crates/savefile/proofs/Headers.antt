@@ -99,7 +99,7 @@ one_fault text Version other fits r s = sym (only_version text other r.1 r.2 fit
 one_fault text LinkType other fits r s = sym (only_link_type text other r.1 r.2 fits r.0 r.3 r.4 s)
 one_fault text _ other fits r s = absurd r
 
--- ---- What the checks tell
+-- ---- What the checks show
 
 -- a text with a magic number is refused
 pub refuses_by : (text : List ℕ) (order : Order) (unit : TimeUnit) (fault : Fault) → 24 ≤ length text → HasMagic text order unit

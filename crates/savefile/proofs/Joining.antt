@@ -1,5 +1,5 @@
--- Records behind records, and behind a savefile that ends clean.
-use Rattle.std.proofs.Common.{◌≡◌, ℕ, List, [], ◌∷◌, ◌++◌, drop, sym, ap, subst}
+-- Records after records, and after a savefile that ends clean.
+use Rattle.std.proofs.Common.{ℕ, List, [], ◌∷◌, ◌++◌, drop, sym, subst}
 use Rattle.std.proofs.lemmas.List.{drop-append-le}
 use Rattle.savefile.specs.declared.header.Order.{Order}
 use Rattle.savefile.specs.declared.header.Unit.{Unit as TimeUnit}

@@ -79,7 +79,7 @@ which_fault false false false true cut place fault e = inr (inr cc)
 which_fault false false false false true place fault e = inl cc
 which_fault false false false false false place fault e = absurd cc
 
--- a fault that a record meets tells of no earlier fault, and of no count
+-- a fault that a record meets is neither `Failed` nor `CountFull`
 pub met_neither : {R : Type 0} (left : R → Option (List ℕ)) (header : Header) (place : ℕ) (old new : Ahead R) (fault : Fault) → MeetsFault left header place old new fault
     → (fault ≡ Failed → ⊥) × (fault ≡ CountFull → ⊥)
 met_neither left header place old new fault (grows, inl broke) =
@@ -184,7 +184,7 @@ torn_stands order unit place text h r short =
     let torn : nat_lt (length text) (16 + captured order text) ≡ true = lt-ltb (length text) (16 + captured order text) (subst (λ (n : ℕ). length text < 16 + n) (sym many) short) in
     rw (some, header, below, fits, torn) refl
 
--- and nothing is left behind it
+-- and nothing is left after it
 pub torn_rest : (order : Order) (unit : TimeUnit) (place : ℕ) (text : List ℕ) (left : Option (List ℕ)) (want : ℕ) → (want ≤ length text) ⊎ IsAtEnd left → length text < want
     → first_fault order unit place text ≡ Some (TornRecord place) → (rest : List ℕ) × IfSome left (λ bytes. bytes ≡ rest) × (first_fault order unit place (text ++ rest) ≡ Some (TornRecord place))
 torn_rest order unit place text left want enough short torn =

@@ -16,8 +16,9 @@ pub(crate) const MAX_AHEAD: usize = RECORD_HEADER_LEN + MAX_SNAP as usize;
 /// How many bytes the memory has: room for the longest record, and for large reads.
 const MEMORY: usize = 1 << 19;
 
-/// A source, and memory that is taken once, into which it is read in large pieces. `memory[start..end]` was read and
-/// is still to be passed, and `memory[start - lent..start]` is lent until the source is read again.
+/// A source, and memory that is taken once, into which it is read in large pieces.
+/// `memory[start..end]` was read and is still to be passed, and `memory[start - lent..start]` is
+/// lent until the source is read again.
 #[derive(Drop)]
 pub(crate) struct Ahead<R> {
     source: R,
@@ -154,7 +155,8 @@ impl<R: Source> Ahead<R> {
         }
     }
 
-    /// Moves the waiting bytes to the front, reads once after them, and returns how many bytes came.
+    /// Moves the waiting bytes to the front, reads once after them, and returns how many bytes
+    /// came.
     fn read_more(&mut self) -> Result<usize, Broken>
         ensures grows { Grows R.left self.old self.new }
         ensures count { IfOk result (λ n. self.new.end - self.new.start ≡ self.old.end - self.old.start + n) }

@@ -1,6 +1,6 @@
 //! What a savefile is read from and written to.
 
-ghost use Rattle.std.specs.Prelude.{◌≡◌, ℕ, List, [], Option, None, Some, ◌<◌, ◌≤◌, length, IfOk};
+ghost use Rattle.std.specs.Prelude.{◌≡◌, ℕ, List, [], Bool, false, Option, None, Some, ◌<◌, ◌≤◌, length, IfOk};
 ghost use Rattle.std.specs.Io.KnownBytes.{Keeps, ReadConsumes, WriteAppends};
 ghost use Rattle.savefile.specs.Device.{CountsFailure};
 
@@ -18,9 +18,9 @@ pub trait Source {
     /// How often it failed so far, modulo 2^64.
     ghost failures: { Self → ℕ };
 
-    /// Reads the next bytes into the front of a slice, and answers how many. Into a slice that is not
-    /// empty, 0 is the end of input. [`Broken`] comes if the device failed: no byte was moved, and
-    /// the failures grew by one.
+    /// Reads the next bytes into the front of a slice, and answers how many. Into a slice that is
+    /// not empty, 0 is the end of input. [`Broken`] comes if the device failed: no byte was moved,
+    /// and the failures grew by one.
     fn read(&mut self, to: &mut [u8]) -> Result<usize, Broken>
         ensures count { IfOk result (λ n. n ≤ length to.new) }
         ensures bytes { ReadConsumes (left self.old) (left self.new) result to.new }
@@ -38,6 +38,10 @@ pub trait Sink {
     /// How often it failed so far, modulo 2^64.
     ghost failures: { Self → ℕ };
 
+    /// Whether bytes may wait in it that it took since it was last asked to hand on. In a sink that
+    /// gathers none they never do.
+    ghost waits: { Self → Bool } = { λ _. false };
+
     /// Takes bytes from the front of a slice, at least one if there is one, and answers how many.
     /// [`Broken`] comes if the device failed: no byte was moved, and the failures grew by one.
     fn write(&mut self, from: &[u8]) -> Result<usize, Broken>
@@ -47,14 +51,14 @@ pub trait Sink {
         ensures named { name self.new ≡ name self.old }
         ensures failures { CountsFailure (failures self.old) (failures self.new) result };
 
-    /// Hands on what a sink that gathers has gathered; another sink does nothing. What can't be handed on stays
-    /// gathered, and no failure is reported here: whoever empties the sink at the end finds it.
-    #[tactic(auto, using(crate::proofs::Gathering::keeps_itself))]
+    /// Asks the sink to hand on what it has gathered; one that gathers none does nothing. What
+    /// can't be handed on stays gathered, and no failure is reported here: whoever empties the sink
+    /// at the end finds it.
     fn flush(&mut self)
         ensures bytes { Keeps (taken self.old) (taken self.new) }
         ensures failures { failures self.new ≡ failures self.old }
         ensures named { name self.new ≡ name self.old }
-    {}
+        ensures handed_on { waits self.new ≡ false };
 }
 
 /// Bytes in memory, which never fail.
@@ -73,13 +77,16 @@ impl Source for &[u8] {
 
 /// Makes a [`Source`] of any [`Read`] and a [`Sink`] of any [`Write`], and counts the failures.
 ///
-/// Contracts know its bytes if they know those of `T`: over memory, and not over a file. An error, and a
-/// write of no byte of a slice that is not empty, are [`Broken`]. No call is tried again. An error of a flush is not reported.
+/// Contracts know its bytes if they know those of `T`: over memory, and not over a file. An error,
+/// and a write of no byte of a slice that is not empty, are [`Broken`]. No call is tried again. An
+/// error of a flush is not reported.
 #[derive(Debug, Drop)]
 pub struct Counted<T> {
     pub inner: T,
     /// How often a call answered [`Broken`], modulo 2^64.
     pub failures: u64,
+    /// Whether it took bytes since it was last asked to hand on.
+    pub waits: bool,
 }
 
 impl<T> Counted<T> {
@@ -88,15 +95,18 @@ impl<T> Counted<T> {
         ensures inner { result.inner ≡ inner }
         ensures failures { result.failures ≡ 0 }
     {
-        Counted { inner, failures: 0 }
+        Counted {
+            inner,
+            failures: 0,
+            waits: false,
+        }
     }
 
     /// Gives back what is inside.
     pub fn into_inner(self) -> T
         ensures { result ≡ self.inner }
     {
-        let Counted { inner, failures: _ } = self;
-        inner
+        self.inner
     }
 }
 
@@ -121,7 +131,10 @@ impl<T: Write> Sink for Counted<T> {
 
     ghost failures = { λ s. s.failures };
 
+    ghost waits = { λ s. s.waits };
+
     fn write(&mut self, from: &[u8]) -> Result<usize, Broken> {
+        self.waits = true;
         match self.inner.write(from) {
             Ok(n) if n > 0 || from.is_empty() => Ok(n),
             _ => {
@@ -133,5 +146,6 @@ impl<T: Write> Sink for Counted<T> {
 
     fn flush(&mut self) {
         let _ = self.inner.flush();
+        self.waits = false;
     }
 }

@@ -10,8 +10,8 @@ use std::fmt;
 use std::fmt::{Display, Formatter};
 use thiserror::Error;
 
-/// Why a savefile could not be read or written. It prints as its name, and then its place if it has one: the number of a
-/// record, counted from 0.
+/// Why a savefile could not be read or written. It prints as its name, and then its place if it has
+/// one: the number of a record, counted from 0.
 #[derive(Clone, Copy, Debug, PartialEq, Eq, Error)]
 pub enum Fault {
     /// The text has fewer than the 24 bytes of a file header.
@@ -33,11 +33,11 @@ pub enum Fault {
     NoMemory,
     /// The device failed in this very call.
     Device,
-    /// An earlier call ended the reading or writing: a device failed, or, in a reader, a record was torn or bad or
-    /// memory ran out. Nothing was done.
+    /// An earlier call ended the reading or writing: a device failed, or, in a reader, a record was
+    /// torn or bad or memory ran out. Nothing was done.
     Failed,
-    /// A count is full: a reader has given 2^64 - 1 packets, or what a writer sent would pass 2^64 - 1 bytes; nothing
-    /// was done.
+    /// A count is full: a reader has given 2^64 - 1 packets, or what a writer sent would pass
+    /// 2^64 - 1 bytes; nothing was done.
     CountFull,
 }
 

@@ -136,8 +136,9 @@ fn snap_of(order: Order, text: &[u8]) -> Result<u32, Fault>
 
 /// The header of the savefile that a text begins with, whatever follows it.
 ///
-/// The error is [`Fault::ShortHeader`], [`Fault::NotSavefile`], [`Fault::Version`] or [`Fault::LinkType`], if and only if that
-/// is the first check of the header to fail. No memory is taken.
+/// The error is [`Fault::ShortHeader`], [`Fault::NotSavefile`], [`Fault::Version`] or
+/// [`Fault::LinkType`], if and only if that is the first check of the header to fail. No memory is
+/// taken.
 pub fn header_of(text: &[u8]) -> Result<Header, Fault>
     ensures ok { IfOk result (λ header. IsHeader header.order text.now header.unit header.snap) }
     ensures err { IfErr result (RefusesHeader text.now) }

@@ -5,7 +5,8 @@ ghost use Rattle.savefile.specs.Laws.{ReadsInOneWay, HoldsOneList, RefusesForOne
 use crate::device::Source;
 use crate::reader::Reader;
 
-/// A text is a savefile in one way: two readings of it with equally many packets have the same header, packets and rest.
+/// A text is a savefile in one way: two readings of it with equally many packets have the same
+/// header, packets and rest.
 pub fn one_reading()
     ensures { ReadsInOneWay }
 {}
@@ -37,8 +38,8 @@ pub fn round_trip()
     ensures { ReadsAgain }
 {}
 
-/// The written text grows with its list. What begins the text of some packets begins the text of more; and one packet
-/// more adds 16 bytes and its own.
+/// The written text grows with its list. What begins the text of some packets begins the text of
+/// more; and one packet more adds 16 bytes and its own.
 pub fn growing_text()
     ensures begins { BeginsMore }
     ensures adds { AddsARecord }
@@ -50,12 +51,14 @@ pub fn packets_take_room()
     ensures written { WrittenTakesRoom }
 {}
 
-/// A capture that ends clean, and records after it, is the capture of both: where one part ends clean, the next one begins at a record.
+/// A capture that ends clean, and records after it, is the capture of both: where one part ends
+/// clean, the next one begins at a record.
 pub fn joined_parts()
     ensures { JoinsParts }
 {}
 
-/// What a reader has given so far begins what the text holds that its source had left, whatever comes.
+/// What a reader has given so far begins what the text holds that its source had left, whatever
+/// comes.
 pub fn given_so_far<R: Source>(_reader: &Reader<R>)
     ensures { GivesABeginning R.left _reader.now }
 {}

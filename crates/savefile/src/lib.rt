@@ -4,15 +4,17 @@
 //! that were captured. Both byte orders and both units of time are read and written. Inside this
 //! crate a time is seconds and nanoseconds.
 //!
-//! Some of what is read is this project's own profile and not in pcap-savefile(5). Only version 2.4 and
-//! link type 1, Ethernet, are read, and a link type with further bits set is refused. A fraction that
-//! makes a second or more ends the packets. So does a captured length above 262,144 bytes, whatever the snapshot
-//! length. The reserved fields and the snapshot length are never a reason to refuse. A record may have more bytes
-//! than the snapshot length or than the packet's original length. What is written has zeros in the reserved fields.
+//! Some of what is read is this project's own profile and not in pcap-savefile(5). Only version 2.4
+//! and link type 1, Ethernet, are read, and a link type with further bits set is refused. A
+//! fraction that makes a second or more ends the packets. So does a captured length above 262,144
+//! bytes, whatever the snapshot length. The reserved fields and the snapshot length are never a
+//! reason to refuse. A record may have more bytes than the snapshot length or than the packet's
+//! original length. What is written has zeros in the reserved fields.
 //!
-//! [`Reader`] reads a savefile packet by packet from a [`Source`], and lends each packet without a copy. [`read_all`] reads a whole one from memory. [`Writer`] writes one packet by packet into a [`Sink`].
-//! [`header_of`] and [`record_of`] read one piece from memory, and [`file_header`] and [`record_header`] make one.
-//! [`laws`] has what follows from the definitions.
+//! [`Reader`] reads a savefile packet by packet from a [`Source`], and lends each packet without a
+//! copy. [`read_all`] reads a whole one from memory. [`Writer`] writes one packet by packet into a
+//! [`Sink`]. [`header_of`] and [`record_of`] read one piece from memory, and [`file_header`] and
+//! [`record_header`] make one. [`laws`] has what follows from the definitions.
 #![tactic(auto)]
 
 mod ahead;

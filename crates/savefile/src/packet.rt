@@ -56,8 +56,8 @@ pub struct Packet {
     pub bytes: Data,
 }
 
-/// A packet whose bytes lie elsewhere, as in the memory of a reader: what a `&str` is to a `String`. A contract sees it
-/// as the packet that an owned one of these parts is.
+/// A packet whose bytes lie elsewhere, as in the memory of a reader: what a `&str` is to a
+/// `String`. A contract sees it as the packet that an owned one of these parts is.
 #[derive(Debug, Drop)]
 pub struct PacketRef<'a> {
     /// When it was captured: whole seconds since 1970.

@@ -27,18 +27,21 @@ enum State {
     Broken,
 }
 
-/// Reads a savefile from a source, packet by packet. It takes its memory in [`Reader::open`], however long the savefile is; no clause
-/// says so.
+/// Reads a savefile from a source, packet by packet. It takes its memory in [`Reader::open`],
+/// however long the savefile is; no clause says so.
 ///
-/// A packet comes in one of two ways. [`Reader::advance`] goes on to the next one, which [`Reader::packet`] then lends
-/// out of the reader's own memory, without a copy. [`Reader::next`] gives a copy of its own.
+/// A packet comes in one of two ways. [`Reader::advance`] goes on to the next one, which
+/// [`Reader::packet`] then lends out of the reader's own memory, without a copy. [`Reader::next`]
+/// gives a copy of its own.
 ///
-/// It reads what [`read_all`](crate::read_all) reads, in whatever pieces the source gives its bytes. It asks the source
-/// only if the next record is not whole in what it has taken already, and then for as many bytes as it has room for; no
-/// clause says how many. So a fault, the source's too, comes after all packets that came whole.
+/// It reads what [`read_all`](crate::read_all) reads, in whatever pieces the source gives its
+/// bytes. It asks the source only if the next record is not whole in what it has taken already, and
+/// then for as many bytes as it has room for; no clause says how many. So a fault, the source's
+/// too, comes after all packets that came whole.
 ///
-/// Contracts see its source, the header of its savefile, how many packets it has given, the one that it lends, the bytes
-/// that it took from the source ahead of the packets to come, whether it has ended, and whether it has failed.
+/// Contracts see its source, the header of its savefile, how many packets it has given, the one
+/// that it lends, the bytes that it took from the source ahead of the packets to come, whether it
+/// has ended, and whether it has failed.
 #[derive(Debug, Drop)]
 pub struct Reader<R> {
     ahead: Ahead<R>,
@@ -74,7 +77,8 @@ fn read_header<R: Source>(ahead: &mut Ahead<R>) -> Result<Header, Fault>
     Ok(header)
 }
 
-/// Passes the record that comes next, at this place, whose bytes are then lent; `false` if nothing is left.
+/// Passes the record that comes next, at this place, whose bytes are then lent; `false` if nothing
+/// is left.
 #[inline(always)]
 fn read_record<R: Source>(
     ahead: &mut Ahead<R>,
@@ -106,7 +110,8 @@ fn read_record<R: Source>(
     Ok(true)
 }
 
-/// Passes the record that comes next, if it is whole and a good one in what waits; its bytes are then lent.
+/// Passes the record that comes next, if it is whole and a good one in what waits; its bytes are
+/// then lent.
 #[inline(always)]
 fn pass_record<R: Source>(
     ahead: &mut Ahead<R>,
@@ -137,10 +142,11 @@ fn pass_record<R: Source>(
 impl<R: Source> Reader<R> {
     /// Reads the header of a savefile.
     ///
-    /// The error is [`Fault::ShortHeader`], [`Fault::NotSavefile`], [`Fault::Version`] or [`Fault::LinkType`] if
-    /// that is the first check of the header to fail; [`Fault::Device`] if and only if the source failed in this call;
-    /// or [`Fault::NoMemory`], and then the source was not read. The source comes back with it; bytes that were read
-    /// are lost, and after [`Fault::Device`] these are fewer than the header's 24.
+    /// The error is [`Fault::ShortHeader`], [`Fault::NotSavefile`], [`Fault::Version`] or
+    /// [`Fault::LinkType`] if that is the first check of the header to fail; [`Fault::Device`] if
+    /// and only if the source failed in this call; or [`Fault::NoMemory`], and then the source was
+    /// not read. The source comes back with it; bytes that were read are lost, and after
+    /// [`Fault::Device`] these are fewer than the header's 24.
     pub fn open(alloc: Global, source: R) -> Result<Reader<R>, (R, Fault)>
         // The reader has given nothing yet.
         ensures ok { IfOk result (λ reader. HasGiven R.left (R.left source) reader.header [] reader) }
@@ -150,7 +156,8 @@ impl<R: Source> Reader<R> {
         ensures device { MatchResult result (λ reader. R.failures reader.source ≡ R.failures source)
             (λ back. (back.1 ≡ Fault.Device) ↔ (R.failures back.0 ≢ R.failures source)) }
 
-        // The next bytes of the source are taken: none without memory, and no whole header if the source failed.
+        // The next bytes of the source are taken: none without memory, and no whole header if the
+        // source failed.
         ensures unread { IfErr result (λ back. back.1 ≡ Fault.NoMemory → back.0 ≡ source) }
         ensures taken { MatchResult result
             (λ reader. (bytes : List ℕ) × Consumes (R.left source) (R.left reader.source) bytes)
@@ -179,17 +186,19 @@ impl<R: Source> Reader<R> {
         self.header
     }
 
-    /// Goes on to the next packet, which [`Reader::packet`] then lends. `false` is the clean end, and repeats.
+    /// Goes on to the next packet, which [`Reader::packet`] then lends. `false` is the clean end,
+    /// and repeats.
     ///
-    /// A torn or bad record ends the packets: [`Fault::TornRecord`], [`Fault::BadFraction`] or [`Fault::TooLong`], with
-    /// its place, comes after all packets before it. [`Fault::Device`] comes if and only if the source failed in this
-    /// call, and after all packets that came whole in what was taken from the source. After each of these every call
-    /// returns [`Fault::Failed`], which comes nowhere else, and reads nothing. [`Fault::CountFull`] comes if and only if
+    /// A torn or bad record ends the packets: [`Fault::TornRecord`], [`Fault::BadFraction`] or
+    /// [`Fault::TooLong`], with its place, comes after all packets before it. [`Fault::Device`]
+    /// comes if and only if the source failed in this call, and after all packets that came whole
+    /// in what was taken from the source. After each of these every call returns [`Fault::Failed`],
+    /// which comes nowhere else, and reads nothing. [`Fault::CountFull`] comes if and only if
     /// 2^64 - 1 packets were given; it reads nothing, and repeats. No memory is taken.
     #[inline(always)]
     pub fn advance(&mut self) -> Result<bool, Fault>
-        // One packet more, the end, or why there is none. What was given so far begins what the text holds, whatever
-        // comes. Each packet may be written.
+        // One packet more, the end, or why there is none. What was given so far begins what the
+        // text holds, whatever comes. Each packet may be written.
         ensures packet { (start : Option (List ℕ)) (header : Header) (packets : List Packet) → HasGiven R.left start header packets self.old →
             result ≡ Ok true → HasGiven R.left start header (packets ++ self.new.lent ∷ []) self.new }
         ensures end { (start : Option (List ℕ)) (header : Header) (packets : List Packet) → HasGiven R.left start header packets self.old →
@@ -208,7 +217,8 @@ impl<R: Source> Reader<R> {
         ensures leaves { Leaves self.old self.new result }
         ensures header { self.new.header ≡ self.old.header }
 
-        // The next bytes of the source are taken, and none if the next record was taken whole already.
+        // The next bytes of the source are taken, and none if the next record was taken whole
+        // already.
         ensures taken { (bytes : List ℕ) × Consumes (R.left self.old.source) (R.left self.new.source) bytes }
         ensures idle { (p : Packet) (after : List ℕ) →
             IsRecord self.old.header.order self.old.header.unit self.old.ahead p after →
@@ -238,9 +248,11 @@ impl<R: Source> Reader<R> {
         }
     }
 
-    /// Goes on to the next packet, as [`Reader::advance`] does, if its record is whole, and a good one, in what was taken from the source already.
-    /// Else it returns `false`, and nothing changed: a call of [`Reader::advance`] would ask the source, or return the end or a fault. So who
-    /// gathers output can hand it on before the reader waits for more. The source is not asked, and no memory is taken.
+    /// Goes on to the next packet, as [`Reader::advance`] does, if its record is whole, and a good
+    /// one, in what was taken from the source already. Else it returns `false`, and nothing
+    /// changed: a call of [`Reader::advance`] would ask the source, or return the end or a fault.
+    /// So who gathers output can hand it on before the reader waits for more. The source is not
+    /// asked, and no memory is taken.
     #[inline(always)]
     pub fn advance_ahead(&mut self) -> bool
         ensures packet { (start : Option (List ℕ)) (header : Header) (packets : List Packet) → HasGiven R.left start header packets self.old →
@@ -268,7 +280,8 @@ impl<R: Source> Reader<R> {
         true
     }
 
-    /// Lends the packet that the latest call went on to: [`Reader::advance`], or [`Reader::next`], which gave a copy of it.
+    /// Lends the packet that the latest call went on to: [`Reader::advance`], or [`Reader::next`],
+    /// which gave a copy of it.
     #[inline]
     pub fn packet(&self) -> PacketRef<'_>
         requires { Lends self.now }
@@ -284,11 +297,11 @@ impl<R: Source> Reader<R> {
 
     /// Gives the next packet, with a copy of its bytes. `None` is the clean end, and repeats.
     ///
-    /// The faults are those of [`Reader::advance`], and [`Fault::NoMemory`] if memory for the copy was refused; after
-    /// that one too every call returns [`Fault::Failed`].
+    /// The faults are those of [`Reader::advance`], and [`Fault::NoMemory`] if memory for the copy
+    /// was refused; after that one too every call returns [`Fault::Failed`].
     pub fn next(&mut self, alloc: Global) -> Result<Option<Packet>, Fault>
-        // One packet more, the end, or why there is none. What was given so far begins what the text holds, whatever
-        // comes. Each packet may be written.
+        // One packet more, the end, or why there is none. What was given so far begins what the
+        // text holds, whatever comes. Each packet may be written.
         ensures packet { (start : Option (List ℕ)) (header : Header) (packets : List Packet) → HasGiven R.left start header packets self.old →
             IfOk result (λ next. MatchOption next (WasRead start header packets None) (λ p. HasGiven R.left start header (packets ++ p ∷ []) self.new)) }
         ensures cause { (start : Option (List ℕ)) (header : Header) (packets : List Packet) → HasGiven R.left start header packets self.old →
@@ -306,7 +319,8 @@ impl<R: Source> Reader<R> {
         ensures leaves { LeavesNext self.old self.new result }
         ensures header { self.new.header ≡ self.old.header }
 
-        // The next bytes of the source are taken, and none if the next record was taken whole already.
+        // The next bytes of the source are taken, and none if the next record was taken whole
+        // already.
         ensures taken { (bytes : List ℕ) × Consumes (R.left self.old.source) (R.left self.new.source) bytes }
         ensures idle { (p : Packet) (after : List ℕ) →
             IsRecord self.old.header.order self.old.header.unit self.old.ahead p after →

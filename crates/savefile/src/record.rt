@@ -24,13 +24,15 @@ pub const RECORD_HEADER_LEN: usize = 16;
 
 const _: () = prove!(RECORD_HEADER_LEN == 16);
 
-/// The most bytes that are captured of a packet, so that a record may have, read or written: libpcap's `MAXIMUM_SNAPLEN`.
+/// The most bytes that are captured of a packet, so that a record may have, read or written:
+/// libpcap's `MAXIMUM_SNAPLEN`.
 pub const MAX_SNAP: u32 = 262_144;
 
 // Clauses and definitions name the constant: it is this number.
 const _: () = prove!(MAX_SNAP == 262_144);
 
-/// The snapshot length that is meant by `snap`: 0 stands for the largest, [`MAX_SNAP`], as it does for tcpdump.
+/// The snapshot length that is meant by `snap`: 0 stands for the largest, [`MAX_SNAP`], as it does
+/// for tcpdump.
 pub fn effective_snaplen(snap: u32) -> u32
     ensures { result ≡ effective_snaplen snap }
 {
@@ -46,8 +48,8 @@ impl RecordHeader {
         len: 0,
     };
 
-    /// Reads the header of the record that a text begins with, or returns its first fault. The place is that of the
-    /// record.
+    /// Reads the header of the record that a text begins with, or returns its first fault. The
+    /// place is that of the record.
     #[inline]
     pub(crate) fn read(
         &mut self,
@@ -95,11 +97,13 @@ impl RecordHeader {
     }
 }
 
-/// The packet of the record that a text begins with, whose bytes it lends; `None` if and only if the text is empty. The record takes
-/// [`RECORD_HEADER_LEN`] bytes and then those that were captured.
+/// The packet of the record that a text begins with, whose bytes it lends; `None` if and only if
+/// the text is empty. The record takes [`RECORD_HEADER_LEN`] bytes and then those that were
+/// captured.
 ///
-/// `place` counts the record in its savefile, from 0. The error is [`Fault::TornRecord`], [`Fault::BadFraction`] or
-/// [`Fault::TooLong`] with this place, as [`Reader::advance`](crate::Reader::advance) names it. No memory is taken.
+/// `place` counts the record in its savefile, from 0. The error is [`Fault::TornRecord`],
+/// [`Fault::BadFraction`] or [`Fault::TooLong`] with this place, as
+/// [`Reader::advance`](crate::Reader::advance) names it. No memory is taken.
 #[inline]
 pub fn record_of(header: Header, place: u64, text: &[u8]) -> Result<Option<PacketRef<'_>>, Fault>
     ensures packet { IfOk result (λ next. IfSome next (λ p.

@@ -48,7 +48,8 @@ fn file_header_in<B: ByteOrder>(unit: Unit, snap: u32) -> [u8; HEADER_LEN]
     text
 }
 
-/// The header of a savefile as [`Writer::open`] writes it, for callers that gather a savefile in their own memory.
+/// The header of a savefile as [`Writer::open`] writes it, for callers that gather a savefile in
+/// their own memory.
 pub fn file_header(order: Order, unit: Unit, snap: u32) -> [u8; HEADER_LEN]
     ensures { result ≡ header_text order unit snap }
 {
@@ -74,8 +75,8 @@ fn record_header_in<B: ByteOrder>(
     text
 }
 
-/// The header of a record as [`Writer::put`] writes it before the `captured` bytes of a packet. With microseconds the nanoseconds are
-/// divided by 1,000 and the rest is dropped.
+/// The header of a record as [`Writer::put`] writes it before the `captured` bytes of a packet.
+/// With microseconds the nanoseconds are divided by 1,000 and the rest is dropped.
 #[inline]
 pub fn record_header(
     order: Order,
@@ -96,15 +97,17 @@ pub fn record_header(
 
 /// Writes a savefile into a sink.
 ///
-/// Until a device fault the sink took the written text of the packets whose `put` returned `Ok`, and no more;
-/// [`Writer::sent`] is its length. After a device fault it took exactly `sent` bytes: the packets whose `put` returned `Ok`,
-/// whole, and a prefix, not the whole, of the one whose `put` returned [`Fault::Device`].
+/// Until a device fault the sink took the written text of the packets whose `put` returned `Ok`,
+/// and no more; [`Writer::sent`] is its length. After a device fault it took exactly `sent` bytes:
+/// the packets whose `put` returned `Ok`, whole, and a prefix, not the whole, of the one whose
+/// `put` returned [`Fault::Device`].
 ///
-/// A packet is sent in two writes, its record's header and then its bytes (in one if it has none, and in more if
-/// the sink takes fewer than it is given); no clause says so. If each write is a system call, give the writer a sink that gathers them.
+/// A packet is sent in two writes, its record's header and then its bytes (in one if it has none,
+/// and in more if the sink takes fewer than it is given); no clause says so. If each write is a
+/// system call, give the writer a sink that gathers them.
 ///
-/// Contracts see its sink, the byte order and the unit of time that it writes, how many bytes it has sent, and whether the
-/// device failed it.
+/// Contracts see its sink, the byte order and the unit of time that it writes, how many bytes it
+/// has sent, and whether the device failed it.
 #[derive(Debug, Drop)]
 pub struct Writer<W> {
     sink: W,
@@ -123,9 +126,9 @@ impl<W> Model for Writer<W> {
 }
 
 impl<W: Sink> Writer<W> {
-    /// Begins a savefile: writes its header. [`Fault::Device`] comes if and only if the sink failed in
-    /// this call. Then the sink took exactly [`Writer::sent`] bytes, a prefix of the header and not the
-    /// whole, and the writer has failed.
+    /// Begins a savefile: writes its header. [`Fault::Device`] comes if and only if the sink failed
+    /// in this call. Then the sink took exactly [`Writer::sent`] bytes, a prefix of the header and
+    /// not the whole, and the writer has failed.
     pub fn open(sink: W, order: Order, unit: Unit, snap: u32) -> (Writer<W>, Result<(), Fault>)
         ensures ok { OnOk result.1 (HasWritten W.taken (W.taken sink) order unit snap [] result.0) }
         ensures err { OnErr result.1 (HasWrittenPart W.taken (W.taken sink) order unit snap [] result.0) }
@@ -217,16 +220,17 @@ impl<W: Sink> Writer<W> {
     ///
     /// `nanos` is below 1,000,000,000, and `bytes` has at most [`MAX_SNAP`](crate::MAX_SNAP) bytes.
     /// With microseconds the nanoseconds are divided by 1,000 and the rest is dropped.
-    /// [`Fault::Device`] comes if and only if the sink failed in this call; from then on the writer has
-    /// failed, and every `put` returns [`Fault::Failed`] and does nothing. [`Fault::CountFull`] comes
-    /// if and only if the record would take [`Writer::sent`] past 2^64 - 1; it does nothing, and the writer
-    /// can be used on. No memory is taken.
+    /// [`Fault::Device`] comes if and only if the sink failed in this call; from then on the writer
+    /// has failed, and every `put` returns [`Fault::Failed`] and does nothing. [`Fault::CountFull`]
+    /// comes if and only if the record would take [`Writer::sent`] past 2^64 - 1; it does nothing,
+    /// and the writer can be used on. No memory is taken.
     #[inline(always)]
     pub fn put(&mut self, sec: u32, nanos: u32, len: u32, bytes: &[u8]) -> Result<(), Fault>
         requires nanos { nanos < 1000000000 }
         requires size { length bytes.now ≤ MAX_SNAP }
 
-        // After Ok, what was written before and now this packet; after Device, a prefix of that, and not the whole.
+        // After Ok, what was written before and now this packet; after Device, a prefix of that,
+        // and not the whole.
         ensures ok { (start : Option (List ℕ)) (order : Order) (unit : Unit) (snap : ℕ) (packets : List Packet) →
             HasWritten W.taken start order unit snap packets self.old →
             OnOk result (HasWritten W.taken start order unit snap (packets ++ packet sec nanos len bytes.now ∷ []) self.new) }
@@ -263,12 +267,14 @@ impl<W: Sink> Writer<W> {
         self.send_both(&header, bytes)
     }
 
-    /// Lets the sink hand on what it has gathered. What it took and how often it failed stays as it was.
+    /// Asks the sink to hand on what it has gathered. What it took and how often it failed stays as
+    /// it was.
     pub fn flush(&mut self)
         ensures same { (self.new.order ≡ self.old.order) × (self.new.unit ≡ self.old.unit) × (self.new.sent ≡ self.old.sent) × (self.new.failed ≡ self.old.failed) }
         ensures bytes { Keeps (W.taken self.old.sink) (W.taken self.new.sink) }
         ensures failures { W.failures self.new.sink ≡ W.failures self.old.sink }
         ensures named { W.name self.new.sink ≡ W.name self.old.sink }
+        ensures handed_on { W.waits self.new.sink ≡ false }
     {
         self.sink.flush();
     }

@@ -1,6 +1,5 @@
-use Rattle.std.proofs.Common.{arith, refl, rules}
+use Rattle.std.proofs.Common.{refl, rules}
 use Rattle.std.proofs.lemmas.List.Elements.{Contains-get_or}
-use Rattle.pcap_parts.specs.Again.{AreAgainUpTo}
 use Rattle.pcap_parts.proofs.Stretches.{again_later, again_more}
 use Rattle.pcap_parts.proofs.again.stretches_again.Goals as goal
 use Rattle.pcap_parts.proofs.again.stretches_again.Goals.{then-part-next+then-is_cut_off+in_ok-push-2, then-part-next+else-is_cut_off, else-part-next}
@@ -17,7 +16,8 @@ loop-index-preserved c =
           let one = Contains-get_or parts c.loop-index.index _ c.loop-index-test.true in
           let is = w.is_cut_off.ensures (search rules) in
           rw (w.again-is, w.next-is, w.in_ok-push-2.ensures.items)
-          (again_more parts cut_off _ size before c.loop-index.next _ so_far one is (search rules) refl (w.longer_end-next-then-is_cut_off.ensures.longer is.1))
+          (again_more parts cut_off _ size before c.loop-index.next _ so_far one is (search rules) refl (w.longer_end-next-then-is_cut_off.ensures.longer is.1)
+          w.longer_end-next-then-is_cut_off.ensures.bound)
       | then-part-next+else-is_cut_off w ↦
           rw (w.again-is, w.next-is) (again_later parts cut_off size before c.loop-index.next _ so_far (search rules))
       | else-part-next w ↦ rw (w.again-is, w.next-is) so_far

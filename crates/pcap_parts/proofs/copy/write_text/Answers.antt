@@ -1,5 +1,5 @@
-use Rattle.std.proofs.Common.{◌∙◌, arith, refl}
-use Rattle.pcap_parts.proofs.Copied.{IsLeft-none, IsLeft-slice}
+use Rattle.std.proofs.Common.{◌∙◌, arith}
+use Rattle.pcap_parts.proofs.Copied.{IsLeft-slice}
 use Rattle.pcap_parts.proofs.copy.write_text.Goals as goal
 
 pub loop-rest-preserved : goal.loop-rest-preserved

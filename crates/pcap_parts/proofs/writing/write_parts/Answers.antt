@@ -1,6 +1,5 @@
 use Rattle.std.proofs.Common.{List, ℕ, All, subst}
 use Rattle.std.specs.Io.KnownBytes.{Appends}
-use Rattle.std.proofs.lemmas.List.Elements.{Contains-get_or}
 use Rattle.pcap_parts.specs.Writing.{HasHeader, IsFileFault, IsWriteFault, OneOf}
 use Rattle.pcap_parts.proofs.Bodies.{fault_of_headers, fault_of_one, if_err, on_ok, one_of, written_of}
 use Rattle.pcap_parts.proofs.writing.write_parts.Goals as goal
@@ -15,7 +14,7 @@ returns-in-Err-check_headers-clause-fault g c = λ known.
     let text = g.F.PartFiles.text c.args.files.now in
     let parts = c.args.parts.now in
     fault_of_headers text parts c.in-Ok-header_of.header.items c.as_slice.result.now _ c.in-Err-check_headers.fault c.as_slice.ensures.value
-    (Contains-get_or parts 0 _ c.requires.some) (c.in-Ok-header_of.ensures.header known) (c.in-Err-check_headers.ensures.fault known)
+    c.requires.some (c.in-Ok-header_of.ensures.header known) (c.in-Err-check_headers.ensures.fault known)
 
 pub returns-in-Ok-write_text-clause-written : goal.returns-in-Ok-write_text-clause-written
 returns-in-Ok-write_text-clause-written g c = λ known.

@@ -1,4 +1,4 @@
-use Rattle.std.proofs.Common.{◌+◌, List, ℕ, [], length, drop, sym, subst, Option, IfSome}
+use Rattle.std.proofs.Common.{◌+◌, [], length, drop, sym, subst, Option, IfSome}
 use Rattle.std.specs.Io.KnownBytes.{Consumes}
 use Rattle.std.proofs.KnownBytes.{Consumes-nil}
 use Rattle.savefile.specs.declared.packet.Packet.{Packet}

@@ -2,7 +2,7 @@ use Rattle.std.proofs.Common.{◌≡◌, ◌-◌}
 use Rattle.savefile.specs.Ahead.{Grows}
 use Rattle.savefile.proofs.ahead.Ahead.fill_slowly.Given as goal
 
--- what was read so far stands behind what waited, and the source did not fail
+-- what was read so far comes after what waited, and the source did not fail
 abbrev pub invariant-loop-self : goal.invariant-loop-self
 invariant-loop-self g l = record {
   grows : Grows g.R.Source.left l.fn.self l.self;
