@@ -37,7 +37,7 @@ number-no_space most text n is = All-from_get_or (λ b. b ≢ space) text 0 (λ 
     let digit = digit_at text i is.numeral.1 inside in
     omega arith)
 
--- a line is what stands before its first space, and behind it
+-- a line is what stands before its first space, and after it
 abbrev pub Behind : (line : List ℕ) (i : Insn) → IsLine line i → List ℕ
 Behind line i is = is.jt ++ (space ∷ (is.jf ++ (space ∷ is.k)))
 
@@ -61,7 +61,7 @@ module _ (line code rest : List ℕ) (cut : line ≡ code ++ space ∷ rest) (no
       not-lacking space is.jt (is.jf ++ (space ∷ is.k)) (All-same (λ b. b ≢ space) (Behind line i is) rest (sym (first-cut i is).1) lacks)
 
   module _ (jt rest' : List ℕ) (cut' : rest ≡ jt ++ space ∷ rest') (none' : All (λ b. b ≢ space) jt) where
-    -- and the one behind it the second
+    -- and the one after it the second
     second-cut : (i : Insn) (is : IsLine line i) → (jt ≡ is.jt) × (rest' ≡ is.jf ++ (space ∷ is.k))
     second-cut i is = cut-one space jt rest' is.jt (is.jf ++ (space ∷ is.k)) none' (number-no_space 255 is.jt i.jt is.jt_is) (sym cut' ∙ (first-cut i is).1)
 

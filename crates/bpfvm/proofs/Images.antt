@@ -77,7 +77,7 @@ spaces : (n : ℕ) → repeat {A = ℕ} n (32 ∷ []) ≡ replicate n 32
 spaces zero = refl
 spaces (suc n) = ap (λ (t : List ℕ). 32 ∷ t) (spaces n)
 
--- as `{:<13x}` writes a number behind `#0x`
+-- as `{:<13x}` writes a number after `#0x`
 pub hex_column : (ds : List ℕ) → padded_integral (format_spec 32 1 0 13 (2 ^ 64 - 1)) false [] ds ≡ ds ++ replicate (13 - length ds) 32
 unfolding padded_integral char_count lib.Utf8.encode
 hex_column ds = simp unary_clauses (ap (λ (t : List ℕ). ds ++ t) (spaces (13 - length ds)))

@@ -51,7 +51,7 @@ lines-one (l ∷ lines) (i ∷ is) (j ∷ js) one other =
 
 -- what the same lines say
 module _ (text first : List ℕ) (others : List (List ℕ)) (lines : lines_of text ≡ first ∷ others) where
-  -- the first line and those behind it are these
+  -- the first line and those after it are these
   same-others : (first' : List ℕ) (others' : List (List ℕ)) → lines_of text ≡ first' ∷ others' → (first ≡ first') × (others ≡ others')
   same-others first' others' lines' = let same = sym lines ∙ lines' in (cc, cc)
 

@@ -8,7 +8,7 @@ use Rattle.bpfvm.specs.Listing.{IsLine, AreLines}
 use Rattle.bpfvm.specs.Lines.{StopsAfter}
 use Rattle.bpfvm.proofs.Fields.{NoLine}
 
--- so many instructions are read of all the lines, of which these are left and the first 512 kept
+-- this many instructions are read of all the lines, of which these are left and the first 512 kept
 pub record IsRead (all left : List (List ℕ)) (kept : List Insn) (count : ℕ) : Type 0 where
   pub front : List (List ℕ)
   pub insns : List Insn
@@ -72,7 +72,7 @@ StopsAfter-read all left kept count line read bad =
       before = λ k earlier below here. AreLines-at read.front (line ∷ left) read.insns k earlier read.each (omega arith) (ap (λ (l : List (List ℕ)). slice_get l k) (sym read.lines) ∙ here);
     }
 
--- the first instructions of a list, so many, when it grows
+-- a number of first instructions of a list, when it grows
 pub take-room : (n : ℕ) (kept kept' insns : List Insn) (i : Insn) → length kept < n → kept' ≡ kept ++ i ∷ [] → kept ≡ take n insns → kept' ≡ take n (insns ++ i ∷ [])
 take-room n kept kept' insns i room grown first =
     let long : length kept ≡ min n (length insns) = ap length first ∙ length-take n insns in

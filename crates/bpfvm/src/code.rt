@@ -1,7 +1,7 @@
 //! The codes of the instructions, as bpf(4) composes them of class, size, mode and operand.
 //!
-//! A is the accumulator, X the index register, M the scratch memory, P the captured bytes and pc the place of the next
-//! instruction; k, jt and jf are the instruction's own fields.
+//! A is the accumulator, X the index register, M the scratch memory, P the captured bytes and pc
+//! the place of the next instruction; k, jt and jf are the instruction's own fields.
 
 /// A ← P[k:4]
 pub const LD_W_ABS: u16 = 0x20;

@@ -43,8 +43,8 @@ fn how_by(insn: &Insn, answer: u32) -> How
     }
 }
 
-/// Runs a program on a packet as [`run`](crate::run), and returns at which instruction the run ended, and why. It takes no
-/// memory.
+/// Runs a program on a packet as [`run`](crate::run), and returns at which instruction the run
+/// ended, and why. It takes no memory.
 pub fn run_to_end(program: &Program, packet: &[u8], wire: u32) -> End
     ensures { IsEnd program.now packet.now wire result.place result.how }
 {

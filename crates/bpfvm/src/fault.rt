@@ -8,10 +8,11 @@ use std::fmt;
 use std::fmt::{Display, Formatter};
 use thiserror::Error;
 
-/// Why a list of instructions is no program. A place counts instructions from 0. It prints as its name, and then its place if it
-/// has one.
+/// Why a list of instructions is no program. A place counts instructions from 0. It prints as its
+/// name, and then its place if it has one.
 ///
-/// `Empty` and `TooMany` are looked for first, then the first faulty instruction, and `NoReturn` last.
+/// `Empty` and `TooMany` are looked for first, then the first faulty instruction, and `NoReturn`
+/// last.
 #[derive(Clone, Copy, Debug, PartialEq, Eq, Error)]
 pub enum Invalid {
     /// There is no instruction.
@@ -22,9 +23,11 @@ pub enum Invalid {
     UnknownCode(usize),
     /// The jump at this place leads out of the program.
     JumpOut(usize),
-    /// The instruction at this place names a cell of the scratch memory beyond the 16 that there are.
+    /// The instruction at this place names a cell of the scratch memory beyond the 16 that there
+    /// are.
     Cell(usize),
-    /// The instruction at this place divides by the constant 0, or takes the rest of such a division.
+    /// The instruction at this place divides by the constant 0, or takes the rest of such a
+    /// division.
     ZeroDivisor(usize),
     /// The last instruction is not a return.
     NoReturn,
@@ -71,11 +74,11 @@ impl Display for Invalid {
     }
 }
 
-/// Why a text is no listing of a program: the first that applies, in this order. It prints as its name, and then its line, or the
-/// fault of the program.
+/// Why a text is no listing of a program: the first of these faults that applies. It prints as its
+/// name, and then its line, or the fault of the program.
 #[derive(Clone, Copy, Debug, PartialEq, Eq, Error)]
 pub enum ListingFault {
-    /// This line, counted from 1, is the first that is malformed.
+    /// The first malformed line, counted from 1.
     BadLine(usize),
     /// The first line is not the number of the lines that follow it.
     Count,

@@ -231,10 +231,11 @@ fn write_insn<W: Write>(f: &mut Formatter<W>, next: u64, insn: &Insn) -> fmt::Re
     write_operands(f, next, insn, form_of(insn.code))
 }
 
-/// An instruction as `tcpdump -d` prints it, without its place: `ldh      [12]`, `jeq      #0x800           jt 0\tjf 5`.
+/// An instruction as `tcpdump -d` prints it, without its place: `ldh      [12]`,
+/// `jeq      #0x800           jt 0\tjf 5`.
 ///
-/// An instruction without its program has no place, so a jump is printed with how many instructions it passes. An unknown
-/// code is `unimp` with its number.
+/// An instruction without its program has no place, so a jump is printed with how many instructions
+/// it passes. An unknown code is `unimp` with its number.
 impl Display for Insn {
     ghost output = { λ insn. Some (insn_text 0 insn) };
 
@@ -243,8 +244,8 @@ impl Display for Insn {
     }
 }
 
-/// An instruction's name and operand, with one space between them: `ldh [12]`, `ret`. A conditional jump is printed
-/// without the places it leads to.
+/// An instruction's name and operand, with one space between them: `ldh [12]`, `ret`. A conditional
+/// jump is printed without the places it leads to.
 #[derive(Clone, Copy)]
 pub struct Brief<'a>(pub &'a Insn);
 
@@ -264,8 +265,8 @@ impl Display for Brief<'_> {
     }
 }
 
-/// The instruction at a place of a program, from 0, as `tcpdump -d` prints its line: `(001) jeq      #0x800           jt 2\tjf 5`.
-/// A jump has the places that it leads to.
+/// The instruction at a place of a program, from 0, as `tcpdump -d` prints its line:
+/// `(001) jeq      #0x800           jt 2\tjf 5`. A jump has the places that it leads to.
 #[derive(Clone, Copy)]
 pub struct PlacedInsn<'a> {
     pub place: u32,
@@ -281,10 +282,11 @@ impl Display for PlacedInsn<'_> {
     }
 }
 
-/// The text of a program for a person to read, to the byte as `tcpdump -d` prints it: a line for each instruction, with its
-/// name, such as `(000) ldh      [12]`. Places are counted from 0, and a jump names the places that it leads to. Numbers are
-/// signed if libpcap's are. libpcap's printer has no name for the load of the original length into the index register; here
-/// it is `ldx #pktlen`.
+/// The text of a program for a person to read, to the byte as `tcpdump -d` prints it: a line for
+/// each instruction, with its name, such as `(000) ldh      [12]`. Places are counted from 0, and a
+/// jump names the places that it leads to. Numbers are signed if libpcap's are. libpcap's printer
+/// has no name for the load of the original length into the index register; here it is
+/// `ldx #pktlen`.
 ///
 /// `NoMemory` if memory for the text was refused.
 pub fn write_image(alloc: Global, program: &Program) -> Result<Vec<u8>, NoMemory>

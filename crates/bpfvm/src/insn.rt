@@ -9,6 +9,7 @@ pub struct Insn {
     pub jt: u8,
     /// How many instructions it passes if its test fails.
     pub jf: u8,
-    /// The operand: a number, an offset, a cell of the scratch memory, a jump's length, or the answer of a return.
+    /// The operand: a number, an offset, a cell of the scratch memory, a jump's length, or the
+    /// answer of a return.
     pub k: u32,
 }

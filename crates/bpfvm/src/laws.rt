@@ -1,4 +1,5 @@
-//! Laws of the definitions that the contracts cite. Each function is empty, and its contract is the law.
+//! Laws of the definitions that the contracts cite. Each function is empty, and its contract is the
+//! law.
 
 ghost use Rattle.bpfvm.specs.Laws.{EffectsAreUnique, StepsAreUnique, AnswersAreUnique, ValidProgramsGoOn, ValidProgramsAnswer, VerdictIsReached, FrontsArePassed, TracesAreUnique, TracesReach, WrittenIsRead, ListingsAreUnique};
 
@@ -9,8 +10,8 @@ pub fn runs_have_one_outcome()
     ensures answers { AnswersAreUnique }
 {}
 
-/// From each of its places and any registers a valid program answers within the instructions that are left. Its verdict is
-/// the answer that its run reaches.
+/// From each of its places and any registers a valid program answers within the instructions that
+/// are left. Its verdict is the answer that its run reaches.
 pub fn valid_programs_answer()
     ensures step { ValidProgramsGoOn }
     ensures run { ValidProgramsAnswer }

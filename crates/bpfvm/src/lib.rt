@@ -1,12 +1,14 @@
 //! The BSD packet filter's machine of 1993: its programs, their validator and their listings.
 //!
-//! A [`Program`] is a list of instructions that [`Program::new`] found valid, or that [`read_listing`] read; contracts see
-//! it as that list. [`run`] returns how many bytes of a packet it keeps, and [`trace`] what it executes. The machine is
-//! that of McCanne and Jacobson, "The BSD Packet Filter" (1993), and of bpf(4), with libpcap's modulo and exclusive or.
-//! Only [`trace`], [`write_listing`] and [`write_image`] take memory.
+//! A [`Program`] is a list of instructions that [`Program::new`] found valid, or that
+//! [`read_listing`] read; contracts see it as that list. [`run`] returns how many bytes of a packet
+//! it keeps, [`trace`] what it executes, and [`count_instructions`] how much that is. The machine is that of McCanne and Jacobson, "The BSD
+//! Packet Filter" (1993), and of bpf(4), with libpcap's modulo and exclusive or. Only [`trace`],
+//! [`write_listing`] and [`write_image`] take memory.
 #![tactic(auto)]
 
 pub mod code;
+mod counting;
 mod decoded;
 mod ending;
 mod fault;
@@ -19,6 +21,7 @@ mod program;
 mod running;
 mod tracing;
 
+pub use counting::count_instructions;
 pub use ending::{End, How, run_to_end};
 pub use fault::{Invalid, ListingFault, NoMemory};
 pub use image::{Brief, PlacedInsn, write_image};

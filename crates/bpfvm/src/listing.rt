@@ -124,13 +124,14 @@ fn read_lines(text: &[u8]) -> Result<Listed, usize>
     Ok(listed)
 }
 
-/// Reads a listing: the number of the instructions on the first line, and `code jt jf k` on each other one, in decimal.
+/// Reads a listing: the number of the instructions on the first line, and `code jt jf k` on each
+/// other one, in decimal.
 ///
-/// Lines end with byte 10, which the last one may lack. A number may have leading zeros, but no sign. No other space and
-/// no carriage return is accepted. It takes no memory.
+/// Lines end with byte 10, which the last one may lack. A number may have leading zeros, but no
+/// sign. No other space and no carriage return is accepted. It takes no memory.
 ///
-/// `BadLine` names the first malformed line, counted from 1; then comes `Count`, if the first line is not the number of
-/// the further ones; then `Program`, as [`Program::new`] says.
+/// `BadLine` names the first malformed line, counted from 1; then comes `Count`, if the first line
+/// is not the number of the further ones; then `Program`, as [`Program::new`] says.
 pub fn read_listing(text: &[u8]) -> Result<Program, ListingFault>
     ensures ok { IfOk result (λ program. IsListing text.now program × IsValidProgram program) }
     ensures only { (program : List Insn) → IsListing text.now program → IsValidProgram program → result ≡ Ok program }
@@ -166,7 +167,8 @@ fn write_line(text: &mut String, insn: &Insn) -> Result<(), NoMemory>
     Ok(())
 }
 
-/// The listing of a program, with a line feed after every line and no leading zeros. [`read_listing`] reads it back.
+/// The listing of a program, with a line feed after every line and no leading zeros.
+/// [`read_listing`] reads it back.
 ///
 /// `NoMemory` if memory for the text was refused.
 pub fn write_listing(alloc: Global, program: &Program) -> Result<Vec<u8>, NoMemory>

@@ -36,7 +36,8 @@ pub struct Executed {
 /// A run of a program on a packet.
 #[derive(Debug, Drop)]
 pub struct Traced {
-    /// The instructions that were executed, in order; the last one ended the run, so there is at least one.
+    /// The instructions that were executed, in order; the last one ended the run, so there is at
+    /// least one.
     pub executed: Vec<Executed>,
     /// The program's answer.
     pub answer: u32,
@@ -73,13 +74,16 @@ fn entry(place: usize, insn: &Insn, registers: Registers) -> Executed
     }
 }
 
-/// The run of a program on a packet: the instructions that [`run`](crate::run) executes, in order, and its answer.
+/// The run of a program on a packet: the instructions that [`run`](crate::run) executes, in order,
+/// and its answer.
 ///
-/// `packet` is the captured bytes, and `wire` the packet's original length. Each instruction is listed with its place, both
-/// registers after it and what it stored. The last one ended the run: a return, or a load past the captured bytes, a
-/// division or a modulo by X = 0, which leave the registers as they were.
+/// `packet` is the captured bytes, and `wire` the packet's original length. Each instruction is
+/// listed with its place, both registers after it and what it stored. The last one ended the run: a
+/// return, or a load past the captured bytes, a division or a modulo by X = 0, which leave the
+/// registers as they were.
 ///
-/// `NoMemory` if memory for this was refused. It takes at most some 16 KB, since a run executes no instruction twice.
+/// `NoMemory` if memory for this was refused. It takes at most some 16 KB, since a run executes no
+/// instruction twice.
 pub fn trace(alloc: Global, program: &Program, packet: &[u8], wire: u32) -> Result<Traced, NoMemory>
     ensures steps { IfOk result (λ run. Runs program.now packet.now wire beginning run.executed.items run.answer) }
     ensures answer { IfOk result (λ run. run.answer ≡ verdict program.now packet.now wire) }
