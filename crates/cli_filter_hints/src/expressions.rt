@@ -18,9 +18,10 @@ fn hint_advice<E: HintSink>(advice: Advice<'_>, err: &mut E)
     }
 }
 
-/// Hints on an expression that is refused: the part of it round the fault's place, with a caret under the place, and a sentence
-/// that helps. If the fault has no place the sentence stands alone, and of refused memory nothing is said. For what libpcap may read, the
-/// way over its compiler follows.
+/// Hints on an expression that is refused: the part of it round the fault's place, with a caret
+/// under the place, and a sentence that helps. If the fault has no place there is only the
+/// sentence, and of refused memory nothing is said. For what libpcap may read, the way over its
+/// compiler follows.
 ///
 /// A word is suggested only if the whole text with it put in is an expression, or reads on past it.
 pub fn hint_text_fault<E: HintSink>(alloc: Global, text: &str, fault: Fault, err: &mut E)

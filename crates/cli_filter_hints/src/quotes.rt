@@ -54,8 +54,9 @@ fn takes_value(word: &str) -> bool {
     matches!(word, "-s" | "-o" | "-u" | "-f" | "-p" | "-w")
 }
 
-/// Where the arguments that look like an expression begin: at the first that begins with a word of the filter language, or at the
-/// tokens right before it, as `!` and `10 <`, but not at an option or its value.
+/// Where the arguments that look like an expression begin: at the first one that begins with a word
+/// of the filter language, or at the tokens right before it, as `!` and `10 <`, but not at an
+/// option or its value.
 fn beginning_of<S: AsStr>(alloc: Global, words: &[S]) -> Result<Option<usize>, AllocError> {
     let mut beginning = 0;
     let mut is_value = false;
@@ -77,12 +78,14 @@ fn is_check<S: AsStr>(words: &[S]) -> bool {
     words.iter().take(3).any(|word| word.as_str() == "check")
 }
 
-/// Whether every word belongs to an expression that begins with the first one: `check` takes nothing else, and the quotes are missing.
+/// Whether every word belongs to an expression that begins with the first one: `check` takes
+/// nothing else, and the quotes are missing.
 fn takes_all<S: AsStr>(words: &[S], first: &str) -> bool {
     is_check(words) && !first.contains(' ')
 }
 
-/// The arguments that look like an expression: from its beginning on all that are of tokens; of `check` all up to an option.
+/// The arguments that look like an expression: from its beginning on all that are of tokens; of
+/// `check` all up to an option.
 fn expression_in<S: AsStr>(alloc: Global, words: &[S]) -> Result<&[S], AllocError> {
     let Some(beginning) = beginning_of(alloc, words)? else {
         return Ok(&words[..0]);
@@ -107,7 +110,8 @@ fn gives_filter(word: &str) -> bool {
     word.starts_with("-e") || word.starts_with("-f")
 }
 
-/// Whether these are arguments of a command that takes an expression after an option, and give it no filter.
+/// Whether these are arguments of a command that takes an expression after an option, and give it
+/// no filter.
 fn lacks_option<S: AsStr>(words: &[S]) -> bool {
     let mut takes_one = false;
     for word in words {
@@ -120,14 +124,16 @@ fn lacks_option<S: AsStr>(words: &[S]) -> bool {
     takes_one
 }
 
-/// Whether a text can be given in quotes as it is: one that begins with `-` would be taken for an option.
+/// Whether a text can be given in quotes as it is: one that begins with `-` would be taken for an
+/// option.
 fn can_be_quoted(text: &str) -> bool {
     text.len() <= MAX_QUOTED
         && !text.starts_with("-")
         && !text.chars().any(|one| one == '\'' || one.is_control())
 }
 
-/// Whether a text is suggested as the expression of these arguments: it is one, or, of `check`, it reads on past its first word.
+/// Whether a text is suggested as the expression of these arguments: it is one, or, of `check`, it
+/// reads on past its first word.
 fn is_suggested<S: AsStr>(alloc: Global, words: &[S], text: &str) -> Result<bool, AllocError> {
     if !can_be_quoted(text) {
         Ok(false)
@@ -172,8 +178,8 @@ fn hint_expression_in<S: AsStr, E: HintSink>(
     Ok(())
 }
 
-/// A hint on arguments that are refused: if they look like an expression without quotes, or without an option before it, how it is
-/// given. Without memory for it there is none.
+/// A hint on arguments that are refused: if they look like an expression without quotes, or without
+/// an option before it, how it is given. Without memory for it there is none.
 pub fn hint_unquoted<S: AsStr, E: HintSink>(alloc: Global, words: &[S], err: &mut E)
     ensures quiet { E.takes_hints err.old ≡ false → err.new ≡ err.old }
 {
@@ -192,8 +198,8 @@ fn listing_of<S: AsStr>(words: &[S]) -> Option<&str> {
     Some(words.get(place.saturating_add(1))?.as_str())
 }
 
-/// A hint on arguments with which a command failed to open a file: `-f` with an expression, which `-e` takes. Without memory for it there
-/// is none.
+/// A hint on arguments with which a command failed to open a file: `-f` with an expression, which
+/// `-e` takes. Without memory for it there is none.
 pub fn hint_listing_word<S: AsStr, E: HintSink>(alloc: Global, words: &[S], err: &mut E)
     ensures quiet { E.takes_hints err.old ≡ false → err.new ≡ err.old }
 {

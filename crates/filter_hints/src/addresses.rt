@@ -83,7 +83,8 @@ fn has_digits(text: &[u8], least: usize, most: usize) -> bool {
     least <= text.len() && text.len() <= most && text.iter().all(|byte| byte.is_ascii_hexdigit())
 }
 
-/// Whether a text has so many parts between signs of this kind, each of hexadecimal digits.
+/// Whether a text has `count` parts between signs of this kind, each of `least` to `most`
+/// hexadecimal digits.
 fn has_parts(text: &[u8], sign: u8, count: usize, least: usize, most: usize) -> bool {
     let mut found: usize = 0;
     for part in text.split(|byte| *byte == sign) {
@@ -124,7 +125,8 @@ pub(crate) fn is_dotted(text: &[u8]) -> bool {
     parts == 4
 }
 
-/// How many groups of an IPv6 address a part of it is, between colons: nothing is none, an IPv4 address is two.
+/// How many groups of an IPv6 address a part of it is, between colons: nothing is none, an IPv4
+/// address is two.
 fn groups_of(part: &[u8]) -> Option<usize> {
     if part.is_empty() {
         Some(0)

@@ -14,8 +14,9 @@ use crate::display_filters::{of_dots, of_flag, of_service, of_text};
 use crate::left_sides::of_sign;
 use crate::nearest::in_small_letters;
 use crate::other_words::{
-    of_every_packet, of_ip_broadcast, of_left_out, of_other_word, of_sctp, of_value,
+    of_every_packet, of_ip_broadcast, of_left_out, of_other_word, of_sctp, of_unit, of_value,
 };
+use crate::ports::of_compared_port;
 use crate::spots::{PROTO, Spot, first_word, without_blanks, without_last_word};
 use crate::values::of_comparison;
 use filtergen_facts::Refusal;
@@ -26,7 +27,7 @@ use std::fmt::{Display, Formatter};
 use visible_text::Shown;
 
 /// The word that the number of a port follows.
-const PORT: &[u8] = b"port";
+pub(crate) const PORT: &[u8] = b"port";
 
 /// The word before `proto` if it takes an Ethernet type.
 const ETHER: &[u8] = b"ether";
@@ -58,7 +59,7 @@ pub enum Advice<'a> {
     Round(&'static str, &'a [u8], &'static str),
     /// A sentence around a word that libpcap's compiler may read.
     Elsewhere(&'static str, &'a [u8], &'static str),
-    /// What is written here for a word, and what stands right before that, as a backslash.
+    /// What is written here for a word, and what is right before that, as a backslash.
     Written(&'static str, &'static str, &'a [u8]),
     /// An Ethernet address without colons.
     Colons(&'a [u8]),
@@ -70,6 +71,11 @@ pub enum Advice<'a> {
     Service(&'static str, &'a [u8]),
     /// What is written for a field of a display filter, and that field.
     Field(&'static str, &'a [u8]),
+    /// What is written for a field of a display filter, the sign after it, and what they are
+    /// written for.
+    Compared(&'static str, &'static str, &'a [u8]),
+    /// The first and the last of the ports that a comparison means, and that comparison.
+    Ports(u16, u16, &'a [u8]),
     /// An address with a port after a colon, and the text that it is written for.
     Endpoint(Endpoint<'a>, &'a [u8]),
     /// The two numbers of a range with a colon.
@@ -104,7 +110,8 @@ impl<'a> Advice<'a> {
         )
     }
 
-    /// The way over libpcap's compiler, if that may make a program where this one does not: a second line below the sentence.
+    /// The way over libpcap's compiler, if that may make a program where this one does not: a
+    /// second line below the sentence.
     pub fn by_libpcap(&self) -> Option<ByLibpcap>
         ensures some { IfSome result (λ way. second_line self.now ≡ Some (way_line way)) }
         ensures none { IfNone result (second_line self.now ≡ None) }
@@ -205,6 +212,21 @@ impl Display for Advice<'_> {
                 written.strip_suffix(" ").unwrap_or(*written),
                 Shown(*field)
             ),
+            Advice::Compared(written, sign, field) => write!(
+                f,
+                "this looks like a display filter of Wireshark: write `{written} {sign}` for `{}`",
+                Shown(*field)
+            ),
+            Advice::Ports(first, last, compared) if first == last => {
+                write!(f, "write `port {first}` for `{}`", Shown(*compared))
+            }
+            Advice::Ports(first, last, compared) => {
+                write!(
+                    f,
+                    "write `portrange {first}-{last}` for `{}`",
+                    Shown(*compared)
+                )
+            }
         }
     }
 }
@@ -212,7 +234,8 @@ impl Display for Advice<'_> {
 /// What helps, if something does; or that memory was refused.
 pub(crate) type Found<'a> = Result<Option<Advice<'a>>, AllocError>;
 
-/// What helps at a word that differs from one of the language by its capital letters, or by one edit.
+/// What helps at a word that differs from one of the language by its capital letters, or by one
+/// edit.
 fn of_spelling<'a>(alloc: Global, spot: Spot<'a>) -> Found<'a> {
     let Some(gap) = spot.without_word() else {
         return Ok(None);
@@ -277,6 +300,9 @@ fn of_known_word<'a>(alloc: Global, spot: Spot<'a>) -> Found<'a> {
         return Ok(None);
     }
     if let Some(advice) = of_flag(alloc, spot)? {
+        return Ok(Some(advice));
+    }
+    if let Some(advice) = of_unit(alloc, spot)? {
         return Ok(Some(advice));
     }
     match of_word_alone(spot) {
@@ -405,6 +431,9 @@ fn of_other_form<'a>(alloc: Global, spot: Spot<'a>) -> Found<'a> {
     if let Some(advice) = of_range(alloc, spot)? {
         return Ok(Some(advice));
     }
+    if let Some(advice) = of_compared_port(alloc, spot)? {
+        return Ok(Some(advice));
+    }
     if let Some(advice) = of_net(alloc, spot)? {
         return Ok(Some(advice));
     }
@@ -477,9 +506,10 @@ fn of_place<'a>(alloc: Global, spot: Spot<'a>) -> Found<'a> {
     of_dots(alloc, spot)
 }
 
-/// What helps to fix a text that is refused with this fault, as `parse` returns it. A word is suggested only if the text with it put in is
-/// an expression, or reads on past it. There is an advice for each fault but `NoMemory`. The error is that memory was refused, without which
-/// a suggestion cannot be tried.
+/// What helps to fix a text that is refused with this fault, as `parse` returns it. A word is
+/// suggested only if the text with it put in is an expression, or reads on past it. There is an
+/// advice for each fault but `NoMemory`. The error is that memory was refused, without which a
+/// suggestion cannot be tried.
 pub fn advise<'a>(
     alloc: Global,
     text: &'a str,
@@ -547,7 +577,8 @@ fn sentence(fault: Fault) -> &'static str
     }
 }
 
-/// What helps to fix an expression that has no program: nothing at a bad snapshot length or refused memory.
+/// What helps to fix an expression that has no program: nothing at a bad snapshot length or refused
+/// memory.
 pub fn advise_refusal(refusal: Refusal) -> Option<Advice<'static>>
     ensures some { IsSome result ↔ ((refusal ≡ Refusal.TooLong) ⊎ (refusal ≡ Refusal.TooDeep)) }
     ensures long { refusal ≡ Refusal.TooLong → result ≡ Some LongProgram }

@@ -41,7 +41,8 @@ fn parts_of(text: &[u8]) -> Option<(&[u8], &[u8])> {
     Some((text.get(..colon)?, text.get(colon + 1..)?))
 }
 
-/// Whether a test that begins at a place may be two, joined by `and`: nothing is before it, or what such a test follows.
+/// Whether a test that begins at a place may be two, joined by `and`: nothing is before it, or what
+/// such a test follows.
 fn takes_two_tests(start: Spot<'_>) -> bool {
     let before = without_blanks(start.before());
     before.is_empty() || BEFORE_TESTS.iter().any(|end| before.ends_with(*end))

@@ -42,7 +42,65 @@ static OF_TEXT: [&[u8]; 2] = [b"contains", b"matches"];
 /// What asks whether a field has a value, the longer first.
 static EQUALS: [&[u8]; 3] = [b"==", b"=", b"eq "];
 
-/// A field, and what is written for it and for what follows up to its value, if that ends in a blank; else for the field.
+/// What asks whether a field has another value.
+static DIFFERS: [&[u8]; 2] = [b"!=", b"ne "];
+
+/// A word that compares, and the sign for it.
+struct Comparison {
+    word: &'static [u8],
+    sign: &'static str,
+}
+
+static COMPARING_WORDS: [Comparison; 6] = [
+    Comparison {
+        word: b"eq ",
+        sign: "=",
+    },
+    Comparison {
+        word: b"ne ",
+        sign: "!=",
+    },
+    Comparison {
+        word: b"gt ",
+        sign: ">",
+    },
+    Comparison {
+        word: b"lt ",
+        sign: "<",
+    },
+    Comparison {
+        word: b"ge ",
+        sign: ">=",
+    },
+    Comparison {
+        word: b"le ",
+        sign: "<=",
+    },
+];
+
+/// Words for a type of ICMP, and what asks for it.
+struct IcmpType {
+    words: &'static [&'static [u8]],
+    written: &'static str,
+}
+
+static ICMP_TYPES: [IcmpType; 3] = [
+    IcmpType {
+        words: &[b"echo", b"echo-request", b"ping"],
+        written: "icmp[icmptype] = icmp-echo",
+    },
+    IcmpType {
+        words: &[b"echoreply", b"echo-reply", b"pong"],
+        written: "icmp[icmptype] = icmp-echoreply",
+    },
+    IcmpType {
+        words: &[b"unreach", b"unreachable"],
+        written: "icmp[icmptype] = icmp-unreach",
+    },
+];
+
+/// A field, and what is written for it and for what follows up to its value, if that ends in a
+/// blank; else for the field.
 struct Field {
     name: &'static [u8],
     written: &'static str,
@@ -163,11 +221,14 @@ static FIELDS: [Field; 28] = [
     },
 ];
 
-/// A flag: the field of it, words that it may be asked by, and what asks whether it is set.
+/// A flag: the field of it, words that it may be asked by, what asks whether it is set and whether
+/// it is not, and its name as a value.
 struct Flag {
     name: &'static [u8],
     words: &'static [&'static [u8]],
     written: &'static str,
+    unset: &'static str,
+    value: &'static str,
 }
 
 static FLAGS: [Flag; 8] = [
@@ -175,41 +236,57 @@ static FLAGS: [Flag; 8] = [
         name: b"tcp.flags.syn",
         words: &[b"syn"],
         written: "tcp[tcpflags] & tcp-syn != 0",
+        unset: "tcp[tcpflags] & tcp-syn = 0",
+        value: "tcp-syn",
     },
     Flag {
         name: b"tcp.flags.ack",
         words: &[b"ack"],
         written: "tcp[tcpflags] & tcp-ack != 0",
+        unset: "tcp[tcpflags] & tcp-ack = 0",
+        value: "tcp-ack",
     },
     Flag {
         name: b"tcp.flags.fin",
         words: &[b"fin"],
         written: "tcp[tcpflags] & tcp-fin != 0",
+        unset: "tcp[tcpflags] & tcp-fin = 0",
+        value: "tcp-fin",
     },
     Flag {
         name: b"tcp.flags.reset",
         words: &[b"rst"],
         written: "tcp[tcpflags] & tcp-rst != 0",
+        unset: "tcp[tcpflags] & tcp-rst = 0",
+        value: "tcp-rst",
     },
     Flag {
         name: b"tcp.flags.push",
         words: &[b"psh", b"push"],
         written: "tcp[tcpflags] & tcp-push != 0",
+        unset: "tcp[tcpflags] & tcp-push = 0",
+        value: "tcp-push",
     },
     Flag {
         name: b"tcp.flags.urg",
         words: &[b"urg"],
         written: "tcp[tcpflags] & tcp-urg != 0",
+        unset: "tcp[tcpflags] & tcp-urg = 0",
+        value: "tcp-urg",
     },
     Flag {
         name: b"ip.flags.mf",
         words: &[],
         written: "ip[6:2] & 0x2000 != 0",
+        unset: "ip[6:2] & 0x2000 = 0",
+        value: "0x2000",
     },
     Flag {
         name: b"ip.flags.df",
         words: &[],
         written: "ip[6:2] & 0x4000 != 0",
+        unset: "ip[6:2] & 0x4000 = 0",
+        value: "0x4000",
     },
 ];
 
@@ -314,15 +391,20 @@ fn is_field(name: &[u8], after: &[u8]) -> bool {
     PROTOCOLS.contains(&protocol) || is_compared(after)
 }
 
-/// How many bytes ask whether a field has the value after them, with blanks.
-fn equals_len(after: &[u8]) -> Option<usize> {
+/// How many bytes before a value one of these signs has, with blanks.
+fn sign_len(after: &[u8], signs: &[&[u8]]) -> Option<usize> {
     let sign = after_blanks(after);
-    for equals in EQUALS.iter() {
-        if let Some(value) = sign.strip_prefix(*equals) {
+    for one in signs.iter() {
+        if let Some(value) = sign.strip_prefix(*one) {
             return Some(after.len().saturating_sub(after_blanks(value).len()));
         }
     }
     None
+}
+
+/// How many bytes ask whether a field has the value after them, with blanks.
+fn equals_len(after: &[u8]) -> Option<usize> {
+    sign_len(after, &EQUALS)
 }
 
 /// What is written for a field, and for what follows it up to its value.
@@ -346,22 +428,69 @@ fn written_for<'a>(alloc: Global, spot: Spot<'a>, run: Run<'a>, after: &[u8]) ->
     }
 }
 
-/// What is written for a flag that is asked to be set, up to the 1 after it.
-fn written_for_flag<'a>(alloc: Global, spot: Spot<'a>, run: Run<'a>, after: &[u8]) -> Found<'a> {
-    let Some(flag) = FLAGS.iter().find(|flag| flag.name == run.bytes) else {
+/// What is written for a field with a word that compares, up to its value.
+fn written_for_comparison<'a>(
+    alloc: Global,
+    spot: Spot<'a>,
+    run: Run<'a>,
+    after: &[u8],
+) -> Found<'a> {
+    let next = after_blanks(after);
+    let field = FIELDS.iter().find(|field| field.name == run.bytes);
+    let comparison = COMPARING_WORDS
+        .iter()
+        .find(|one| next.starts_with(one.word));
+    let (Some(field), Some(comparison)) = (field, comparison) else {
         return Ok(None);
     };
-    let Some(equals) = equals_len(after) else {
+    let Some(sign) = sign_len(after, &[comparison.word]) else {
         return Ok(None);
     };
-    if after.get(equals) != Some(&b'1') {
+    if field.written.ends_with(" ") {
         return Ok(None);
     }
-    let len = run.bytes.len().saturating_add(equals).saturating_add(1);
+    let len = run.bytes.len().saturating_add(sign);
+    let written = format!(in alloc; "{} {} ", field.written, comparison.sign)?;
     match spot.without(run.start, len) {
-        Some(gap) if gap.takes(alloc, flag.written)? => {
+        Some(gap) if gap.takes(alloc, written.as_str())? => {
             let replaced = spot.between(run.start, run.start.saturating_add(len));
-            Ok(Some(Advice::Field(flag.written, replaced)))
+            Ok(Some(Advice::Compared(field.written, comparison.sign, without_blanks(replaced))))
+        }
+        _ => Ok(None),
+    }
+}
+
+/// Whether a flag is asked to be set, by the sign after its field and by a 0 or a 1, and how many
+/// bytes these have.
+fn asked_of_flag(after: &[u8]) -> Option<(bool, usize)> {
+    let equals = equals_len(after);
+    let len = equals.or_else(|| sign_len(after, &DIFFERS))?;
+    let end = len.saturating_add(1);
+    if after
+        .get(end)
+        .is_some_and(|next| next.is_ascii_alphanumeric())
+    {
+        return None;
+    }
+    match after.get(len) {
+        Some(b'1') => Some((equals.is_some(), end)),
+        Some(b'0') => Some((equals.is_none(), end)),
+        _ => None,
+    }
+}
+
+/// What is written for a flag that is asked to be set, or not to be, up to the number after it.
+fn written_for_flag<'a>(alloc: Global, spot: Spot<'a>, run: Run<'a>, after: &[u8]) -> Found<'a> {
+    let flag = FLAGS.iter().find(|flag| flag.name == run.bytes);
+    let (Some(flag), Some((is_set, asked))) = (flag, asked_of_flag(after)) else {
+        return Ok(None);
+    };
+    let written = if is_set { flag.written } else { flag.unset };
+    let len = run.bytes.len().saturating_add(asked);
+    match spot.without(run.start, len) {
+        Some(gap) if gap.takes(alloc, written)? => {
+            let replaced = spot.between(run.start, run.start.saturating_add(len));
+            Ok(Some(Advice::Field(written, replaced)))
         }
         _ => Ok(None),
     }
@@ -369,7 +498,10 @@ fn written_for_flag<'a>(alloc: Global, spot: Spot<'a>, run: Run<'a>, after: &[u8
 
 /// What is written for a field or a flag, and for what follows it.
 fn written_at<'a>(alloc: Global, spot: Spot<'a>, run: Run<'a>, after: &[u8]) -> Found<'a> {
-    match written_for_flag(alloc, spot, run, after)? {
+    if let Some(advice) = written_for_flag(alloc, spot, run, after)? {
+        return Ok(Some(advice));
+    }
+    match written_for_comparison(alloc, spot, run, after)? {
         Some(advice) => Ok(Some(advice)),
         None => written_for(alloc, spot, run, after),
     }
@@ -385,7 +517,8 @@ fn is_filter_file(name: &[u8]) -> bool {
     FILTER_FILES.iter().any(|end| name.ends_with(*end))
 }
 
-/// What helps at a name with dots: a field, or the name of a capture, of a file with a filter, or of a host.
+/// What helps at a name with dots: a field, or the name of a capture, of a file with a filter, or
+/// of a host.
 pub(crate) fn of_dots<'a>(alloc: Global, spot: Spot<'a>) -> Found<'a> {
     let run = spot.run();
     let end = run.start.saturating_add(run.bytes.len());
@@ -437,16 +570,31 @@ fn flag_named(word: &[u8]) -> Option<&'static Flag> {
         .any(|name| name.eq_ignore_ascii_case(word)))
 }
 
-/// What helps at the name of a flag of TCP.
+/// What asks for the type of ICMP that a word names.
+fn icmp_type_named(word: &[u8]) -> Option<&'static str> {
+    let named = ICMP_TYPES.iter().find(|one| one.words.contains(&word))?;
+    Some(named.written)
+}
+
+/// What helps at the name of a flag of TCP, or of a type of ICMP.
 pub(crate) fn of_flag<'a>(alloc: Global, spot: Spot<'a>) -> Found<'a> {
-    match flag_named(spot.word()) {
-        Some(flag) if !spot.has_backslash() => of_named_flag(alloc, spot, flag.written),
-        _ => Ok(None),
+    if spot.has_backslash() {
+        return Ok(None);
+    }
+    if let Some(written) = icmp_type_named(spot.word()) {
+        return of_named(alloc, spot, written);
+    }
+    let Some(flag) = flag_named(spot.word()) else {
+        return Ok(None);
+    };
+    match of_named(alloc, spot, flag.written)? {
+        Some(advice) => Ok(Some(advice)),
+        None => of_written(alloc, spot, flag.value),
     }
 }
 
-/// What helps at the name of a flag that is asked for so: that, or that after an `and`.
-fn of_named_flag<'a>(alloc: Global, spot: Spot<'a>, written: &'static str) -> Found<'a> {
+/// What helps at a name that is asked for so: that, or that after an `and`.
+fn of_named<'a>(alloc: Global, spot: Spot<'a>, written: &'static str) -> Found<'a> {
     if let Some(advice) = of_written(alloc, spot, written)? {
         return Ok(Some(advice));
     }

@@ -12,7 +12,8 @@ const AROUND: usize = 36;
 /// What is shown in place of the text before or after the part that is shown.
 const CUT: &str = "..";
 
-/// The part of a text around a place, as it is shown: at most 36 bytes before the place and 36 from there on, with `..` for what is left out.
+/// The part of a text around a place, as it is shown: at most 36 bytes before the place and 36 from
+/// there on, with `..` for what is left out.
 #[derive(Clone, Copy)]
 pub struct Excerpt<'a> {
     text: &'a str,
@@ -40,7 +41,8 @@ impl<'a> Excerpt<'a> {
     }
 }
 
-/// The text, a character in a column: every character before the place that a fault names is ASCII, since tokens are.
+/// The text, a character in a column: every character before the place that a fault names is ASCII,
+/// since tokens are.
 impl Display for Excerpt<'_> {
     fn fmt<W: fmt::Write>(&self, f: &mut Formatter<W>) -> fmt::Result {
         if self.start > 0 {

@@ -1,4 +1,5 @@
-//! What helps at a comparison that lacks its left side, as `len > 60 and <100` and `60 < len < 100`.
+//! What helps at a comparison that lacks its left side, as `len > 60 and <100` and
+//! `60 < len < 100`.
 
 use crate::advice::{Advice, Found};
 use crate::spots::{Spot, after_blanks, first_word, without_blanks};
@@ -53,7 +54,8 @@ fn comparison_at<'a>(text: &'a [u8], sign: &[u8]) -> &'a [u8] {
     text.get(..len).unwrap_or(text)
 }
 
-/// What helps at the sign of a comparison right after what joins two terms: the left side of the comparison before it, written again.
+/// What helps at the sign of a comparison right after what joins two terms: the left side of the
+/// comparison before it, written again.
 fn of_left_side<'a>(alloc: Global, spot: Spot<'a>, sign: &'a [u8]) -> Found<'a> {
     let Some(value) = without_joint(spot.before()).and_then(last_left_side) else {
         return Ok(None);
@@ -68,7 +70,8 @@ fn of_left_side<'a>(alloc: Global, spot: Spot<'a>, sign: &'a [u8]) -> Found<'a> 
     }
 }
 
-/// What helps at the second sign of a value between two, as `60 < len < 100`: `and`, and the value written again.
+/// What helps at the second sign of a value between two, as `60 < len < 100`: `and`, and the value
+/// written again.
 fn of_chain<'a>(alloc: Global, spot: Spot<'a>, sign: &'a [u8]) -> Found<'a> {
     let Some(value) = last_right_side(spot.before()) else {
         return Ok(None);

@@ -9,6 +9,7 @@ mod excerpt;
 mod left_sides;
 mod nearest;
 mod other_words;
+mod ports;
 mod spots;
 mod suggestions;
 mod terms;

@@ -30,7 +30,8 @@ static AFTER_ETHER: [&[u8]; 6] = [
 /// The word of libpcap's language for wireless links.
 const WIRELESS: &[u8] = b"wlan";
 
-/// A word of libpcap's language that no program for captures stands for, and what is written instead.
+/// A word of libpcap's language that no program for captures stands for, and what is written
+/// instead.
 struct Remark {
     word: &'static [u8],
     said: &'static str,
@@ -66,7 +67,8 @@ struct ByNumber {
     primitive: &'static str,
 }
 
-/// Protocols over IPv4 that have no name after `proto`: all but the last are no words of the language.
+/// Protocols over IPv4 that have no name after `proto`: all but the last are no words of the
+/// language.
 static BY_NUMBER: [ByNumber; 8] = [
     ByNumber {
         name: b"igmp",
@@ -142,6 +144,9 @@ static OTHER_WORDS: [OtherWord; 6] = [
         written: "ether host",
     },
 ];
+
+/// Units of lengths, which have no word here.
+static UNITS: [&[u8]; 4] = [b"bytes", b"byte", b"octets", b"octet"];
 
 /// Words of other tools for every packet.
 static EVERY_PACKET: [&[u8]; 2] = [b"any", b"all"];
@@ -260,6 +265,21 @@ pub(crate) fn of_written<'a>(alloc: Global, spot: Spot<'a>, written: &'static st
     }
 }
 
+/// What helps at the unit of a length, if the text reads on without it.
+pub(crate) fn of_unit<'a>(alloc: Global, spot: Spot<'a>) -> Found<'a> {
+    if !UNITS.contains(&spot.word()) {
+        return Ok(None);
+    }
+    match spot.without_name() {
+        Some(gap) if gap.takes(alloc, "")? => Ok(Some(Advice::Round(
+            "leave out `",
+            spot.word(),
+            "`: lengths are numbers of bytes",
+        ))),
+        _ => Ok(None),
+    }
+}
+
 /// What helps at a word for every packet, if the text has no other.
 pub(crate) fn of_every_packet<'a>(spot: Spot<'a>) -> Option<Advice<'a>> {
     if EVERY_PACKET.contains(&spot.word()) && spot.is_whole_text() {
@@ -280,7 +300,8 @@ fn of_ether<'a>(alloc: Global, spot: Spot<'a>) -> Found<'a> {
     }
 }
 
-/// What helps at a word of libpcap's language, or at a protocol, for which something else is written here.
+/// What helps at a word of libpcap's language, or at a protocol, for which something else is
+/// written here.
 pub(crate) fn of_other_word<'a>(alloc: Global, spot: Spot<'a>) -> Found<'a> {
     let word = spot.word();
     if let Some(other) = OTHER_WORDS.iter().find(|other| other.word == word) {
@@ -297,7 +318,8 @@ pub(crate) fn of_other_word<'a>(alloc: Global, spot: Spot<'a>) -> Found<'a> {
     Ok(None)
 }
 
-/// What helps at a word for what this profile leaves out, or that no program for captures stands for.
+/// What helps at a word for what this profile leaves out, or that no program for captures stands
+/// for.
 pub(crate) fn of_left_out<'a>(spot: Spot<'a>) -> Option<Advice<'a>> {
     let (before, after) = ("only Ethernet with IPv4 is supported, not `", "`");
     let word = spot.word();

@@ -14,7 +14,8 @@ static BEFORE_NAMES: [&[u8]; 4] = [HOST, b"net", b"port", b"portrange"];
 /// The word that the number or the name of a protocol follows.
 pub(crate) const PROTO: &[u8] = b"proto";
 
-/// The letters, digits and signs of names and addresses around a place: where they begin, and the bytes.
+/// The letters, digits and signs of names and addresses around a place: where they begin, and the
+/// bytes.
 #[derive(Clone, Copy)]
 pub(crate) struct Run<'a> {
     pub start: usize,
@@ -42,7 +43,8 @@ impl<'a> Spot<'a> {
         Spot::new(self.text, place)
     }
 
-    /// The letters, digits and signs of names and addresses around the place; none if none is there.
+    /// The letters, digits and signs of names and addresses around the place; none if none is
+    /// there.
     pub(crate) fn run(&self) -> Run<'a> {
         let rest = self.rest();
         let len = rest.iter().position(is_outside_runs).unwrap_or(rest.len());

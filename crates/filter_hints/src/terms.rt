@@ -34,7 +34,8 @@ pub(crate) fn without_joint(text: &[u8]) -> Option<&[u8]> {
     None
 }
 
-/// How many bytes at the front of a text come before a term there; nothing if no term begins after them.
+/// How many bytes at the front of a text come before a term there; nothing if no term begins after
+/// them.
 fn joint_len(text: &[u8]) -> Option<usize> {
     let joint = BEFORE_TERMS.iter().find(|joint| text.starts_with(**joint))?;
     Some(joint.len())
@@ -80,7 +81,8 @@ fn after_not(term: &[u8]) -> Option<&[u8]> {
     }
 }
 
-/// The value at the end of a text, if its last term is one: without blanks around it, and without what negates it.
+/// The value at the end of a text, if its last term is one: without blanks around it, and without
+/// what negates it.
 pub(crate) fn last_value(text: &[u8]) -> &[u8] {
     let mut value = after_blanks(without_blanks(last_term(text)));
     for _ in 0..value.len() {

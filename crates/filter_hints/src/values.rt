@@ -85,7 +85,8 @@ fn of_constant<'a>(alloc: Global, spot: Spot<'a>, value: &'a [u8]) -> Found<'a> 
     }
 }
 
-/// What is said of a value that nothing compares. If it is all of the text, in one word, the shell may have taken the rest.
+/// What is said of a value that nothing compares. If it is all of the text, in one word, the shell
+/// may have taken the rest.
 fn uncompared(spot: Spot<'_>) -> &'static str {
     if spot.rest().is_empty() && !spot.before().contains(&b' ') {
         "a value has to be compared: write `!= 0` after it, or what it is to be; without quotes the shell takes `<`, `>` and `&` for itself"
@@ -94,7 +95,8 @@ fn uncompared(spot: Spot<'_>) -> &'static str {
     }
 }
 
-/// What helps at the end of a value that nothing compares, if the text is an expression with this comparison there.
+/// What helps at the end of a value that nothing compares, if the text is an expression with this
+/// comparison there.
 pub(crate) fn of_comparison<'a>(alloc: Global, spot: Spot<'a>, comparison: &str) -> Found<'a> {
     match spot.before_word() {
         Some(gap) if gap.is_whole_with(alloc, comparison)? => {}

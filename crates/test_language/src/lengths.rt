@@ -1,4 +1,4 @@
-//! Expressions of every length are read where memory is there, which no contract can say.
+//! Expressions of every length are read if memory is there, which no contract can say.
 
 use filterlang::{MAX_TEXT, lex, parse};
 use std::process::Abort;

@@ -1,5 +1,6 @@
-//! Tests of `filterlang`, `filter_print` and `filter_hints`, of what no contract says and the program does not show: which tokens a text has, that
-//! memory suffices, and the callers of their pages.
+//! Tests of `filterlang`, `filter_print` and `filter_hints`, of what no contract says and the
+//! program does not show: which tokens a text has, that memory suffices, and the callers of their
+//! pages.
 #![tactic(auto)]
 
 #[cfg(test)]
