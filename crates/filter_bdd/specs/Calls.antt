@@ -1,4 +1,4 @@
--- Operations on nodes, and what a computed cache keeps of them. Private clauses alone say this.
+-- Operations on nodes, and what a computed cache keeps of them. Only private clauses say this.
 use Rattle.std.specs.Prelude.{◌≡◌, ⊤, ℕ, ◌<◌, Bool, List, Option, Some, None, All, IfSome, length}
 use Rattle.filter_bdd.specs.declared.answer.Answer.{Answer}
 use Rattle.filter_bdd.specs.declared.table.Node.{Node}

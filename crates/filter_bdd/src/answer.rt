@@ -18,21 +18,24 @@ pub enum Answer {
 pub enum Operation {
     And,
     Or,
-    /// Yes where one says Yes and the other No. Both are needed.
+    /// Yes if one says Yes and the other No. Both are needed.
     Xor,
-    /// The second answer where the first says Yes, the third where it says No. What the first needs is needed too.
+    /// The second answer if the first says Yes, the third if it says No. What the first needs
+    /// is needed too.
     Ite,
-    /// Yes where both accept from the same number of captured bytes on, or neither ever does. Else No, from as many on as the first to
-    /// accept needs.
+    /// Yes if both accept from the same number of captured bytes on, or neither ever does. Else
+    /// No, from as many on as the first to accept needs.
     Agree,
-    /// No where one says Yes and the other No, from as many captured bytes on as both need; else Yes.
+    /// No if one says Yes and the other No, from as many captured bytes on as both need; else
+    /// Yes.
     Apart,
-    /// The second answer, but Yes in place of a No that needs N bytes or more, where the first one says No of a packet shorter than N.
+    /// The second answer, but Yes in place of a No that needs N bytes or more, if the first one
+    /// says No of a packet shorter than N.
     Cut,
 }
 
 impl Answer {
-    /// The answer, where `need` captured bytes are needed too.
+    /// The answer, if `need` captured bytes are needed too.
     fn after(self, need: u32) -> Answer
         ensures { result ≡ after need self }
     {
@@ -95,8 +98,8 @@ impl Answer {
         }
     }
 
-    /// Whether two answers accept from the same number of captured bytes on: No where they do not, from as many on as the first to accept
-    /// needs.
+    /// Whether two answers accept from the same number of captured bytes on: No if they do not,
+    /// from as many on as the first to accept needs.
     fn agree(self, second: Answer) -> Answer
         ensures { result ≡ agree_from (accepted_from self) (accepted_from second) }
     {
@@ -109,7 +112,8 @@ impl Answer {
         }
     }
 
-    /// What is left of the second answer where the first one is a comparison of the length on the wire with its need.
+    /// What is left of the second answer if the first one is a comparison of the length on the
+    /// wire with its need.
     fn cut(self, second: Answer) -> Answer
         ensures { result ≡ cut_answer self second }
     {
@@ -121,7 +125,8 @@ impl Answer {
         }
     }
 
-    /// Whether two answers are never Yes and No: No where they are, from as many captured bytes on as both need.
+    /// Whether two answers are never Yes and No: No if they are, from as many captured bytes on
+    /// as both need.
     fn apart(self, second: Answer) -> Answer
         ensures { result ≡ apart_answer self second }
     {

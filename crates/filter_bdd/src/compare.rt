@@ -36,7 +36,8 @@ fn is_set(number: u64, bit: u32) -> bool
 }
 
 impl Diagrams {
-    /// Puts a bit before what the bits below it answer. The bit counts as 0 if the mask leaves it out.
+    /// Puts a bit before what the bits below it answer. The bit counts as 0 if the mask leaves it
+    /// out.
     #[tactic(auto, using(crate::proofs::Tables::grown_more, crate::proofs::Tables::grown_same, crate::proofs::Tables::grown_inside))]
     fn compare_bit(
         &mut self,

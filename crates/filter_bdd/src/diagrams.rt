@@ -12,13 +12,16 @@ use crate::table::{Node, Stop, UniqueTable};
 use std::alloc::Global;
 use std::marker::Model;
 
-/// How many bits deep a call goes at first before it puts the rest off. So it needs a bounded stack.
+/// How many bits deep a call goes at first before it puts the rest off. So it needs a bounded
+/// stack.
 const DEPTH: u32 = 96;
 
-/// How many more bits deep a later try goes, at most. So a result that the cache forgot is made again of those below it.
+/// How many more bits deep a later try goes, at most. So a result that the cache forgot is made
+/// again of those below it.
 const MORE: u64 = 64;
 
-/// How often a call puts off another one that goes on below it. Diagrams that ask for more bits in a row are over the budget.
+/// How often a call puts off another one that goes on below it. Diagrams that ask for more bits in
+/// a row are over the budget.
 const LEVELS: u32 = 256;
 
 /// The most entries that the computed cache has.
@@ -31,7 +34,8 @@ pub struct Budget {
     pub steps: u64,
 }
 
-/// Binary decision diagrams: their nodes, each of which is there once, and a computed cache of the operations on them.
+/// Binary decision diagrams: their nodes, each of which is there once, and a computed cache of the
+/// operations on them.
 #[derive(Drop)]
 pub struct Diagrams {
     table: UniqueTable,
@@ -106,8 +110,8 @@ impl Diagrams {
         }
     }
 
-    /// Sets the order in which bits are asked for. It is to be set before nodes are made: two nodes that ask in other orders may say the
-    /// same and not be one.
+    /// Sets the order in which bits are asked for. It is to be set before nodes are made: two nodes
+    /// that ask in other orders may say the same and not be one.
     pub fn set_order(&mut self, order: Order)
         ensures { self.new ≡ self.old }
     {
@@ -191,7 +195,8 @@ impl Diagrams {
         }
     }
 
-    /// Where a node goes on if a bit is known: at one of its children, or where it does not ask for the bit at itself.
+    /// Where a node goes on if a bit is known: at one of its children, or where it does not ask for
+    /// the bit at itself.
     fn half(&self, place: u32, bit: u32, one: bool) -> u32
         requires { place < length self.now }
         ensures inside { result < length self.now }
@@ -203,7 +208,7 @@ impl Diagrams {
         }
     }
 
-    /// The same call, where a bit is known.
+    /// The same call, if a bit is known.
     fn half_of(&self, call: Call, bit: u32, one: bool) -> Call
         requires { IsInside self.now call }
         ensures inside { IsInside self.now result }
@@ -253,7 +258,8 @@ impl Diagrams {
         self.cache.get(call)
     }
 
-    /// Keeps the node of a call, and returns its place. The cache has about as many entries as there are nodes, up to its most.
+    /// Keeps the node of a call, and returns its place. The cache has about as many entries as
+    /// there are nodes, up to its most.
     fn keep(&mut self, call: Call, place: u32) -> Result<u32, Stop>
         requires inside { IsInside self.old call }
         requires result { IsResult self.old call place }
@@ -301,7 +307,8 @@ impl Diagrams {
         self.keep(call, place)
     }
 
-    /// The node of a call that goes at most `depth` bits deep, or else a call below it that is wanted first.
+    /// The node of a call that goes at most `depth` bits deep, or else a call below it that is
+    /// wanted first.
     #[tactic(auto, using(crate::proofs::Tables::grown_more, crate::proofs::Tables::grown_same, crate::proofs::Tables::grown_inside))]
     fn apply_within(&mut self, call: Call, depth: u32) -> Result<Applied, Stop>
         requires { IsInside self.old call }
@@ -340,7 +347,8 @@ impl Diagrams {
         Ok(Applied::Node(self.apply_halves(call, bit, zero, one)?))
     }
 
-    /// The node of a call. It puts off calls that go on far below, and tries again with what they gave.
+    /// The node of a call. It puts off calls that go on far below, and tries again with what they
+    /// gave.
     #[tactic(auto, using(crate::proofs::Tables::grown_more, crate::proofs::Tables::grown_same, crate::proofs::Tables::grown_inside))]
     fn apply_call(&mut self, call: Call, levels: u32) -> Result<u32, Stop>
         requires { IsInside self.old call }

@@ -1,7 +1,8 @@
 //! Binary decision diagrams whose leaves are answers of a filter.
 //!
-//! [`Diagrams`] keeps nodes, each of which says an answer at every assignment of bits, and joins them by operations. What the bits are, and
-//! what the answers are about, is no concern of this crate.
+//! [`Diagrams`] keeps nodes, each of which says an answer at every assignment of bits, and joins
+//! them by operations. What the bits are, and what the answers are about, is no concern of this
+//! crate.
 #![tactic(auto)]
 
 mod answer;

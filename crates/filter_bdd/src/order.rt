@@ -3,8 +3,8 @@
 use crate::table::Stop;
 use std::alloc::Global;
 
-/// The order in which nodes ask for bits. What a node answers does not depend on it, but how many nodes there are does: bits that are
-/// compared with one another are best asked for in turn.
+/// The order in which nodes ask for bits. What a node answers does not depend on it, but how many
+/// nodes there are does: bits that are compared with one another are best asked for in turn.
 #[derive(Drop)]
 pub struct Order {
     /// When a bit is asked for, by its name.
@@ -22,7 +22,8 @@ impl Order {
         }
     }
 
-    /// First these bits, as they stand in the list, and then the others by their names. A bit that stands there twice has its first place.
+    /// First these bits, as they stand in the list, and then the others by their names. A bit that
+    /// stands there twice has its first place.
     pub fn of(alloc: Global, first: &[u32]) -> Result<Order, Stop> {
         let Ok(listed) = u32::try_from(first.len()) else {
             return Err(Stop::Budget);

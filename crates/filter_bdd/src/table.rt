@@ -7,7 +7,8 @@ use crate::answer::Answer;
 use std::alloc::Global;
 use std::marker::Model;
 
-/// A node of a diagram: an answer, or a bit and the places of the nodes that go on where it is 0 and where it is 1.
+/// A node of a diagram: an answer, or a bit and the places of the nodes that go on if it is 0
+/// and if it is 1.
 #[derive(Clone, Copy, Debug, PartialEq, Eq)]
 pub enum Node {
     Leaf(Answer),
@@ -48,8 +49,9 @@ impl Node {
 
 /// Nodes by their places, each once. A node names only nodes before it.
 ///
-/// The nodes are in lists, by their hashes. A list is the place of its last node, and each node has that of the one before it in its list.
-/// Such a place is one more than it is, and 0 where there is none.
+/// The nodes are in lists, by their hashes. A list is the place of its last node, and each node has
+/// that of the one before it in its list. Such a place is one more than it is, and 0 if there is
+/// none.
 #[derive(Drop)]
 pub(crate) struct UniqueTable {
     nodes: Vec<Node>,

@@ -38,7 +38,7 @@ answer-short c need s short =
     let e : nat_le need c ≡ false = grind (arith, nat_tests) in
     ap (λ t. if t then decided s else Abort) e
 
--- three answers that stand from so many captured bytes on
+-- three answers that hold from this many captured bytes on
 three : (need : ℕ) (m n : ℕ) (l e g : Bool) (less equal greater : Answer)
     → less ≡ Final need l → equal ≡ Final need e → greater ≡ Final need g
     → by_order m n less equal greater ≡ Final need (by_order m n l e g)
@@ -122,14 +122,14 @@ check-both f g (Some x) = by (f x)
     by true = refl
     by false = refl
 
--- with no first byte of the header there is nothing behind it
+-- with no first byte of the header there is nothing after it
 none-behind : (p : Packet) (o : ℕ) → byte 14 p ≡ None → 14 ≤ o → half o p ≡ None
 none-behind p o none far = elim (cases_lt 14 (length p.captured)) [
   | inl there ↦ absurd (let e : None ≡ Some (big_endian (take 1 (drop 14 p.captured))) = sym none ∙ number-some p.captured 14 1 (omega arith) in let f : ⊥ = cc in f)
   | inr past ↦ number-none p.captured o 2 (omega arith)
 ]
 
--- where a header's length is known, so is what stands behind it
+-- where a header's length is known, so is what comes after it
 half-behind : (p : Packet) (n offset : ℕ) → HasHeader (Some n) p → half_behind_header offset p ≡ half (14 + 4 * n + offset) p
 half-behind p n offset head = by (byte 14 p) refl
   where
@@ -137,7 +137,7 @@ half-behind p n offset head = by (byte 14 p) refl
     by None none = ap (option_and_then (λ k. half (14 + 4 * bit_and k 15 + offset) p)) none ∙ sym (none-behind p (14 + 4 * n + offset) none (omega arith))
     by (Some b) is = ap (option_and_then (λ k. half (14 + 4 * bit_and k 15 + offset) p)) is ∙ ap (λ m. half (14 + 4 * m + offset) p) (head b is)
 
--- a port behind a header whose length is known
+-- a port past a header whose length is known
 pub port-said : (p : Packet) (low high n offset : ℕ) (header : Option ℕ) → header ≡ Some n → HasHeader header p
     → and_then (check (λ x. nat_le low x) (half (14 + 4 * n + offset) p)) (check (λ x. nat_le x high) (half (14 + 4 * n + offset) p)) ≡ check (within low high) (half_behind_header offset p)
 port-said p low high n offset header is head =

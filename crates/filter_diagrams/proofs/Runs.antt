@@ -192,7 +192,7 @@ runs-last program p s (e ∷ before) last n i (inr (next, step, is, later)) here
     ∙ ap (λ place. run_test (drop place program) 0 next.registers p) (sym step.place)
     ∙ runs-last program p next before last n i later here
 
--- so what it says is told by its end
+-- so its end determines what it says
 pub end-says : (program : List Insn) (p : Packet) (place : ℕ) (how : How) → IsEnd program p.captured p.wire place how → verdict_by how ≡ program_test program p
 end-says program p place how is =
     ap verdict_by is.why

@@ -1,4 +1,4 @@
--- States: the words that registers and cells hold on a way through a program. Private clauses alone say this.
+-- States: the words that registers and cells hold on a way through a program. Only private clauses say this.
 use Rattle.std.specs.Prelude.{◌≡◌, ⊤, ℕ, ◌<◌, ◌⊎◌, List, length, Option, Some, None, IfSome, slice_index, slice_index_or}
 use Rattle.bpfvm.specs.Machine.{Registers, initial}
 use Rattle.filter_meaning.specs.Meaning.{Packet}

@@ -1,4 +1,4 @@
--- What instructions do by the words of a state, and what a node says of the rest of a run. Private clauses alone say this.
+-- What instructions do by the words of a state, and what a node says of the rest of a run. Only private clauses say this.
 use Rattle.std.specs.Prelude.{◌≡◌, ⊤, ℕ, ◌<◌, ◌⊎◌, List, [], ◌∷◌, Bool, true, false, length, drop, Option, nat_lt, if◌then◌else◌}
 use Rattle.bpfvm.specs.declared.insn.Insn.{Insn}
 use Rattle.bpfvm.specs.Codes.{Operand}

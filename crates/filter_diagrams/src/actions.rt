@@ -69,7 +69,8 @@ pub enum Action {
     ReturnAccumulator,
 }
 
-/// The number that an instruction of a code loads, and the register that it goes into, if it loads one and calculates nothing.
+/// The number that an instruction of a code loads, and the register that it goes into, if it loads
+/// one and calculates nothing.
 fn load_of(code: u16) -> Option<(Register, Source)>
     ensures { IfSome result (λ l. IsAction (operation_of code) (Action.Load l.0 l.1)) }
 {

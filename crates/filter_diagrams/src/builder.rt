@@ -11,7 +11,8 @@ use filter_symbols::Symbols;
 use filter_tree::Direction;
 use std::alloc::Global;
 
-/// Makes nodes that say what tests say of packets, of those whose IPv4 header has so many words if that is given.
+/// Makes nodes that say what tests say of packets: of all of them, or of those whose IPv4 header
+/// has a given number of words.
 #[derive(Drop)]
 pub struct Builder {
     pub symbols: Symbols,

@@ -1,7 +1,8 @@
 //! Filters as decision diagrams.
 //!
-//! [`Builder`] makes a node of an expression or of a program. The node answers what the filter does, of every packet there can be, or of
-//! those whose IPv4 header has a given length. Two filters are compared by their nodes.
+//! [`Builder`] makes a node of an expression or of a program. The node answers what the filter
+//! does, of every packet there can be, or of those whose IPv4 header has a given length. Two
+//! filters are compared by their nodes.
 #![tactic(auto)]
 
 mod actions;

@@ -122,7 +122,8 @@ fn live_after(live: &[Live], place: usize, insn: &Insn, action: Action) -> Live 
     }
 }
 
-/// What is read from each place of a program on. Jumps only go forward, so the last place comes first.
+/// What is read from each place of a program on. Jumps only go forward, so the last place comes
+/// first.
 pub(crate) fn live_of(alloc: Global, insns: &[Insn]) -> Result<Vec<Live>, Stop> {
     let Ok(mut live) = vec![in alloc; Live::NOTHING; insns.len()] else {
         return Err(Stop::Memory);

@@ -34,7 +34,8 @@ impl Builder {
         Ok(State::of(self.symbols.words.constant(0)?))
     }
 
-    /// The node of a spot, by those of the spots after it; or else a spot after it whose node is not known.
+    /// The node of a spot, by those of the spots after it; or else a spot after it whose node is
+    /// not known.
     #[tactic(auto, using(crate::proofs::Builders::extends_more, crate::proofs::Builders::extends_same, crate::proofs::Builders::inside_extended))]
     #[inline(never)]
     fn node_of(&mut self, spots: &Spots, insns: &[Insn], spot: &Spot) -> Result<Visited, Refusal>
@@ -117,7 +118,8 @@ impl Builder {
         }
     }
 
-    /// Visits a spot, and returns the one that is to be visited next, if one is. A spot waits while those after it are visited.
+    /// Visits a spot, and returns the one that is to be visited next, if one is. A spot waits while
+    /// those after it are visited.
     #[tactic(auto, using(crate::proofs::Builders::extends_more, crate::proofs::Builders::extends_same, crate::proofs::Builders::inside_extended))]
     #[inline(never)]
     fn next_spot(
@@ -147,7 +149,8 @@ impl Builder {
         }
     }
 
-    /// A node that says what a program says. It is walked from the first instruction on, each place after those that its run goes on at.
+    /// A node that says what a program says. It is walked from the first instruction on, each place
+    /// after those that its run goes on at.
     #[tactic(auto, using(crate::proofs::Builders::extends_more, crate::proofs::Builders::extends_same, crate::proofs::Builders::inside_extended))]
     #[inline(never)]
     pub fn program(&mut self, alloc: Global, program: &Program) -> Result<u32, Refusal>

@@ -12,9 +12,11 @@ pub enum Refusal {
     Nodes,
     /// The budget's steps are spent.
     Steps,
-    /// Something else is too much: a byte is too far from the first one, or too many bits are asked for in a row.
+    /// Something else is too much: a byte is too far from the first one, or too many bits are asked
+    /// for in a row.
     Budget,
-    /// A program is walked at too many places, each with other numbers, or at one without an instruction.
+    /// A program is walked at too many places, each with other numbers, or at one without an
+    /// instruction.
     Places,
     /// The length of the IPv4 header is asked for, and not given.
     Header,

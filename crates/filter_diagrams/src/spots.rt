@@ -15,10 +15,11 @@ use indexmap::IndexMap;
 use std::alloc::Global;
 use std::marker::Model;
 
-/// The most places that are kept, each with a state, where no header length is given. A state has 2,376 bytes.
+/// The most places that are kept, each with a state, if no header length is given. A state has
+/// 2,376 bytes.
 const MOST_SPOTS: usize = 1 << 15;
 
-/// The same where one is given: there are sixteen, one after the other.
+/// The same if one is given: there are sixteen, one after the other.
 const MOST_OF_EACH: usize = 1 << 13;
 
 /// A place of a program, and a state there.

@@ -9,7 +9,8 @@ use crate::live::Live;
 use crate::refusal::Refusal;
 use filter_words::Word;
 
-/// The numbers that the registers and the cells of the scratch memory hold, as words. What is not read again has none.
+/// The numbers that the registers and the cells of the scratch memory hold, as words. What is not
+/// read again has none.
 #[derive(Clone, Copy, Debug, PartialEq, Eq)]
 pub(crate) struct State {
     pub accumulator: Option<Word>,

@@ -27,7 +27,8 @@ const HEADER: u32 = ETHER_HDR_LEN as u32;
 /// What an instruction does.
 #[derive(Clone, Copy, Debug)]
 pub(crate) enum Step {
-    /// Where the node `guard` says Yes, the run goes on past `passed` of the instructions that follow, with a state. Elsewhere it aborts.
+    /// Where the node `guard` says Yes, the run goes on past `passed` of the instructions that
+    /// follow, with a state. Elsewhere it aborts.
     On {
         guard: u32,
         passed: u32,
@@ -76,7 +77,8 @@ impl Builder {
         self.symbols.calculate(operator, left, right)
     }
 
-    /// The length in bytes of an IPv4 header that begins at an offset. `Header` if it is that of the packet, and not given.
+    /// The length in bytes of an IPv4 header that begins at an offset. `Header` if it is that of
+    /// the packet, and not given.
     fn header_length(&mut self, offset: u32) -> Result<Symbol, Refusal>
         ensures stands { IfOk result (StandsFor self.new.symbols (λ p. option_map (λ b. 4 * bit_and b 15) (number_at p.captured offset 1))) }
         ensures extends { Extends self.old.symbols self.new.symbols }
@@ -92,8 +94,8 @@ impl Builder {
         Ok(length)
     }
 
-    /// Bytes at an offset that the index register adds to. `Header` if the register is no constant, and the header's length is not given:
-    /// with it most offsets are.
+    /// Bytes at an offset that the index register adds to. `Header` if the register is no constant,
+    /// and the header's length is not given: with it most offsets are.
     #[tactic(auto, using(crate::proofs::Builders::extends_more, crate::proofs::Builders::extends_same, crate::proofs::Instructions::word_extended))]
     fn load_after(&mut self, index: Word, offset: u32, size: Size) -> Result<Symbol, Refusal>
         requires { IsWord self.old.symbols.words.diagrams index }
@@ -163,7 +165,7 @@ impl Builder {
         self.symbols.words.is_greater(word, zero)
     }
 
-    /// The run goes on, past so many instructions, with a state.
+    /// The run goes on with a state, past the next `passed` instructions.
     fn go_on(&mut self, passed: u32, state: State) -> Result<Step, Stop>
         requires { AreWords self.old.symbols.words.diagrams state }
         ensures on { IfOk result (IsOn self.new.symbols.words.diagrams passed state) }
@@ -177,7 +179,7 @@ impl Builder {
         })
     }
 
-    /// A conditional jump. Where the test is the same for every packet, the run goes on on one way alone.
+    /// A conditional jump. If the test is the same for every packet, the run goes on one way only.
     fn branch(&mut self, state: &State, insn: &Insn, test: u32) -> Result<Step, Stop>
         requires state { AreWords self.old.symbols.words.diagrams state.now }
         requires test { test < length self.old.symbols.words.diagrams }

@@ -72,7 +72,7 @@ last_behind asked others q (front, is) = (asked ++ front, ap (λ (l : List Quest
 pub last_alone : (asked : List Question) (q : Question) → IsLast q asked → IsLast q (asked ++ [])
 last_alone asked q (front, is) = (front, append-nil asked ∙ is)
 
--- of `and` behind a Yes, and of `or` behind a No
+-- of `and` after a Yes, and of `or` after a No
 pub last_yes : (asked others : List Question) (v : Verdict) (q : Question) → v ≡ Yes → IsLast q others → IsLast q (asked ++ where_yes v others)
 last_yes asked others v q is last = rw is (last_behind asked others q last)
 

@@ -1,4 +1,4 @@
--- The last one of those that are asked is the one that is told.
+-- The last one of those that are asked is the one that is named.
 use Rattle.std.proofs.Common.{◌≡◌, ℕ, false, List, [], ◌∷◌, ◌++◌, codes, refl, sym, ap, ◌∙◌, append_assoc}
 use Rattle.filter_tree.specs.Trees.{Tree}
 use Rattle.filter_meaning.specs.declared.verdict.Verdict.{Verdict}

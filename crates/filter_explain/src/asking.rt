@@ -89,12 +89,13 @@ fn ask<'a>(
     }
 }
 
-/// The primitives and relations of an expression that a packet is asked, from left to right, each with its answer and why it
-/// aborts.
+/// The primitives and relations of an expression that a packet is asked, from left to right, each
+/// with its answer and why it aborts.
 ///
-/// `packet` is the captured bytes, and `wire` the packet's original length. The right operand of `and` is asked only after a
-/// Yes, that of `or` only after a No. The empty expression is listed itself, with its answer Yes. The last one decides: its
-/// answer, turned if it is negated, is what [`evaluate`](filtergen::evaluate) returns for the expression.
+/// `packet` is the captured bytes, and `wire` the packet's original length. The right operand of
+/// `and` is asked only after a Yes, that of `or` only after a No. The empty expression is listed
+/// itself, with its answer Yes. The last one decides: its answer, turned if it is negated, is what
+/// [`evaluate`](filtergen::evaluate) returns for the expression.
 ///
 /// `NoMemory` if memory for the list was refused.
 pub fn explain<'a>(

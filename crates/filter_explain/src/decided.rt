@@ -11,7 +11,8 @@ use filter_meaning::{Frame, Verdict, evaluate};
 use filter_tree::Expr;
 
 impl AskedPart<'_> {
-    /// Its answer, turned if it is negated. For the part that decides this is the answer of the whole expression.
+    /// Its answer, turned if it is negated. For the part that decides this is the answer of the
+    /// whole expression.
     pub fn answer(&self) -> Verdict
         ensures { result ≡ turned self.now.negated self.now.verdict }
     {
@@ -23,7 +24,8 @@ impl AskedPart<'_> {
     }
 }
 
-/// The part of an expression that decides on a packet, and what the larger part that holds it answers.
+/// The part of an expression that decides on a packet, and what the larger part that holds it
+/// answers.
 #[derive(Clone, Copy)]
 struct Decided<'a> {
     asked: AskedPart<'a>,
@@ -85,7 +87,8 @@ fn decide_in_compound<'a>(expr: &'a Expr, negated: bool, frame: &Frame<'_>) -> D
     }
 }
 
-/// Asks the parts of an expression up to the one that decides. It is inlined, so that a primitive takes one call.
+/// Asks the parts of an expression up to the one that decides. It is inlined, so that a primitive
+/// takes one call.
 #[inline(always)]
 #[cycle(decide)]
 fn decide_in<'a>(expr: &'a Expr, negated: bool, frame: &Frame<'_>) -> Decided<'a>
@@ -102,8 +105,9 @@ fn decide_in<'a>(expr: &'a Expr, negated: bool, frame: &Frame<'_>) -> Decided<'a
 /// The primitive or relation of an expression that decides on a packet: the last one that
 /// [`explain`](crate::explain) lists. It takes no memory.
 ///
-/// `packet` is the captured bytes, and `wire` the packet's original length. Its [`AskedPart::answer`] is what
-/// [`evaluate`](filtergen::evaluate) returns for the whole expression.
+/// `packet` is the captured bytes, and `wire` the packet's original length. Its
+/// [`AskedPart::answer`] is what [`evaluate`](filtergen::evaluate) returns for the whole
+/// expression.
 pub fn decide<'a>(expr: &'a Expr, packet: &[u8], wire: u32) -> AskedPart<'a>
     ensures last { IsLast (question_of result) (questions false (tree_of expr.now) (packet_of packet.now wire)) }
     ensures decides { meaning (tree_of expr.now) (packet_of packet.now wire) ≡ turned result.negated result.verdict }

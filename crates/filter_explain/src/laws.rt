@@ -1,4 +1,5 @@
-//! Laws of the definitions that the contracts cite. Each function is empty, and its contract is the law.
+//! Laws of the definitions that the contracts cite. Each function is empty, and its contract is the
+//! law.
 
 ghost use Rattle.filter_explain.specs.Laws.{TheLastDecides, PrimitivesHaveCauses, RelationsHaveCauses};
 

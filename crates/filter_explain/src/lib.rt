@@ -1,5 +1,5 @@
-//! Why an expression accepts or rejects a packet: which of its primitives and relations were asked, what each answered, and
-//! why one aborted.
+//! Why an expression accepts or rejects a packet: which of its primitives and relations were asked,
+//! what each answered, and why one aborted.
 #![tactic(auto)]
 
 mod asking;

@@ -24,8 +24,8 @@ pub fn verdict_text(verdict: Verdict) -> &'static str
     }
 }
 
-/// Appends a primitive or a relation in its canonical form, with `not` before it if it is negated. It fails if memory is refused; the
-/// line is then unspecified.
+/// Appends a primitive or a relation in its canonical form, with `not` before it if it is negated.
+/// It fails if memory is refused; the line is then unspecified.
 pub fn put_part(line: &mut String, part: &Expr, negated: bool) -> Result<(), AllocError>
     ensures { OnOk result (string_bytes line.new ≡ string_bytes line.old ++ part_text negated (tree_of part.now)) }
 {
@@ -37,7 +37,8 @@ pub fn put_part(line: &mut String, part: &Expr, negated: bool) -> Result<(), All
     }
 }
 
-/// Appends why a primitive or a relation aborted, if it did. It fails if memory is refused; the line is then unspecified.
+/// Appends why a primitive or a relation aborted, if it did. It fails if memory is refused; the
+/// line is then unspecified.
 pub fn put_cause(line: &mut String, cause: Option<AbortCause>) -> Result<(), AllocError>
     ensures { OnOk result (string_bytes line.new ≡ string_bytes line.old ++ cause_text cause) }
 {
@@ -64,8 +65,9 @@ pub fn put_verdict(line: &mut String, verdict: Verdict) -> Result<(), AllocError
     line.push_str(" ")
 }
 
-/// Appends what an expression answers to a packet of `wire` bytes, of which these were captured, and the primitive or relation that
-/// decides, with the cause of an Abort. The answer is that of `evaluate`. It fails if memory is refused; the line is then unspecified.
+/// Appends what an expression answers to a packet of `wire` bytes, of which these were captured,
+/// and the primitive or relation that decides, with the cause of an Abort. The answer is that of
+/// `evaluate`. It fails if memory is refused; the line is then unspecified.
 pub fn put_decision(
     line: &mut String,
     expr: &Expr,

@@ -28,7 +28,7 @@ all_joined : (P : Look → Type 0) (a b : List Look) → AllByRecursion P a → 
 all_joined P [] b first second = second
 all_joined P (x ∷ a) b first second = (first.0, all_joined P a b first.1 second)
 
--- what ends behind looks that are there
+-- what ends after looks that are there
 ends_behind : {A : Type 0} (p : Packet) (front : List Look) (answer : Result A AbortCause) (looks : List Look) → AreThere p front → Ends p answer looks → Ends p answer (front ++ looks)
 ends_behind p front (Ok answer) looks there ends = all_joined (IsThere p) front looks there ends
 ends_behind p front (Err (NotCaptured place)) looks there ends = record {

@@ -48,7 +48,7 @@ IsThere p Length = ⊤
 abbrev pub AreThere : Packet → List Look → Type 0
 AreThere p looks = AllByRecursion (IsThere p) looks
 
--- The last look is the first whose bytes were not all captured, and this byte is the first that lacks.
+-- The last look is the first whose bytes were not all captured, and this byte is the first of them that was not.
 pub record EndsMissing (p : Packet) (looks : List Look) (place : ℕ) : Type 0 where
   pub front : List Look
   pub offset : ℕ

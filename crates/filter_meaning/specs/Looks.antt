@@ -31,7 +31,7 @@ use Rattle.filter_meaning.specs.declared.frame.Frame.{Frame}
 abbrev pub packet : Frame → Packet
 packet frame = packet_of frame.bytes.now frame.wire
 
--- the first byte of so many at an offset of the frame that was not captured
+-- the first byte from an offset of the frame on that was not captured
 abbrev pub first_uncaptured : (offset : ℕ) → Packet → AbortCause
 first_uncaptured offset p = NotCaptured (max offset (length p.captured))
 
@@ -40,7 +40,7 @@ abbrev pub or_cause : AbortCause → Option ℕ → Result ℕ AbortCause
 or_cause cause None = Err cause
 or_cause cause (Some n) = Ok n
 
--- so many captured bytes at an offset of the frame, as a number
+-- `size` captured bytes at an offset of the frame, as a number
 abbrev pub read : (offset size : ℕ) → Packet → Result ℕ AbortCause
 read offset size p = or_cause (first_uncaptured offset p) (number_at p.captured offset size)
 
@@ -92,7 +92,7 @@ after_number_asked (Err cause) looks next = asked (Err cause) looks
 abbrev pub then_asked : Found → (ℕ → Asked) → Asked
 then_asked first next = after_number_asked first.number first.looks next
 
--- so many bytes at an offset of the frame, and a condition on the number that they are
+-- `size` bytes at an offset of the frame, and a condition on the number that they are
 abbrev pub bytes_found : (offset size : ℕ) → Packet → Found
 bytes_found offset size p = found (read offset size p) (Bytes offset size ∷ [])
 
@@ -105,7 +105,7 @@ wire_field condition p = asked (Ok (condition p.wire)) (Length ∷ [])
 
 -- ---- Primitives
 
--- the Ethernet type; behind it the protocol number of IPv4; behind both the fragment's offset
+-- the Ethernet type; after it the protocol number of IPv4; after both the fragment's offset
 abbrev pub type_asked : ℕ → Packet → Asked
 type_asked number p = field ETHER_TYPE 2 (λ h. h == number) p
 
@@ -178,7 +178,7 @@ primitive_asked (Greater n) p = wire_field (λ wire. nat_le n wire) p
 
 -- ---- Values and relations
 
--- proto[i:size]: at an index of the frame, or behind the Ethernet header, or behind the IPv4 header, whose length is looked at first
+-- proto[i:size]: at an index of the frame, or past the Ethernet header, or past the IPv4 header, whose length is looked at first
 abbrev pub behind_header_found : (size index : ℕ) → Packet → Found
 behind_header_found size index p =
     then_found (bytes_found ETHER_HDR_LEN 1 p) (λ b. bytes_found (ETHER_HDR_LEN + (index + 4 * bit_and b 15) % 2 ^ 32) size p)

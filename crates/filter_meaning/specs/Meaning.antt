@@ -150,7 +150,7 @@ address_number octets =
 abbrev pub is_address : List ℕ → ℕ → Test
 is_address octets o p = check (λ n. n == address_number octets) (six o p)
 
--- two bytes that begin so many behind the IPv4 header, whose length is four times the low four bits of its first byte
+-- two bytes at an offset that counts from the end of the IPv4 header, whose length is four times the low four bits of its first byte
 abbrev pub half_behind_header : ℕ → Packet → Option ℕ
 half_behind_header o p = option_and_then (λ b. half (ETHER_HDR_LEN + 4 * bit_and b 15 + o) p) (byte ETHER_HDR_LEN p)
 
@@ -161,7 +161,7 @@ within low high n = nat_le low n && nat_le n high
 abbrev pub has_port : ℕ → ℕ → ℕ → Test
 has_port low high o p = check (within low high) (half_behind_header o p)
 
--- port and portrange of a protocol number: the source port stands first behind the header, then the destination port
+-- port and portrange of a protocol number: the source port comes first after the header, then the destination port
 abbrev pub has_ports : ℕ → Direction → ℕ → ℕ → Test
 has_ports n direction low high = and_test (is_first_fragment_of n) (by_direction direction (has_port low high SRC_PORT) (has_port low high DST_PORT))
 
@@ -213,15 +213,15 @@ bytes_of sizes.One = 1
 bytes_of sizes.Two = 2
 bytes_of sizes.Four = 4
 
--- so many captured bytes at an index of the frame
+-- `size` captured bytes at an index of the frame
 abbrev pub in_frame : ℕ → Packet → ℕ → Option ℕ
 in_frame size p i = number_at p.captured i size
 
--- at an index of what stands behind the Ethernet header, without wrapping
+-- at an index that counts from the end of the Ethernet header, without wrapping
 abbrev pub behind_ethernet : ℕ → Packet → ℕ → Option ℕ
 behind_ethernet size p i = number_at p.captured (ETHER_HDR_LEN + i) size
 
--- at an index of what stands behind the IPv4 header; the sum of index and header length is modulo 2 ^ 32
+-- at an index that counts from the end of the IPv4 header; the sum of index and header length is modulo 2 ^ 32
 abbrev pub behind_header : ℕ → Packet → ℕ → Option ℕ
 behind_header size p i = option_and_then (λ b. number_at p.captured (ETHER_HDR_LEN + (i + 4 * bit_and b 15) % 2 ^ 32) size) (byte ETHER_HDR_LEN p)
 

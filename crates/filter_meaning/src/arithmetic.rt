@@ -6,21 +6,22 @@ ghost use Rattle.filter_meaning.specs.Meaning.{arithmetic_of};
 
 use filter_tree::Operator;
 
-/// The number shifted to the left; 0 where that is by 32 bits or more.
+/// The number shifted to the left; 0 if that is by 32 bits or more.
 fn shifted_left(a: u32, by: u32) -> u32
     ensures { result ≡ (if nat_lt by 32 then (a * 2 ^ by) % 2 ^ 32 else 0) }
 {
     if by < 32 { a << by } else { 0 }
 }
 
-/// The number shifted to the right; 0 where that is by 32 bits or more.
+/// The number shifted to the right; 0 if that is by 32 bits or more.
 fn shifted_right(a: u32, by: u32) -> u32
     ensures { result ≡ (if nat_lt by 32 then a / 2 ^ by else 0) }
 {
     if by < 32 { a >> by } else { 0 }
 }
 
-/// What an operator makes of two numbers, modulo 2 ^ 32: nothing where the divisor of `/` or `%` is 0; a shift by 32 or more is 0.
+/// What an operator makes of two numbers, modulo 2 ^ 32: nothing if the divisor of `/` or `%` is
+/// 0; a shift by 32 or more is 0.
 pub fn calculate(operator: Operator, a: u32, b: u32) -> Option<u32>
     ensures { result ≡ calculated (arithmetic_of operator) a b }
 {

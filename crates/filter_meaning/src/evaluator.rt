@@ -15,8 +15,8 @@ use bpfvm::NoMemory;
 use filter_tree::{Expr, Value};
 use std::alloc::Global;
 
-/// The number that a value is of a packet: its captured bytes, and its length on the wire in bytes. There is none where it wants
-/// a byte that was not captured, or divides by 0.
+/// The number that a value is of a packet: its captured bytes, and its length on the wire in bytes.
+/// There is none if it wants a byte that was not captured, or divides by 0.
 pub fn value_of(amount: &Value, packet: &[u8], wire: u32) -> Option<u32>
     ensures { result ≡ value (amount_of amount.now) (packet_of packet.now wire) }
 {
@@ -45,11 +45,13 @@ fn ask(part: &Expr, frame: &Frame<'_>, notes: &mut Notes) -> Answer
     }
 }
 
-/// What a primitive or a relation looks at, in the order of docs/LANGUAGE.md: bytes of the frame, or the length on the wire. It looks
-/// no farther than its answer needs, so an Abort ends the list. Of every other expression the list is empty: ask its parts.
+/// What a primitive or a relation looks at, in the order of docs/LANGUAGE.md: bytes of the frame,
+/// or the length on the wire. It looks no farther than its answer needs, so an Abort ends the list.
+/// Of every other expression the list is empty: ask its parts.
 ///
-/// `packet` is the captured bytes, and `wire` the packet's length on the wire. The answer depends on nothing else:
-/// `answers_by_looks` in [`laws`](crate::laws). `NoMemory` if memory for the list is refused.
+/// `packet` is the captured bytes, and `wire` the packet's length on the wire. The answer depends
+/// on nothing else: `answers_by_looks` in [`laws`](crate::laws). `NoMemory` if memory for the list
+/// is refused.
 pub fn looks_of(alloc: Global, part: &Expr, packet: &[u8], wire: u32) -> Result<Vec<Look>, NoMemory>
     ensures { IfOk result (λ found. found.items ≡ looks (tree_of part.now) (packet_of packet.now wire)) }
 {
@@ -62,10 +64,11 @@ pub fn looks_of(alloc: Global, part: &Expr, packet: &[u8], wire: u32) -> Result<
     notes.into_looks().ok_or(NoMemory)
 }
 
-/// Why a primitive or a relation aborts; `None` if it answers Yes or No, and of every other expression. It takes no memory.
+/// Why a primitive or a relation aborts; `None` if it answers Yes or No, and of every other
+/// expression. It takes no memory.
 ///
-/// The byte that it names is the first that lacks of what the test looks at ([`looks_of`]): `aborts_at_the_last_look` in
-/// [`laws`](crate::laws).
+/// The byte that it names is the first one that the test looks at ([`looks_of`]) and that was not
+/// captured: `aborts_at_the_last_look` in [`laws`](crate::laws).
 pub fn abort_cause(part: &Expr, packet: &[u8], wire: u32) -> Option<AbortCause>
     ensures { result ≡ why (tree_of part.now) (packet_of packet.now wire) }
 {
@@ -92,9 +95,10 @@ fn evaluate_part(part: &Expr, packet: &[u8], wire: u32) -> Verdict
 
 /// What an expression answers to a packet: its captured bytes, and its length on the wire in bytes.
 ///
-/// The packet is accepted where the answer is Yes. The program that `compile` of `filtergen` makes of the expression
-/// says the same; this is for whoever wants to try a filter without it. It takes no memory, and goes as deep as the
-/// tree. Of `and` and `or` the right operand is looked at only where the left one does not decide.
+/// The packet is accepted if the answer is Yes. The program that `compile` of `filtergen` makes
+/// of the expression says the same; this is for whoever wants to try a filter without it. It takes
+/// no memory, and goes as deep as the tree. Of `and` and `or` the right operand is looked at only
+/// if the left one does not decide.
 pub fn evaluate(expr: &Expr, packet: &[u8], wire: u32) -> Verdict
     ensures { result ≡ meaning (tree_of expr.now) (packet_of packet.now wire) }
 {

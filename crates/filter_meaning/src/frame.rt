@@ -65,7 +65,8 @@ impl Notes {
         self.kept
     }
 
-    /// Keeps one more look. It stands apart, so that where none are kept a look costs one comparison.
+    /// Keeps one more look. It is a function of its own, so that if none are kept a look costs
+    /// one comparison.
     #[cold]
     #[inline(never)]
     fn keep(&mut self, look: Look)

@@ -1,8 +1,9 @@
 //! What filter expressions mean.
 //!
-//! [`evaluate`] answers an expression of a packet, and [`value_of`] gives the number that a value is of it, by the tables of
-//! docs/LANGUAGE.md alone: no program is made, and no memory taken. [`looks_of`] lists the bytes that a primitive or a relation looks at,
-//! and [`abort_cause`] says why one aborts. [`calculate`] and the numbers of headers are for what compiles expressions.
+//! [`evaluate`] answers an expression of a packet, and [`value_of`] gives the number that a value
+//! is of it, by nothing but the tables of docs/LANGUAGE.md: no program is made, and no memory
+//! taken. [`looks_of`] lists the bytes that a primitive or a relation looks at, and [`abort_cause`]
+//! says why one aborts. [`calculate`] and the numbers of headers are for what compiles expressions.
 #![tactic(auto)]
 
 mod arithmetic;

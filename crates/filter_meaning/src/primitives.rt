@@ -75,7 +75,7 @@ enum Side {
     Address { address: u32, mask: u32 },
     /// Six bytes.
     Ether(EthernetAddress),
-    /// Two bytes so many behind the IPv4 header.
+    /// Two bytes, at an offset that counts from the end of the IPv4 header.
     Port { low: u32, high: u32 },
 }
 

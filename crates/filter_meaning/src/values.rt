@@ -16,7 +16,7 @@ use filter_tree::headers::{
 };
 use filter_tree::{Comparison, Layer, Operator, Size, Value};
 
-/// So many bytes at an offset.
+/// The number in one, two or four bytes at an offset.
 #[inline(always)]
 fn bytes_at(
     offset: usize,
@@ -35,7 +35,7 @@ fn bytes_at(
     }
 }
 
-/// Bytes at an index of what stands behind the IPv4 header.
+/// The number in bytes at an index that counts from the end of the IPv4 header.
 fn behind_header(
     index: u32,
     size: Size,
@@ -184,7 +184,7 @@ fn holds_between(comparison: Comparison, a: u32, b: u32) -> bool
     }
 }
 
-/// A relation: its values are looked at only where the layers of all accessors are there.
+/// A relation: its values are looked at only if the layers of all accessors are there.
 pub(crate) fn relation(
     comparison: Comparison,
     left: &Value,

@@ -8,8 +8,8 @@ ghost use Rattle.filter_meaning.specs.Meaning.{opposite, decided};
 pub enum Verdict {
     Yes,
     No,
-    /// A byte past the captured ones was wanted, or a division or modulo was by 0. The whole expression then rejects the
-    /// packet, also under a `not`.
+    /// A byte past the captured ones was wanted, or a division or modulo was by 0. The whole
+    /// expression then rejects the packet, also under a `not`.
     Abort,
 }
 

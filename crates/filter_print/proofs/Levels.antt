@@ -3,12 +3,12 @@ use Rattle.std.proofs.Common.{◌≡◌, ℕ, zero, suc, ◌<◌, ◌-◌, Bool,
 use Rattle.std.specs.Prelude.{◌&&◌}
 use Rattle.filter_print.specs.Parentheses.{behind}
 
--- behind the last one none is
+-- after the last one none is
 pub behind_none : (levels : ℕ) → levels ≡ 0 → behind true levels ≡ None
 behind_none zero e = refl
 behind_none (suc levels) e = absurd (omega arith)
 
--- behind another one a level less is left
+-- after another one a level less is left
 pub behind_less : (levels : ℕ) → 0 < levels → behind true levels ≡ Some (levels - 1)
 behind_less zero h = absurd (omega arith)
 behind_less (suc levels) h = ap Some (omega arith)

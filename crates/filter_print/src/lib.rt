@@ -22,9 +22,10 @@ use std::fmt::{Display, Formatter, Write};
 /// The most signs that a text may have open within one another, as `filterlang` reads them.
 const MAX_NESTING: usize = 64;
 
-/// An expression to print, for a person or another program to read: `{}` writes its canonical text, in the words of
-/// pcap-filter(7). If it returns `Ok`, it wrote the bytes of this text and no others, even if they are more than the 8,192
-/// that `parse` takes. An error is the writer's, such as running out of memory in `to_string`; no clause says so.
+/// An expression to print, for a person or another program to read: `{}` writes its canonical text,
+/// in the words of pcap-filter(7). If it returns `Ok`, it wrote the bytes of this text and no
+/// others, even if they are more than the 8,192 that `parse` takes. An error is the writer's, such
+/// as running out of memory in `to_string`; no clause says so.
 #[derive(Clone, Copy)]
 pub struct Canonical<'a>(pub &'a Expr);
 
@@ -37,7 +38,8 @@ impl Display for Canonical<'_> {
     }
 }
 
-/// Which parentheses are written: all, if no more signs are open within one another then than can be read.
+/// Which parentheses are written: all, if no more signs are open within one another then than can
+/// be read.
 fn parentheses_of(expr: &Expr) -> Parentheses
     ensures { result ≡ parentheses_of (tree_of expr.now) }
 {

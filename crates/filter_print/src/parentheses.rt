@@ -101,7 +101,8 @@ pub(crate) fn negated_enclosed(parentheses: Parentheses, expr: &Expr) -> bool
     }
 }
 
-/// How many more signs may be open inside, be it in parentheses or not; nothing if parentheses may not open.
+/// How many more signs may be open inside, be it in parentheses or not; nothing if parentheses may
+/// not open.
 #[tactic(auto, using(crate::proofs::Levels::behind_none, crate::proofs::Levels::behind_less))]
 fn behind(enclosed: bool, levels: usize) -> Option<usize>
     ensures { result ≡ behind enclosed levels }

@@ -63,7 +63,7 @@ transport_apart (Some transports.Tcp) ts h k = k
 transport_apart (Some transports.Udp) ts h k = k
 transport_apart (Some transports.Sctp) ts h k = k
 
--- what stands behind a term is no bracket
+-- what comes after a term is no bracket
 stops_no_bracket : (ks : List Kind) → Stops ks → bracket_follows ks ≡ false
 stops_no_bracket ks stops_end = refl
 stops_no_bracket ks stops_close = refl

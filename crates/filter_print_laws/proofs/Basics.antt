@@ -12,7 +12,7 @@ both_true false b e = absurd cc
 pub at_some : {A : Type 0} (P : A → Type 0) (o : Option A) (x : A) → o ≡ Some x → IfSome o P → P x
 at_some P o x e h = subst (λ r. IfSome r P) e h
 
--- bytes that are there are a numeral behind 0
+-- bytes that are there are a numeral after 0
 pub numeral_is : (base : ℕ) (bs : List ℕ) → 0 < length bs → numeral base bs ≡ number_behind base 0 bs
 numeral_is base [] some = absurd (omega arith)
 numeral_is base (b ∷ bs) some = refl

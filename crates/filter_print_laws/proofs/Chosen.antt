@@ -11,7 +11,7 @@ use Rattle.filter_print_laws.proofs.Sequences.{Parentheses}
 use Rattle.filter_print_laws.proofs.Arithmetic.{level, Suits}
 use Rattle.filter_print_laws.proofs.Terms.{either_of}
 
--- so many times not
+-- `not` this many times
 abbrev nots : ℕ → Tree
 nots zero = everything
 nots (suc n) = negation (nots n)
@@ -70,7 +70,7 @@ right_needed op (binary inner v w) k p e = let less = not_at_most (precedence_of
     not_at_most : (a b : ℕ) → nat_le a b ≡ false → b < a
     not_at_most a b e = grind (arith, nat_tests)
 
--- what stands behind `not` without is joined to nothing
+-- what comes after `not` without is joined to nothing
 behind_all : (t : Tree) → negated_enclosed all_of t ≡ false → is_joined t ≡ false
 unfolding fits
 behind_all everything e = refl

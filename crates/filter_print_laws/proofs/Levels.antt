@@ -31,7 +31,7 @@ both_hold false b e h = absurd cc
 abbrev Grows : (ℕ → Bool) → Type 0
 Grows f = (m : ℕ) → f m ≡ true → f (suc m) ≡ true
 
--- behind a sign that may stand there
+-- after a sign that may stand there
 grows_behind : (f : ℕ → Bool) → Grows f → (b : Bool) → Grows (λ n. fits_behind f (behind b n))
 grows_behind f h true zero e = absurd cc
 grows_behind f h true (suc m) e = h m e
@@ -78,7 +78,7 @@ fewer f h true false (suc n) less e = h n e
 fewer f h false true n less e = let never = less refl in absurd cc
 fewer f h false false n less e = e
 
--- behind a sign of its own, it fits with parentheses or without
+-- after a sign of its own, it fits with parentheses or without
 behind_sign : (f : ℕ → Bool) → Grows f → (b : Bool) (n : ℕ) → f n ≡ true → fits_behind f (behind b (suc n)) ≡ true
 behind_sign f h true n e = e
 behind_sign f h false n e = h n e
@@ -165,7 +165,7 @@ as_expression n t rest made = (made.0, fewer (fits needed t) (tree_grows needed 
 as_opened : (n : ℕ) (t : Tree) (rest : List Kind) → Made n t (kind.Close ∷ rest) → MadeTerm (suc n) t rest
 as_opened n t rest made = (made.0, behind_sign (fits needed t) (tree_grows needed t) (is_joined t) n made.1, made.2.1)
 
--- behind `not` stand those that are needed
+-- after `not` stand those that are needed
 not_enclosed : (t : Tree) → negated_enclosed needed t ≡ is_joined t
 unfolding fits
 not_enclosed t = refl

@@ -74,28 +74,28 @@ allowed_are word protocol written direction = each (allowed word protocol writte
     each None h = tt
     each (Some g) h = h
 
--- what stands behind a phrase are tokens too
+-- what comes after a phrase are tokens too
 protocol_behind : (ks : List Kind) → AreTokens ks → AreTokens (protocol_at ks).1
 protocol_behind (kind.Protocol p ∷ ks) is = is.1
 protocol_behind ks is = is
 
--- behind a type
+-- after a type
 type_behind : (ks : List Kind) → AreTokens ks → AreTokens (type_at ks).1
 type_behind (kind.Type w ∷ ks) is = is.1
 type_behind ks is = is
 
--- behind a direction of three words or of one
+-- after a direction of three words or of one
 longest_behind : (o : Option Direction) (first : Side) (rest later : List Kind) → AreTokens rest → AreTokens later → AreTokens (longest o first rest later).1
 longest_behind None first rest later h k = h
 longest_behind (Some d) first rest later h k = k
 
--- behind a direction
+-- after a direction
 direction_behind : (ks : List Kind) → AreTokens ks → AreTokens (direction_at ks).1
 direction_behind (kind.Side a ∷ kind.Joint j ∷ kind.Side b ∷ ks) is = longest_behind (joined a j b) a (kind.Joint j ∷ kind.Side b ∷ ks) ks is.1 is.1.1.1
 direction_behind (kind.Side a ∷ ks) is = is.1
 direction_behind ks is = is
 
--- behind all of it
+-- after all of it
 pub phrase_behind : (ks : List Kind) → AreTokens ks → AreTokens (phrase_at ks).1
 phrase_behind ks is = type_behind (direction_at (protocol_at ks).1).1 (direction_behind (protocol_at ks).1 (protocol_behind ks is))
 
@@ -114,7 +114,7 @@ identifier_made g x ks rest p are is a b =
     let found = at_some (λ y. AreTokens y.1 × IsIdentifier y.0) (identifier_at ks) (x, rest) a (identifier_is ks is) in
     (at_some IsPrimitive (identified g x) p b (are x found.1), found.0)
 
--- what is known to stand behind one
+-- what is known to come after one
 pub behind_phrase : (ts : List Kind) {rest : List Kind} {P : Domain qualifiers_of} → phrase_at ts ≡ (P, rest) → AreTokens ts → AreTokens rest
 behind_phrase ts e is = subst (λ u. AreTokens u.1) e (phrase_behind ts is)
 

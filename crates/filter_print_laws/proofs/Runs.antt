@@ -14,7 +14,7 @@ use Rattle.filter_print_laws.proofs.Basics.{length-octets}
 use Rattle.filter_print_laws.proofs.Basics.{both_true}
 use Rattle.filter_print_laws.proofs.Digits.{of_digits, run_ends}
 
--- What may stand behind a number: nothing, or one of these signs.
+-- What may come after a number: nothing, or one of these signs.
 pub data Follows : List ℕ → Type 0 where
   follows_end : Follows []
   follows_blank : {rest : List ℕ} → Follows (32 ∷ rest)
@@ -108,7 +108,7 @@ one_part p (c ∷ cs) all =
     let both = both_true (not (p c)) (list_all (λ b. not (p b)) cs) all in
     rw (not_true (p c) both.0, one_part p cs both.1) refl
 
--- and a mark behind them ends the part
+-- and a mark after them ends the part
 pub first_part : (p : ℕ → Bool) (ds : List ℕ) (m : ℕ) (more : List ℕ) → list_all (λ b. not (p b)) ds ≡ true → p m ≡ true → slice_split p (ds ++ m ∷ more) ≡ ds ∷ slice_split p more
 first_part p [] m more all mark = rw mark refl
 first_part p (c ∷ cs) m more all mark =

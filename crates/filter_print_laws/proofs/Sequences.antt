@@ -37,7 +37,7 @@ Domain {A} f = A
 abbrev pub Parentheses : Type 0
 Parentheses = Domain left_enclosed
 
--- so many tokens before those that follow
+-- this many tokens before those that follow
 abbrev pub Before : Type 0
 Before = List Kind → List Kind
 

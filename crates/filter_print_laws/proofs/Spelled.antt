@@ -14,7 +14,7 @@ pub data Spelled : List ℕ → List Kind → Type 0 where
   spelled_blank : {bytes : List ℕ} {ks : List Kind} → Spelled bytes ks → Spelled (32 ∷ bytes) ks
   spelled_token : {bytes : List ℕ} {k : Kind} {n : ℕ} {ks : List Kind} → front bytes ≡ front_of (Ok (k, n)) → Spelled (drop n bytes) ks → Spelled bytes (k ∷ ks)
 
--- a token whose bytes are told
+-- a token whose bytes are known
 pub spelled_first : (word rest : List ℕ) {k : Kind} {ks : List Kind} → front (word ++ rest) ≡ front_of (Ok (k, length word)) → Spelled rest ks → Spelled (word ++ rest) (k ∷ ks)
 spelled_first word rest {k} {ks} e s = spelled_token {n = length word} e (subst (λ x. Spelled x ks) (sym (drop-append_seam word rest)) s)
 

@@ -1,4 +1,4 @@
--- What a primitive has that tokens are read as, and what may stand behind it.
+-- What a primitive has that tokens are read as, and what may come after it.
 use Rattle.std.proofs.Common.{◌≡◌, ℕ, ◌<◌, ◌≤◌, Bool, true, false, List, [], ◌∷◌, Option, length, get_or, refl, ◌==◌}
 use Rattle.std.specs.Prelude.{◌^◌, bit_and, if◌then◌else◌}
 use Rattle.filterlang.specs.declared.token.Kind.{Kind}
@@ -24,7 +24,7 @@ IsPrimitive primitives.IpMulticast = Unit {0}
 IsPrimitive (primitives.Less n) = n < 2 ^ 32
 IsPrimitive (primitives.Greater n) = n < 2 ^ 32
 
--- what may stand behind a term
+-- what may come after a term
 pub data Stops : List Kind → Type 0 where
   stops_end : Stops []
   stops_close : {ks : List Kind} → Stops (kind.Close ∷ ks)

@@ -81,7 +81,7 @@ not_word : (rest : List ℕ) (ks : List Kind) → Spelled rest ks → Spelled (c
 unfolding front token_at ethernet_at number_or_dotted_at words names signs
 not_word rest ks s = spelled_token {n = 3} refl (spelled_blank s)
 
--- the length, before what may stand behind it
+-- the length, before what may come after it
 length_word : Spells (codes "len") (λ ks. kind.Len ∷ ks) Follows
 unfolding front token_at ethernet_at number_or_dotted_at words names signs
 length_word rest ks follows_end s = spelled_token {n = 3} refl s
@@ -125,7 +125,7 @@ joined_is left first sign right second =
     ap (λ x. opened left ++ (first ++ x)) (append_assoc (closed left) (sign ++ opened right) behind ∙ ap (λ x. closed left ++ x) (append_assoc sign (opened right) behind))
     ∙ sym (append_assoc (opened left) (first ++ closed left) (sign ++ enclosed right second) ∙ ap (λ x. opened left ++ x) (append_assoc first (closed left) (sign ++ enclosed right second)))
 
--- what may stand behind a text may be a `)`
+-- what may come after a text may be a `)`
 abbrev MayClose : (List ℕ → Type 0) → Type 0
 MayClose Behind = (rest : List ℕ) → Behind (41 ∷ rest)
 

@@ -35,7 +35,7 @@ use Rattle.filter_print_laws.proofs.Sequences.{plain_word, network_tokens, trans
 use Rattle.filter_print_laws.proofs.Terms.{IsPrimitive}
 use Rattle.filter_print_laws.proofs.Endings.{Ends, ends_end, ends_blank, ends_close, ends_follow, Spells}
 
--- a word and the space behind it
+-- a word and the space after it
 ip_word : (rest : List ℕ) (ks : List Kind) → Spelled rest ks → Spelled (codes "ip " ++ rest) (kind.Protocol protocols.Ip ∷ ks)
 unfolding front token_at ethernet_at number_or_dotted_at words names signs
 ip_word rest ks s = spelled_token {n = 2} refl (spelled_blank s)
@@ -246,7 +246,7 @@ ports_spelled low high order small rest ks e s = by_ports (low == high)
         (number_spelled low (omega arith) (45 ∷ (decimal high ++ rest)) (kind.Operator Minus ∷ kind.Number high ∷ ks) follows_minus
         (dash (decimal high ++ rest) (kind.Number high ∷ ks) (number_spelled high (omega arith) rest ks (ends_follow e) s))))
 
--- a text behind its qualifiers
+-- a text after its qualifiers
 network_behind : (network : Option Network) (direction : Direction) (text rest : List ℕ) (ks : List Kind) → Spelled (text ++ rest) ks → Spelled ((network_text network ++ direction_text direction ++ text) ++ rest) (network_tokens network (direction_tokens direction ks))
 network_behind network direction text rest ks s =
     subst (λ x. Spelled x (network_tokens network (direction_tokens direction ks))) (sym (append_assoc (network_text network ++ direction_text direction) text rest ∙ append_assoc (network_text network) (direction_text direction) (text ++ rest)))

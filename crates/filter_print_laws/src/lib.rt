@@ -5,8 +5,8 @@ ghost use Rattle.filter_print_laws.specs.Laws.{IsReadAgain, IsReadAsNoOther};
 
 use filterlang::laws::{one_list_of_tokens, one_tree};
 
-/// The canonical text of a tree that some text reads as is read as that tree again, and as no other. This does
-/// nothing: its contract is the law.
+/// The canonical text of a tree that some text reads as is read as that tree again, and as no
+/// other. This does nothing: its contract is the law.
 pub fn read_again()
     ensures again { IsReadAgain }
     ensures only { IsReadAsNoOther }

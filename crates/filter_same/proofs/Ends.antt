@@ -27,7 +27,7 @@ use Rattle.filter_diagrams.proofs.Means.{all-ones}
 
 -- ---- Both accept
 
--- where so many bytes were captured, a packet is accepted
+-- if this many bytes were captured, a packet is accepted
 accepted_at : ℕ → Option ℕ → Bool
 accepted_at c None = false
 accepted_at c (Some n) = nat_le n c

@@ -1,4 +1,4 @@
--- What is claimed of packets by the nodes of decision diagrams. Private clauses alone say this.
+-- What is claimed of packets by the nodes of decision diagrams. Only private clauses say this.
 use Rattle.std.specs.Prelude.{◌≡◌, ⊤, ℕ, ◌<◌, List, length, Option}
 use Rattle.filter_meaning.specs.declared.verdict.Verdict.TheVariants.{No}
 use Rattle.filter_meaning.specs.Meaning.{Packet, Test, is_yes}

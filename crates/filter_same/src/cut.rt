@@ -1,4 +1,5 @@
-//! Answers that no packet shows: those that need more captured bytes than were on the wire, or an IPv4 header of another length.
+//! Answers that no packet shows: those that need more captured bytes than were on the wire, or an
+//! IPv4 header of another length.
 
 ghost use Rattle.std.specs.Prelude.{◌≡◌, ◌<◌, ◌≤◌, ◌^◌, length, Some, IfOk, IfSome};
 ghost use Rattle.filter_symbols.specs.Packets.{HasHeader};
@@ -9,7 +10,7 @@ ghost use Rattle.filter_same.specs.Findings.{KeepsNo};
 use filter_bdd::{Answer, ByOrder, Field, Node, Operation, Stop};
 use filter_diagrams::Builder;
 
-/// A node without each No that needs `size` captured bytes or more, where the packet is shorter.
+/// A node without each No that needs `size` captured bytes or more, if the packet is shorter.
 #[tactic(auto, using(filter_diagrams::proofs::Builders::extends_by, filter_diagrams::proofs::Builders::grew_more))]
 fn cut_at(builder: &mut Builder, place: u32, size: u32) -> Result<u32, Stop>
     requires { place < length builder.old.symbols.words.diagrams }
@@ -38,8 +39,8 @@ fn cut_at(builder: &mut Builder, place: u32, size: u32) -> Result<u32, Stop>
         .apply(Operation::Cut, long, place)
 }
 
-/// A node without each No that needs what the one at `leaf` does or more, where the packet is shorter. The node itself, if no No is
-/// there.
+/// A node without each No that needs what the one at `leaf` does or more, if the packet is
+/// shorter. The node itself, if no No is there.
 #[tactic(auto, using(crate::proofs::Ends::keeps_same, filter_diagrams::proofs::Builders::extends_same))]
 fn cut_as(builder: &mut Builder, place: u32, leaf: u32) -> Result<u32, Stop>
     requires place { place < length builder.old.symbols.words.diagrams }
@@ -70,7 +71,8 @@ pub(crate) fn cut(builder: &mut Builder, place: u32) -> Result<u32, Stop>
     Ok(cut)
 }
 
-/// A node without each No that needs the first byte of an IPv4 header of another length than `words`.
+/// A node without each No that needs the first byte of an IPv4 header of another length than
+/// `words`.
 #[tactic(auto, using(filter_diagrams::proofs::Builders::extends_by, filter_diagrams::proofs::Builders::grew_more))]
 fn cut_words(builder: &mut Builder, place: u32, words: u32) -> Result<u32, Stop>
     requires place { place < length builder.old.symbols.words.diagrams }

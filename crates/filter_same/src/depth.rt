@@ -1,4 +1,5 @@
-//! How deep expressions are. What goes down in one, as its diagram is made, needs stack for each level.
+//! How deep expressions are. What goes down in one, as its diagram is made, needs stack for each
+//! level.
 
 use filter_tree::{Expr, Value};
 
@@ -20,14 +21,15 @@ pub(crate) const CALCULATED: Limits = Limits {
     weight: 8,
 };
 
-/// Of an expression that is only looked at for being the same tree as another one: more than a text of 8,192 bytes gives.
+/// Of an expression that is only looked at for being the same tree as another one: more than a text
+/// of 8,192 bytes gives.
 pub(crate) const LOOKED_AT: Limits = Limits {
     levels: 4_200,
     value_levels: 4_200,
     weight: 1,
 };
 
-/// Whether a value has at most so many levels.
+/// Whether a value has at most `levels` levels.
 fn is_shallow_value(value: &Value, levels: u32) -> bool {
     let Some(rest) = levels.checked_sub(1) else {
         return false;
@@ -42,7 +44,8 @@ fn is_shallow_value(value: &Value, levels: u32) -> bool {
     }
 }
 
-/// Whether an expression has at most so many levels, those of its values weighed.
+/// Whether an expression has at most `levels` levels. A level of a value counts `limits.weight`
+/// times, and a value has at most `limits.value_levels`.
 fn has_levels(expr: &Expr, levels: u32, limits: Limits) -> bool {
     let Some(rest) = levels.checked_sub(1) else {
         return false;

@@ -30,7 +30,8 @@ fn decided(says: bool) -> Verdict
     if says { Verdict::Yes } else { Verdict::No }
 }
 
-/// What a program says of a packet. Bytes past the captured ones are an Abort, though the machine answers 0.
+/// What a program says of a packet. Bytes past the captured ones are an Abort, though the machine
+/// answers 0.
 fn program_verdict(program: &Program, witness: &Witness) -> Verdict
     ensures { result ≡ program_test program.now (packet witness.now) }
 {
@@ -41,7 +42,8 @@ fn program_verdict(program: &Program, witness: &Witness) -> Verdict
 }
 
 impl Filter<'_> {
-    /// Whether an expression is within limits, so that what goes down in it needs a bounded stack. A program has no levels.
+    /// Whether an expression is within limits, so that what goes down in it needs a bounded stack.
+    /// A program has no levels.
     pub(crate) fn is_shallow(self, limits: Limits) -> bool {
         match self {
             Filter::Expression(expr) => is_shallow(expr, limits),

@@ -16,7 +16,7 @@ use filter_bdd::{Answer, Budget, Operation, Stop};
 use filter_diagrams::{Builder, Refusal};
 use std::alloc::Global;
 
-/// What is so of two filters. Each claim is so where the one before it is.
+/// What is so of two filters. Each claim is so if the one before it is.
 #[derive(Clone, Copy, Debug, PartialEq, Eq)]
 pub(crate) enum Claim {
     /// They accept the same packets.
@@ -29,7 +29,8 @@ pub(crate) enum Claim {
     Nothing,
 }
 
-/// What is found of two filters: what is so of them, and a packet that perhaps shows that no more is.
+/// What is found of two filters: what is so of them, and a packet that perhaps shows that no more
+/// is.
 #[derive(Drop)]
 pub(crate) struct Finding {
     pub claim: Claim,
@@ -73,7 +74,7 @@ fn is_always(builder: &Builder, place: u32) -> bool
         .is(place, Answer::Final(0, true))
 }
 
-/// A node that says No where one of two nodes accepts a packet and the other does not.
+/// A node that says No if one of two nodes accepts a packet and the other does not.
 #[tactic(auto, using(filter_diagrams::proofs::Builders::extends_by))]
 fn agreement(builder: &mut Builder, left: u32, right: u32) -> Result<u32, Stop>
     requires left { left < length builder.old.symbols.words.diagrams }
@@ -89,7 +90,7 @@ fn agreement(builder: &mut Builder, left: u32, right: u32) -> Result<u32, Stop>
         .apply(Operation::Agree, left, right)
 }
 
-/// A node that says No where one of two nodes says Yes of a packet and the other No.
+/// A node that says No if one of two nodes says Yes of a packet and the other No.
 #[tactic(auto, using(filter_diagrams::proofs::Builders::extends_by))]
 fn clash(builder: &mut Builder, left: u32, right: u32) -> Result<u32, Stop>
     requires left { left < length builder.old.symbols.words.diagrams }
@@ -105,8 +106,8 @@ fn clash(builder: &mut Builder, left: u32, right: u32) -> Result<u32, Stop>
         .apply(Operation::Apart, left, right)
 }
 
-/// What is claimed of packets of which no more was captured than was on the wire, by a node of what both accept and one of where they
-/// clash.
+/// What is claimed of packets of which no more was captured than was on the wire, by a node of what
+/// both accept and one of where they clash.
 #[tactic(auto, using(filter_diagrams::proofs::Builders::extends_more, filter_diagrams::proofs::Builders::extends_same, filter_diagrams::proofs::Builders::inside_extended))]
 #[inline(never)]
 fn find_captured(
@@ -141,8 +142,8 @@ fn find_captured(
     })
 }
 
-/// Compares two filters on the packets of the header length, by the nodes that they are. A packet that shows a difference is looked for
-/// before what cannot be captured is cut away.
+/// Compares two filters on the packets of the header length, by the nodes that they are. A packet
+/// that shows a difference is looked for before what cannot be captured is cut away.
 #[tactic(auto, using(filter_diagrams::proofs::Builders::extends_more, filter_diagrams::proofs::Builders::extends_same, filter_diagrams::proofs::Builders::inside_extended))]
 fn find_nodes(builder: &mut Builder, alloc: Global, left: u32, right: u32) -> Result<Finding, Stop>
     requires header { IfSome builder.old.symbols.header (λ n. n < 16) }
@@ -193,8 +194,8 @@ fn find_filters(
     Ok(found)
 }
 
-/// Compares two filters on the packets of one header length, or on all where none is given and none is asked for. It leaves of the budget
-/// what was not spent.
+/// Compares two filters on the packets of one header length, or on all if none is given and none
+/// is asked for. It leaves of the budget what was not spent.
 fn find(
     alloc: Global,
     header: Option<u32>,

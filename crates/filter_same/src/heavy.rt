@@ -2,13 +2,14 @@
 
 use crate::filters::Filter;
 use bpfvm::Insn;
-use filter_diagrams::{Action, Operand, Source, action_of};
+use filter_diagrams::{Action, Operand, Register, Source, action_of};
 use filter_tree::{Expr, Operator, Value};
 
 /// An offset of a layer that is far from its first byte.
 const FAR: u32 = 1 << 16;
 
-/// What takes many nodes. Nearly all bits of a product or a quotient rest on nearly all bits of both operands.
+/// What takes many nodes. Nearly all bits of a product or a quotient rest on nearly all bits of
+/// both operands.
 #[derive(Clone, Copy, Debug, PartialEq, Eq)]
 pub(crate) enum Heavy {
     /// A product of two numbers that are no constants.
@@ -38,7 +39,8 @@ fn is_constant(value: &Value) -> bool {
     }
 }
 
-/// What is heavy of an operator between two values. A quotient of a constant is, and one by a constant is not.
+/// What is heavy of an operator between two values. A quotient of a constant is, and one by a
+/// constant is not.
 fn heavy_between(operator: Operator, left: &Value, right: &Value) -> Option<Heavy> {
     let heavy = heavy_operator(operator)?;
     let by_constant = is_constant(right) || heavy == Heavy::Product && is_constant(left);
@@ -121,14 +123,110 @@ fn heavy_expression(expr: &Expr) -> Option<Heavy> {
     }
 }
 
-/// What is heavy of an instruction, if the index register is no constant there.
-fn heavy_instruction(insn: &Insn) -> Option<Heavy> {
-    match action_of(insn.code) {
-        Some(Action::Load(_, Source::Calculated(operator, Operand::InIndex))) => {
-            heavy_operator(operator)
+/// The bit of a cell.
+fn bit_of(cell: u32) -> u16 {
+    1 << (cell % 16)
+}
+
+/// Which numbers of a program are constants, its instructions taken in turn.
+#[derive(Clone, Copy, Debug, PartialEq, Eq)]
+struct Constants {
+    accumulator: bool,
+    index: bool,
+    /// Bit N is cell N of the scratch memory.
+    memory: u16,
+}
+
+impl Constants {
+    /// Whether a register holds one.
+    fn has(self, register: Register) -> bool {
+        match register {
+            Register::Accumulator => self.accumulator,
+            Register::Index => self.index,
         }
-        _ => None,
     }
+
+    /// Whether an instruction loads one from a source. `cell` is the instruction's number.
+    fn loads(self, source: Source, cell: u32) -> bool {
+        match source {
+            Source::Immediate => true,
+            Source::Memory => self.memory & bit_of(cell) > 0,
+            Source::Register(from) => self.has(from),
+            Source::Negated | Source::Calculated(_, Operand::Constant) => self.accumulator,
+            Source::Calculated(_, Operand::InIndex) => self.accumulator && self.index,
+            _ => false,
+        }
+    }
+
+    /// The same, once a register was loaded.
+    fn loaded(self, to: Register, constant: bool) -> Constants {
+        let accumulator = match to {
+            Register::Accumulator => constant,
+            Register::Index => self.accumulator,
+        };
+        let index = match to {
+            Register::Accumulator => self.index,
+            Register::Index => constant,
+        };
+        Constants {
+            accumulator,
+            index,
+            memory: self.memory,
+        }
+    }
+
+    /// The same, once a register was stored.
+    fn stored(self, from: Register, cell: u32) -> Constants {
+        let others = self.memory & !bit_of(cell);
+        let memory = if self.has(from) {
+            others | bit_of(cell)
+        } else {
+            others
+        };
+        Constants {
+            accumulator: self.accumulator,
+            index: self.index,
+            memory,
+        }
+    }
+
+    /// The same, once an instruction is done.
+    fn after(self, insn: &Insn) -> Constants {
+        match action_of(insn.code) {
+            Some(Action::Load(to, source)) => self.loaded(to, self.loads(source, insn.k)),
+            Some(Action::Store(from)) => self.stored(from, insn.k),
+            _ => self,
+        }
+    }
+
+    /// What is heavy of an instruction between the two registers.
+    fn heavy_instruction(self, insn: &Insn) -> Option<Heavy> {
+        match action_of(insn.code) {
+            Some(Action::Load(_, Source::Calculated(operator, Operand::InIndex))) => {
+                let heavy = heavy_operator(operator)?;
+                let by_constant = self.index || heavy == Heavy::Product && self.accumulator;
+                if by_constant { None } else { Some(heavy) }
+            }
+            _ => None,
+        }
+    }
+}
+
+/// What is heavy in a program, its instructions taken in turn as if none jumped.
+fn heavy_program(insns: &[Insn]) -> Option<Heavy> {
+    let mut constants = Constants {
+        accumulator: true,
+        index: true,
+        memory: 0,
+    };
+    for insn in insns {
+        let heavy = constants.heavy_instruction(insn);
+        if heavy.is_some() {
+            return heavy;
+        }
+        constants = constants.after(insn);
+    }
+    None
 }
 
 impl Filter<'_> {
@@ -136,7 +234,7 @@ impl Filter<'_> {
     pub(crate) fn heavy(self) -> Option<Heavy> {
         match self {
             Filter::Expression(expr) => heavy_expression(expr),
-            Filter::Program(program) => program.insns().iter().find_map(heavy_instruction),
+            Filter::Program(program) => heavy_program(program.insns()),
         }
     }
 

@@ -1,7 +1,8 @@
 //! Two filters decided for every packet.
 //!
-//! [`decide`] says whether two expressions accept the same packets, of every packet there can be, or that it has not decided it.
-//! [`decide_filters`] says the same of any two filters: each is an expression or a program.
+//! [`decide`] says whether two expressions accept the same packets, of every packet there can be,
+//! or that it is not decided. [`decide_filters`] says the same of any two filters: each is an
+//! expression or a program.
 #![tactic(auto)]
 
 mod alike;

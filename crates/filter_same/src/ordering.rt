@@ -22,7 +22,8 @@ fn bytes_of(size: Size) -> u32 {
     }
 }
 
-/// Looks which fields are compared with one another, in packets whose IPv4 header has so many words if that is given.
+/// Finds which fields are compared with one another. If `header` is given, the IPv4 header of the
+/// packets has that many words.
 #[derive(Drop)]
 struct Survey {
     standings: Standings,
@@ -96,8 +97,8 @@ impl Survey {
         }
     }
 
-    /// What an operator makes of two numbers. By how much one is shifted, and the smaller factor of a product, comes first: then the rest is
-    /// a shift or a product by a constant.
+    /// What an operator makes of two numbers. By how much one is shifted, and the smaller factor of
+    /// a product, comes first: then the rest is a shift or a product by a constant.
     #[inline(never)]
     fn calculated(
         &mut self,
@@ -225,7 +226,7 @@ impl Survey {
         Ok(())
     }
 
-    /// The instructions of a program, one after the other: a jump's ways are not told apart.
+    /// Goes over the instructions of a program in order. It follows no jump.
     fn program(&mut self, insns: &[Insn]) -> Result<(), Stop> {
         let mut shapes = Shapes::new();
         for insn in insns {
@@ -245,7 +246,8 @@ impl Survey {
     }
 }
 
-/// The number whose bits come first if an operator goes between two that are no constants, and the other one.
+/// The number whose bits come first if an operator goes between two that are no constants, and the
+/// other one.
 fn ahead_of(operator: Operator, first: Shape, second: Shape) -> Option<(Shape, Shape)> {
     if second.number.is_some() {
         return None;
@@ -271,7 +273,8 @@ fn wait<'a>(waiting: &mut Vec<&'a Expr>, part: &'a Expr) -> Result<(), Stop> {
     Ok(())
 }
 
-/// The order in which the bits of packets of a header length are best asked for, to compare two filters.
+/// The order in which the bits of packets of a header length are best asked for, to compare two
+/// filters.
 #[inline(never)]
 pub(crate) fn order_of(
     alloc: Global,

@@ -43,7 +43,8 @@ impl Plain {
         if place < 14 { TCP[place as usize] } else { 0 }
     }
 
-    /// Whether a bit is set, by its name: first those of the length on the wire, then those of the bytes.
+    /// Whether a bit is set, by its name: first those of the length on the wire, then those of the
+    /// bytes.
     pub fn is_set(self, name: u32) -> bool
         requires { self.header < 16 }
     {

@@ -24,13 +24,14 @@ use std::alloc::Global;
 pub enum Cause {
     /// Their diagrams differ, and no packet was found that shows how the filters do.
     Graphs,
-    /// The budget's nodes are spent, and nothing below stands in the filters.
+    /// The budget's nodes are spent, and no filter has a product, quotient or load as below.
     Nodes,
-    /// The budget's steps are spent, and nothing below stands in the filters.
+    /// The budget's steps are spent, and no filter has a product, quotient or load as below.
     Steps,
     /// The budget is spent, and a filter has a product of two numbers that are no constants.
     Product,
-    /// The budget is spent, and a filter has a quotient or a remainder by a number that is no constant.
+    /// The budget is spent, and a filter has a quotient or a remainder by a number that is no
+    /// constant.
     Quotient,
     /// The budget is spent, and a filter has bytes at an offset that is no constant.
     Load,
@@ -47,12 +48,14 @@ pub enum Cause {
 pub enum Sameness {
     /// They accept the same packets, of every captured length and every length on the wire.
     Same,
-    /// They accept the same packets of those that are captured at most as far as they were on the wire.
+    /// They accept the same packets of those that are captured at most as far as they were on the
+    /// wire.
     SameAsCaptured,
-    /// One of them accepts this packet, on which the other aborts. No packet that is captured at most as far as it was on the wire gets
-    /// Yes from one and No from the other.
+    /// One of them accepts this packet, on which the other aborts. No packet that is captured at
+    /// most as far as it was on the wire gets Yes from one and No from the other.
     Short(Witness),
-    /// This packet gets Yes from one of them and No from the other. It is captured at most as far as it was on the wire.
+    /// This packet gets Yes from one of them and No from the other. It is captured at most as far
+    /// as it was on the wire.
     Differ(Witness),
     /// Nothing is claimed.
     NotDecided(Cause),
@@ -88,10 +91,11 @@ fn are_shallow(first: Filter<'_>, second: Filter<'_>, limits: Limits) -> bool {
     first.is_shallow(limits) && second.is_shallow(limits)
 }
 
-/// What two expressions do on every packet there can be. Each answer but [`Sameness::NotDecided`] is so.
+/// What two expressions do on every packet there can be. Each answer but [`Sameness::NotDecided`]
+/// is so.
 ///
-/// `budget` is how many nodes the diagrams of one header length may have, and half of the steps that are taken in all. `NoMemory` if
-/// memory is refused.
+/// `budget` is how many nodes the diagrams of one header length may have, and half of the steps
+/// that are taken in all. `NoMemory` if memory is refused.
 pub fn decide(
     alloc: Global,
     first: &Expr,
@@ -108,14 +112,16 @@ pub fn decide(
     )
 }
 
-/// What two filters do on every packet there can be. Each answer but [`Sameness::NotDecided`] is so. A program accepts a packet if it keeps
-/// any bytes of it, and aborts if it reads past the captured bytes or divides by 0. Filters with the same tree, or the same instructions, are
-/// the same, whatever they calculate.
+/// What two filters do on every packet there can be. Each answer but [`Sameness::NotDecided`] is
+/// so. A program accepts a packet if it keeps any bytes of it, and aborts if it reads past the
+/// captured bytes or divides by 0. Filters with the same tree, or the same instructions, are the
+/// same, whatever they calculate.
 ///
-/// `budget` is how many nodes the diagrams of one header length may have, and half of the steps that are taken in all. No byte is looked at
-/// that is 2^17 bytes or more from the first one, and at most 32,768 places of a program are walked, or 8,192 for each header length.
-/// Expressions have at most 1,000 levels, of which one of a value counts as eight, and values at most 64; the same tree twice may have more.
-/// `NoMemory` if memory is refused.
+/// `budget` is how many nodes the diagrams of one header length may have, and half of the steps
+/// that are taken in all. No byte is looked at that is 2^17 bytes or more from the first one, and
+/// at most 32,768 places of a program are walked, or 8,192 for each header length. Expressions have
+/// at most 1,000 levels, of which one of a value counts as eight, and values at most 64; the same
+/// tree twice may have more. `NoMemory` if memory is refused.
 pub fn decide_filters(
     alloc: Global,
     first: Filter<'_>,

@@ -1,4 +1,5 @@
-//! Which fields of a packet a number is made of, as far as it matters for the order in which bits are asked for. Nothing rests on it.
+//! Which fields of a packet a number is made of, as far as it matters for the order in which bits
+//! are asked for. Nothing rests on it.
 
 use filter_meaning::calculate;
 use filter_tree::Operator;
@@ -31,7 +32,7 @@ impl Part {
         self.moved.saturating_add(bits as i32)
     }
 
-    /// The same, so many places further up.
+    /// The same field, moved up by `places`.
     fn up(self, places: i32) -> Part {
         Part {
             first: self.first,
@@ -126,7 +127,7 @@ impl Shape {
         all
     }
 
-    /// The same, so many places further up.
+    /// The same fields, each moved up by `places`. Which number it is is not known.
     pub fn moved(self, places: i32) -> Shape {
         let mut all = Shape::UNKNOWN;
         for part in self.parts {

@@ -1,17 +1,20 @@
-//! Where the bytes of a packet stand in the numbers that filters compare, and the order in which bits are asked for by that.
+//! Where the bytes of a packet stand in the numbers that filters compare, and the order in which
+//! bits are asked for by that.
 
 use crate::shape::{Part, Shape};
 use filter_bdd::{Order, Stop};
 use filter_tree::headers::{ETHER_TYPE, IP_OFF, IP_P};
 use std::alloc::Global;
 
-/// How many bytes have a standing, those of the length on the wire being the first. Bits of later ones are asked for by their names.
+/// How many bytes have a standing, those of the length on the wire being the first. Bits of later
+/// ones are asked for by their names.
 const BYTES: usize = 4 + 2048;
 
 /// How many bytes the length on the wire has, which are named before those of the frame.
 pub(crate) const WIRE: u32 = 4;
 
-/// The bytes by which filters tell protocols apart. Their bits are asked for before those that are compared with one another.
+/// The bytes by which filters distinguish protocols. Their bits are asked for before those that are
+/// compared with one another.
 const KINDS: [u32; 5] = [
     ETHER_TYPE as u32,
     ETHER_TYPE as u32 + 1,
@@ -23,7 +26,8 @@ const KINDS: [u32; 5] = [
 /// The place in a number below which none is looked at.
 const DEEPEST: i32 = 1 << 20;
 
-/// Where a byte stands: numbers that have a field in common are a group, and the places of bits in them are counted from the same one.
+/// Where a byte stands: numbers that have a field in common are a group, and the places of bits in
+/// them are counted from the same one.
 #[derive(Clone, Copy, Debug, PartialEq, Eq)]
 struct Standing {
     group: u32,
@@ -31,7 +35,8 @@ struct Standing {
     place: i32,
 }
 
-/// When a bit is asked for: by its part of the order, its group, how far its place is from the highest one, and its name.
+/// When a bit is asked for: by its part of the order, its group, how far its place is from the
+/// highest one, and its name.
 #[derive(Clone, Copy, Debug, PartialEq, Eq, PartialOrd, Ord)]
 struct Rank {
     part: u32,
@@ -147,7 +152,8 @@ impl Standings {
         }
     }
 
-    /// Fields of a number are not asked for before the others, also if protocols are told apart by them.
+    /// Gives the fields of a number a standing: they are not asked for before the others, even if
+    /// they distinguish protocols.
     pub fn stand(&mut self, shape: &Shape) {
         let origin = self.origin_of(shape);
         for part in shape.parts {
@@ -207,7 +213,8 @@ fn push_ranks(ranks: &mut Vec<Rank>, part: u32, byte: u32, standing: Standing) -
 }
 
 impl Standings {
-    /// Appends the ranks of the bits that tell protocols apart, but for those that are compared with others.
+    /// Appends the ranks of the bits that distinguish protocols, except those that are compared
+    /// with others.
     fn push_kinds(&self, ranks: &mut Vec<Rank>) -> Result<(), Stop> {
         for (group, offset) in (0..u32::MAX).zip(KINDS.iter()) {
             let byte = WIRE.saturating_add(*offset);
@@ -236,8 +243,9 @@ impl Standings {
         Ok(())
     }
 
-    /// The order in which bits are asked for: those of protocols, those of indices, those that are compared with one another, and the others
-    /// by their names. By their names all, where nothing is an index or is compared with another field.
+    /// The order in which bits are asked for: those of protocols, those of indices, those that are
+    /// compared with one another, and the others by their names. By their names all, if nothing
+    /// is an index or is compared with another field.
     pub fn order(&self, alloc: Global) -> Result<Order, Stop> {
         if self.groups == 0 && self.indices.is_empty() {
             return Ok(Order::natural(alloc));

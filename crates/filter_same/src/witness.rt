@@ -7,7 +7,8 @@ use filter_bdd::{Answer, Node, Stop};
 use filter_diagrams::Builder;
 use std::alloc::Global;
 
-/// The longest Ethernet frame, without its checksum. A longer packet is captured only as far as an answer needs.
+/// The longest Ethernet frame, without its checksum. A longer packet is captured only as far as an
+/// answer needs.
 const LONGEST: u32 = 1514;
 
 /// A packet: its captured bytes, and its length on the wire in bytes.
@@ -75,8 +76,9 @@ impl Witness {
     }
 }
 
-/// One step down to an answer other than Yes, if there is one to take: the bit that a node asks for, and the node after it. Where both
-/// ways lead to such an answer, it takes that of the plain frame.
+/// One step down to an answer other than Yes, if there is one to take: the bit that a node asks
+/// for, and the node after it. If both ways lead to such an answer, it takes that of the plain
+/// frame.
 fn step_down(builder: &Builder, place: u32, plain: Plain) -> Option<(Bit, u32)>
     requires place { place < length builder.now.symbols.words.diagrams }
     requires header { plain.header < 16 }
@@ -123,7 +125,8 @@ fn way_down(
     }
 }
 
-/// A packet whose bits lead from a node to a No, with as many captured bytes as that needs or more, if there is one.
+/// A packet whose bits lead from a node to a No, with as many captured bytes as that needs or more,
+/// if there is one.
 pub(crate) fn witness_of(
     builder: &Builder,
     alloc: Global,
@@ -154,7 +157,8 @@ fn wire_from(bits: &[Bit], free: u32) -> u32 {
     wire
 }
 
-/// A length on the wire with these bits: that of the plain frame, or else one that is at least `need`, if that can be.
+/// A length on the wire with these bits: that of the plain frame, or else one that is at least
+/// `need`, if that can be.
 fn wire_of(bits: &[Bit], need: u32) -> u32 {
     let usual = wire_from(bits, LENGTH);
     if usual >= need {
@@ -178,7 +182,7 @@ impl Extent {
     }
 }
 
-/// A frame of so many bytes with these bits, which is else the plain one.
+/// A frame of `size` bytes: it has these bits, and elsewhere those of the plain frame.
 fn frame(alloc: Global, bits: &[Bit], plain: Plain, size: u32) -> Result<Vec<u8>, Stop>
     requires { plain.header < 16 }
 {

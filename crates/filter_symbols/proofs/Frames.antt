@@ -23,7 +23,7 @@ use Rattle.filter_symbols.specs.Packets.{bit_of, IsPacket, HasHeader}
 abbrev AreBytes : List ℕ → Type 0
 AreBytes bs = AllByRecursion (λ byte. byte < 256) bs
 
--- the number that bytes are behind another one
+-- the number that bytes are after another one
 abbrev behind : ℕ → List ℕ → ℕ
 behind n bs = fold (λ number byte. 256 * number + byte) n bs
 
@@ -80,7 +80,7 @@ behind-below (b ∷ bs) n all =
 length-field : (o n : ℕ) (bs : List ℕ) → o + n ≤ length bs → length (take n (drop o bs)) ≡ n
 length-field o n bs within = length-take-le n (drop o bs) (omega (arith, length-drop o bs))
 
--- a number of so many bytes
+-- a number of this many bytes
 pub field-below : (p : Packet) (o n : ℕ) → IsPacket p → o + n ≤ length p.captured → big_endian (take n (drop o p.captured)) < 2 ^ (8 * n)
 field-below p o n ok within =
     let bs = take n (drop o p.captured) in

@@ -1,4 +1,4 @@
--- Steps of the making of symbols. Private clauses alone say this.
+-- Steps of the making of symbols. Only private clauses say this.
 use Rattle.std.specs.Prelude.{◌≡◌, ℕ, ◌+◌, ◌-◌, ◌*◌, ◌%◌, ◌^◌, ◌<◌, Bool, true, List, length, Option, Some, None, option_and_then, bit_and}
 use Rattle.bpfvm.specs.Machine.{number_at}
 use Rattle.filter_meaning.specs.declared.verdict.Verdict.{Verdict}

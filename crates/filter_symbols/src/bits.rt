@@ -27,7 +27,8 @@ fn is_set(number: u32, bit: u32) -> bool
 }
 
 impl Symbols {
-    /// A node that says whether a bit of a packet is 1, by its name. Those of the header length are what it is, if it is given.
+    /// A node that says whether a bit of a packet is 1, by its name. Those of the header length are
+    /// what it is, if it is given.
     fn bit_named(&mut self, name: u32) -> Result<u32, Stop>
         ensures bit { IfOk result (IsBitOf self.new name (λ p. bit_of p name)) }
         ensures extends { Extends self.old self.new }
@@ -53,7 +54,8 @@ impl Symbols {
         }
     }
 
-    /// The number that `width` bits of a packet are, of which `last` is the lowest, and the one named before it the next.
+    /// The number that `width` bits of a packet are, of which `last` is the lowest, and the one
+    /// named before it the next.
     pub(crate) fn field(&mut self, last: u32, width: u32) -> Result<Word, Stop>
         requires last { width ≤ last + 1 }
         requires width { width ≤ 32 }

@@ -41,7 +41,7 @@ impl Symbols {
         }
     }
 
-    /// A guard that aborts where a divisor is 0 too.
+    /// A guard that aborts if a divisor is 0 too.
     fn guard_divisor(&mut self, guard: u32, divisor: Word) -> Result<u32, Stop>
         requires guard { guard < length self.old.words.diagrams }
         requires divisor { IsWord self.old.words.diagrams divisor }
@@ -55,7 +55,7 @@ impl Symbols {
         self.words.diagrams.ite(none, never, guard)
     }
 
-    /// A guard that aborts where an operator makes nothing of two numbers too.
+    /// A guard that aborts if an operator makes nothing of two numbers too.
     fn guard_operator(&mut self, operator: Operator, guard: u32, second: Word) -> Result<u32, Stop>
         requires guard { guard < length self.old.words.diagrams }
         requires second { IsWord self.old.words.diagrams second }
@@ -71,7 +71,8 @@ impl Symbols {
         }
     }
 
-    /// What an operator makes of two symbols. It is nothing where one of them has no number, or a divisor is 0.
+    /// What an operator makes of two symbols. It is nothing if one of them has no number, or a
+    /// divisor is 0.
     #[inline(never)]
     pub fn calculate(
         &mut self,
@@ -120,7 +121,8 @@ impl Symbols {
         }
     }
 
-    /// A node that says whether two symbols compare in this way. It aborts where one of them has no number.
+    /// A node that says whether two symbols compare in this way. It aborts if one of them has no
+    /// number.
     #[inline(never)]
     pub fn compare(
         &mut self,

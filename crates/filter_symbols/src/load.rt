@@ -72,7 +72,7 @@ impl Symbols {
         Ok(Symbol { guard, word })
     }
 
-    /// A node that says Yes where a condition does and another node is this bit.
+    /// A node that says Yes if a condition does and another node is this bit.
     #[inline(never)]
     fn narrow(&mut self, condition: u32, node: u32, one: bool) -> Result<u32, Stop>
         requires condition { IsBit self.old.words.diagrams condition }
@@ -115,7 +115,8 @@ impl Symbols {
         Ok(Symbol { guard, word })
     }
 
-    /// What an access reads where a condition holds. Of the index the bits from `place` on are known there: they are the number `known`.
+    /// What an access reads if a condition holds. Of the index the bits from `place` on are
+    /// known there: they are the number `known`.
     fn load_each(
         &mut self,
         access: Access,
@@ -146,7 +147,7 @@ impl Symbols {
         self.choose(bit, one, zero)
     }
 
-    /// Bytes of a packet at `base` and an index. There are none where the index has no number.
+    /// Bytes of a packet at `base` and an index. There are none if the index has no number.
     pub fn load(&mut self, index: Symbol, base: u32, size: Size) -> Result<Symbol, Stop>
         requires { IsSymbol self.old.words.diagrams index }
         ensures inside { IfOk result (IsSymbol self.new.words.diagrams) }

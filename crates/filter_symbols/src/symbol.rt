@@ -9,7 +9,8 @@ use std::alloc::Global;
 /// A number of a packet.
 #[derive(Clone, Copy, Debug, PartialEq, Eq)]
 pub struct Symbol {
-    /// A node that says Yes of the packets that have the number. It aborts on the others: they lack a byte, or the number is a quotient by 0.
+    /// A node that says Yes of the packets that have the number. It aborts on the others: they lack
+    /// a byte, or the number is a quotient by 0.
     pub guard: u32,
     /// The number of the packets that have it.
     pub word: Word,

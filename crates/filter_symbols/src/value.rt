@@ -80,8 +80,9 @@ impl Symbols {
 
     /// The symbol of a value: what it is of each packet.
     ///
-    /// `Header` if it has bytes after the IPv4 header, and the header's length is not given. `Budget` if the budget is spent, or a byte is
-    /// wanted that is 2^17 bytes or more from the first one. `Memory` if memory is refused.
+    /// `Header` if it has bytes after the IPv4 header, and the header's length is not given.
+    /// `Budget` if the budget is spent, or a byte is wanted that is 2^17 bytes or more from the
+    /// first one. `Memory` if memory is refused.
     #[tactic(auto, using(crate::proofs::Stands::extends_more, crate::proofs::Guards::symbol_extended))]
     pub fn symbol_of(&mut self, amount: &Value) -> Result<Symbol, Refusal>
         requires { IfSome self.old.header (λ n. n < 16) }
@@ -111,7 +112,8 @@ impl Symbols {
         }
     }
 
-    /// A node that says whether two values compare in this way. It aborts where a packet lacks one of them.
+    /// A node that says whether two values compare in this way. It aborts if a packet lacks one
+    /// of them.
     ///
     /// Errors are those of [`symbol_of`](Symbols::symbol_of).
     #[tactic(auto, using(crate::proofs::Stands::extends_more, crate::proofs::Guards::symbol_extended))]

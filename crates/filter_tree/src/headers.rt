@@ -1,9 +1,12 @@
-//! The frame that filters look into: offsets of its fields in bytes from its first one, and the numbers that they have.
+//! The frame that filters look into: offsets of its fields in bytes from its first one, and the
+//! numbers that they have.
 //!
-//! Ethernet with a type field (RFC 894), ARP for IPv4 over it (RFC 826, and RFC 903 for RARP), and IPv4 (RFC 791) with the protocols that
-//! filters name (RFC 792, 793, 768, 9260). The names are those of BSD's headers, or made as they are.
+//! Ethernet with a type field (RFC 894), ARP for IPv4 over it (RFC 826, and RFC 903 for RARP), and
+//! IPv4 (RFC 791) with the protocols that filters name (RFC 792, 793, 768, 9260). The names are
+//! those of BSD's headers, or made as they are.
 
-/// The destination's and the source's Ethernet address, and the Ethernet type: six, six and two bytes.
+/// The destination's and the source's Ethernet address, and the Ethernet type: six, six and two
+/// bytes.
 pub const ETHER_DST: usize = 0;
 
 pub const ETHER_SRC: usize = 6;
@@ -20,7 +23,8 @@ pub const ETHERTYPE_ARP: u32 = 0x0806;
 
 pub const ETHERTYPE_REVARP: u32 = 0x8035;
 
-/// Where the fields of IPv4 are: flags and fragment offset in two bytes, the protocol in one, and the addresses in four each.
+/// Where the fields of IPv4 are: flags and fragment offset in two bytes, the protocol in one, and
+/// the addresses in four each.
 pub const IP_OFF: usize = 20;
 
 pub const IP_P: usize = 23;
@@ -46,7 +50,8 @@ pub const ARP_SPA: usize = 28;
 
 pub const ARP_TPA: usize = 38;
 
-/// Where the ports of TCP, UDP and SCTP are, in bytes from the end of the IPv4 header: two bytes each.
+/// Where the ports of TCP, UDP and SCTP are, in bytes from the end of the IPv4 header: two bytes
+/// each.
 pub const SRC_PORT: usize = 0;
 
 pub const DST_PORT: usize = 2;

@@ -127,7 +127,7 @@ pub enum Size {
 }
 
 /// A value of arithmetic, of 32 bits. Parentheses leave no node.
-#[derive(Debug, PartialEq, Eq, Drop)]
+#[derive(Debug, PartialEq, Eq)]
 pub enum Value {
     Number(u32),
     /// The length on the wire.
@@ -139,7 +139,7 @@ pub enum Value {
 }
 
 /// A filter expression as a tree. Parentheses leave no node.
-#[derive(Debug, PartialEq, Eq, Drop)]
+#[derive(Debug, PartialEq, Eq)]
 pub enum Expr {
     /// The empty text, which accepts every packet.
     Everything,
@@ -148,4 +148,34 @@ pub enum Expr {
     Not(Box<Expr>),
     And(Box<Expr>, Box<Expr>),
     Or(Box<Expr>, Box<Expr>),
+}
+
+/// A chain of signs has thousands of levels at its left. A loop goes down there, so that it needs
+/// no stack for each.
+impl Drop for Value {
+    fn drop(mut self) {
+        loop {
+            match self {
+                Value::Number(_) | Value::Length => return,
+                Value::Negation(operand) => self = Box::into_inner(operand),
+                Value::Binary(_, left, _right) => self = Box::into_inner(left),
+                Value::Accessor(_, index, _) => self = Box::into_inner(index),
+            }
+        }
+    }
+}
+
+/// A chain of `and` and `or` has thousands of levels at its left, too.
+impl Drop for Expr {
+    fn drop(mut self) {
+        loop {
+            match self {
+                Expr::Everything | Expr::Test(_) => return,
+                Expr::Relation(_, _left, _right) => return,
+                Expr::Not(operand) => self = Box::into_inner(operand),
+                Expr::And(left, _right) => self = Box::into_inner(left),
+                Expr::Or(left, _right) => self = Box::into_inner(left),
+            }
+        }
+    }
 }

@@ -1,4 +1,4 @@
--- Division with a rest. Private clauses alone say this.
+-- Division with a rest. Only private clauses say this.
 use Rattle.std.specs.Prelude.{◌≡◌, ℕ, ◌+◌, ◌*◌, ◌^◌, ◌<◌, Bool, List}
 use Rattle.filter_bdd.specs.declared.table.Node.{Node}
 use Rattle.filter_bdd.specs.Fields.{digit}

@@ -1,4 +1,4 @@
--- Steps of the operations on words, bit by bit. Private clauses alone say this.
+-- Steps of the operations on words, bit by bit. Only private clauses say this.
 use Rattle.std.specs.Prelude.{ℕ, zero, suc, ◌+◌, ◌-◌, ◌*◌, ◌/◌, ◌%◌, ◌^◌, ◌<◌, Bool, true, false, List, slice_index, nat_lt, nat_le, if◌then◌else◌}
 use Rattle.filter_bdd.specs.declared.answer.Answer.TheVariants.{Final}
 use Rattle.filter_bdd.specs.declared.answer.Operation.{Operation}

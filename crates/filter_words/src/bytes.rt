@@ -9,7 +9,7 @@ ghost use Rattle.filter_words.specs.Steps.{padded};
 use crate::word::{Word, Words};
 use filter_bdd::Stop;
 
-/// The node at a place, or `no` where there is none.
+/// The node at a place, or `no` if there is none.
 fn node_at(nodes: &[u32], no: u32, place: usize) -> u32
     ensures { result ≡ padded (slice_index nodes.now) no (length nodes.now) place }
 {

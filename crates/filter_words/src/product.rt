@@ -12,7 +12,8 @@ use crate::word::{Word, Words};
 use filter_bdd::{Answer, Stop};
 
 impl Words {
-    /// A sum with one more part of a product: a word moved to the left by `count` places, if a bit says Yes.
+    /// A sum with one more part of a product: a word moved to the left by `count` places, if a bit
+    /// says Yes.
     #[tactic(auto, using(crate::proofs::Nodes::grew_more, crate::proofs::Nodes::grew_same, crate::proofs::Nodes::is_bit_grown, crate::proofs::Nodes::word_grown))]
     fn add_part(&mut self, sum: Word, word: Word, count: usize, test: u32) -> Result<Word, Stop>
         requires sum { IsWord self.old.diagrams sum }

@@ -32,7 +32,8 @@ impl Word {
 }
 
 impl Words {
-    /// A division that goes on with one more bit of the dividend: the divisor is taken away if it fits.
+    /// A division that goes on with one more bit of the dividend: the divisor is taken away if it
+    /// fits.
     #[tactic(auto, using(crate::proofs::Nodes::grew_more, crate::proofs::Nodes::grew_same, crate::proofs::Nodes::is_bit_grown, crate::proofs::Nodes::word_grown))]
     fn divide_bit(&mut self, division: Division, next: u32, divisor: Word) -> Result<Division, Stop>
         requires quotient { IsWord self.old.diagrams division.quotient }
@@ -51,7 +52,7 @@ impl Words {
         Ok(Division { quotient, rest })
     }
 
-    /// The quotient and the rest, where the divisor is not 0.
+    /// The quotient and the rest, if the divisor is not 0.
     #[tactic(auto, using(crate::proofs::Nodes::grew_more, crate::proofs::Nodes::grew_same, crate::proofs::Nodes::is_bit_grown, crate::proofs::Nodes::word_grown))]
     fn divide_all(&mut self, dividend: Word, divisor: Word) -> Result<Division, Stop>
         requires dividend { IsWord self.old.diagrams dividend }
@@ -71,7 +72,7 @@ impl Words {
         Ok(division)
     }
 
-    /// The quotient. Where the divisor is 0, it is any number.
+    /// The quotient. If the divisor is 0, it is any number.
     #[tactic(auto, using(crate::proofs::Nodes::grew_more, crate::proofs::Nodes::grew_same, crate::proofs::Nodes::is_bit_grown, crate::proofs::Nodes::word_grown))]
     pub fn divide(&mut self, first: Word, second: Word) -> Result<Word, Stop>
         requires first { IsWord self.old.diagrams first }
@@ -83,7 +84,7 @@ impl Words {
         Ok(division.quotient)
     }
 
-    /// The remainder. Where the divisor is 0, it is any number.
+    /// The remainder. If the divisor is 0, it is any number.
     #[tactic(auto, using(crate::proofs::Nodes::grew_more, crate::proofs::Nodes::grew_same, crate::proofs::Nodes::is_bit_grown, crate::proofs::Nodes::word_grown))]
     pub fn remainder(&mut self, first: Word, second: Word) -> Result<Word, Stop>
         requires first { IsWord self.old.diagrams first }

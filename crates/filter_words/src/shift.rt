@@ -19,7 +19,7 @@ pub(crate) enum Shift {
 }
 
 impl Word {
-    /// The node at a place of the word that is moved by `count` places, or `no` where none comes.
+    /// The node at a place of the word that is moved by `count` places, or `no` if none comes.
     fn moved(&self, shift: Shift, no: u32, count: usize, place: usize) -> u32
         requires place { place < 32 }
         requires count { count < 32 }

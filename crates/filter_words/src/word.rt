@@ -13,7 +13,8 @@ pub struct Word {
 
 /// Makes words, and what is asked of them, in decision diagrams.
 ///
-/// Every call may return a `Stop`: memory was refused, or the budget is spent. Nodes and words that were made before stay as they are.
+/// Every call may return a `Stop`: memory was refused, or the budget is spent. Nodes and words that
+/// were made before stay as they are.
 #[derive(Drop)]
 pub struct Words {
     pub diagrams: Diagrams,

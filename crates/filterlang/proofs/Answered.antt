@@ -38,7 +38,7 @@ text_only (Err e) text tokens given lexed = tt
 no_tree : (text : List ℕ) (tokens : List Token) → IsLexed text tokens → text_at (kinds tokens) ≡ None → (t : Tree) → ReadsAs text t → ⊥
 no_tree text tokens lexed none t r = let e = found text tokens t lexed r in absurd cc
 
--- a text that a tree reads is refused for want of memory alone
+-- a text that a tree reads is refused only if memory runs out
 pub text_accepted : (result : Result Expr Fault) (text : List ℕ) (tokens : List Token) → Gives tree_of result (text_at (kinds tokens)) → IsLexed text tokens → (t : Tree) → ReadsAs text t → IsOkUnless result faults.NoMemory
 text_accepted (Ok e) text tokens given lexed t r = tt
 text_accepted (Err e) text tokens given lexed t r = ⊎_elim (λ memory. memory) (λ none. absurd (no_tree text tokens lexed none.1 t r)) given

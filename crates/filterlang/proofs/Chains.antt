@@ -13,7 +13,7 @@ Shortens {T} {Q} next = (q : Q) (ts : List Kind) → IfSome (next q ts) (λ t. l
 abbrev pub AreShorter : {S T : Type 0} → Joining S T → Type 0
 AreShorter signs = (ts : List Kind) → IfSome (signs.sign ts) (λ s. length s.1 < length ts)
 
--- two ways to go on behind a turn, which agree where less is left
+-- two ways to go on after a turn, which agree where less is left
 turn_same : {S T Q : Type 0} (signs : Joining S T) (next : Reader T Q) → Shortens next → (f g : T → Q → List Kind → Option (T × Q × List Kind)) (t : T) (q : Q) (ts : List Kind) → ((v : T) (r : Q) (rest : List Kind) → length rest < length ts → f v r rest ≡ g v r rest) → (o : Option (S × List Kind)) → IfSome o (λ s. length s.1 < length ts) → turn signs next f t q ts o ≡ turn signs next g t q ts o
 turn_same signs next h f g t q ts same None less = refl
 turn_same signs next h f g t q ts same (Some s) less =
@@ -25,7 +25,7 @@ turn_none : {S T Q : Type 0} (signs : Joining S T) (next : Reader T Q) (on : T �
 turn_none signs next on t q ts none None less = refl
 turn_none signs next on t q ts none (Some s) less = absurd (omega arith)
 
--- so many turns, of which there are no fewer than tokens, as any other such number of them
+-- two numbers of turns, both no fewer than the tokens, do the same
 same_turns : {S T Q : Type 0} (signs : Joining S T) (next : Reader T Q) → AreShorter signs → Shortens next → (m n : ℕ) (t : T) (q : Q) (ts : List Kind) → length ts ≤ m → length ts ≤ n → chain signs next m t q ts ≡ chain signs next n t q ts
 same_turns signs next k h zero zero t q ts a b = refl
 same_turns signs next k h zero (suc n) t q ts a b = sym (turn_none signs next (chain signs next n) t q ts a (signs.sign ts) (k ts))

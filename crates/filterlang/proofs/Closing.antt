@@ -20,7 +20,7 @@ closed_gives {T} view (Ok r) t q rest (Some behind) given = ap (λ (o : Option (
 closed_gives view (Err e) t q rest None given = ⊎_elim (λ memory. inl memory) (λ none. inr (none.0, refl)) given
 closed_gives view (Err e) t q rest (Some behind) given = ⊎_elim (λ memory. inl memory) (λ none. let clash = none.1 in absurd cc) given
 
--- so is a group, behind which its phrase can be inherited
+-- so is a group, after which its phrase can be inherited
 pub group_gives : {T U P Q : Type 0} (view : T → U) (result : Result T Fault) (t : T) (p : P) (q : Q) (rest : List Kind) (o : Option (Unit {0} × List Kind)) (group : Option (U × P × List Kind)) → Gives {Y = T × List Kind} (λ r. (r, rest)) result (option_map (λ behind. (t, behind.1)) o) → group ≡ (o >>= λ behind. Some (view t, p, behind.1)) → Gives {Y = U × Q × List Kind} (λ r. (view r, q, rest)) result (group >>= λ u. Some (u.0, q, u.2))
 group_gives view result t p q rest None group given same = rw same (closed_gives view result t q rest None given)
 group_gives view result t p q rest (Some behind) group given same = rw same (closed_gives view result t q rest (Some behind) given)

@@ -23,7 +23,7 @@ use Rattle.filterlang.proofs.Shorter.{joints_shorter, group_term_shortens, term_
 use Rattle.filterlang.proofs.ValueComplete.{Stops, relation_complete}
 use Rattle.filterlang.proofs.Starts.{IsIdentifier, is_number, is_ethernet, is_name, is_dotted, is_identifier, identified_complete, start_complete, group_start_complete, not_started, open_started, nothing_started}
 
--- a turn of the loop, where a term of a group stands behind the word
+-- a turn of the loop, where a term of a group comes after the word
 group_turn : (n : ℕ) (j : Joint) (t u : Tree) (q r : Qualifiers) (ts rest : List Kind) → group_term_at n q ts ≡ Some (u, r, rest) → chain joints (group_term_at n) (length (kind.Joint j ∷ ts)) t q (kind.Joint j ∷ ts) ≡ chain joints (group_term_at n) (length rest) (joined_by j t u) r rest
 group_turn n j t u q r ts rest e = chain_turn joints (group_term_at n) joints_shorter (group_term_shortens n) j t u (joined_by j t u) q r (kind.Joint j ∷ ts) ts rest refl e refl
 
@@ -65,7 +65,7 @@ mutual
   group_term_complete (group_open h) = ap (λ o. closed o) (group_complete h)
   group_term_complete (group_id {n = n} {g = g} {ts = ts} {rest = rest} {id = id} {p = p} a b) = identifier_read n g ts rest id p a b
 
--- a term that begins no relation, behind what it begins with
+-- a term that begins no relation, after what it begins with
 term_started : (related : List Kind → Option (Tree × List Kind)) (inner : Reader Tree (Option Qualifiers)) (group : Reader Tree Qualifiers) (q : Option Qualifiers) (ts : List Kind) (s : Start × Option Qualifiers × List Kind) → begins_relation ts ≡ false → start_at q ts ≡ Some s → term_by related inner group q ts ≡ started group s.0 s.1 s.2
 term_started related inner group q ts s e f = ap (λ b. if b then without_inheritance (related ts) else logical_by inner group q ts) e ∙ at_tokens ts f
   where

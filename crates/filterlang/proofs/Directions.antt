@@ -20,7 +20,7 @@ chosen : (o : Option Direction) (first : Side) (joint : Joint) (second : Side) (
 chosen None first joint second rest = refl
 chosen (Some d) first joint second rest = refl
 
--- behind the first word: three words where they are one, else the first alone
+-- after the first word: three words where they are one, else the first alone
 direction_joined : (first : Side) (rest : List Kind) → direction_at (kind.Side first ∷ rest) ≡ longer first rest (joined_at first rest)
 direction_joined first (kind.Joint joint ∷ kind.Side second ∷ rest) = chosen (joined first joint second) first joint second rest
 direction_joined first (kind.Joint joint ∷ rest) = refl

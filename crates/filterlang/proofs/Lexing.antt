@@ -105,13 +105,13 @@ module _ {text : List ℕ} {xs : List Token} {at : ℕ} (so_far : LexedTo text x
   pub lexed_stuck : (cause : Cause) → front (drop at text) ≡ fronts.Stuck cause → Stuck text 0 cause at
   lexed_stuck cause e = so_far.stuck_on cause at (stuck_here e)
 
--- what is stuck is told by its fault
+-- a text that is stuck has the fault of that cause and place
 pub fault_is : (text : List ℕ) (cause : Cause) (place : ℕ) → length text ≤ MAX_TEXT → Stuck text 0 cause place → IsFaultOf text (fault_at cause place)
 fault_is text BadByte place le stuck = (le, stuck)
 fault_is text BadWord place le stuck = (le, stuck)
 fault_is text BadNumber place le stuck = (le, stuck)
 
--- a fault of a text that lexes is want of memory
+-- a fault of a text that lexes is that memory ran out
 pub lexed_fault : (text : List ℕ) (xs : List Token) (f : Fault) → length text ≤ MAX_TEXT → Lexes text 0 xs → IsFaultOf text f → f ≡ faults.NoMemory
 lexed_fault text xs faults.TextTooLong le tokens is = absurd (omega arith)
 lexed_fault text xs (faults.BadByte place) le tokens is = absurd (never_both tokens is.1)
@@ -127,7 +127,7 @@ lexed_fault text xs (faults.OutOfRange place) le tokens is = absurd is
 lexed_fault text xs (faults.DivideByZero place) le tokens is = absurd is
 lexed_fault text xs (faults.TooNested place) le tokens is = absurd is
 
--- a fault of a text that is stuck names why and where, or is want of memory
+-- a fault of a text that is stuck names why and where, or is that memory ran out
 pub stuck_fault : (text : List ℕ) (cause : Cause) (place : ℕ) (f : Fault) → length text ≤ MAX_TEXT → Stuck text 0 cause place → IsFaultOf text f → (f ≡ fault_at cause place) ⊎ (f ≡ faults.NoMemory)
 stuck_fault text cause place faults.TextTooLong le stuck is = absurd (omega arith)
 stuck_fault text cause place (faults.BadByte p) le stuck is = let one = one_place is.1 stuck in inl (ap (λ d. fault_at d p) one.0 ∙ ap (fault_at cause) one.1)

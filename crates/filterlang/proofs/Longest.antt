@@ -12,13 +12,13 @@ use Rattle.filterlang.specs.Words.{Entry, words, signs, stands, stands_whole, st
 abbrev NoneLonger : (List ℕ → Bool) → ℕ → List Entry → Type 0
 NoneLonger p n table = AllByRecursion (λ x. p x.0 ≡ true → length x.0 ≤ n) table
 
--- each entry may go before all those behind it
+-- each entry may go before all those after it
 abbrev is_ordered : (List ℕ → List ℕ → Bool) → List Entry → Bool
 is_ordered before [] = true
 is_ordered before (e ∷ es) = list_all (λ x. before e.0 x.0) es && is_ordered before es
 
 module _ (p : List ℕ → Bool) (before : List ℕ → List ℕ → Bool) (never_longer : (u v : List ℕ) → before u v ≡ true → p u ≡ true → p v ≡ true → length v ≤ length u) where
-  -- no entry behind one that passes is longer
+  -- no entry after one that passes is longer
   none_behind : (u : List ℕ) (es : List Entry) → p u ≡ true → list_all (λ x. before u x.0) es ≡ true → NoneLonger p (length u) es
   none_behind u [] passes all = tt
   none_behind u (x ∷ es) passes all =

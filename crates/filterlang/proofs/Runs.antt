@@ -27,7 +27,7 @@ with_marks-onto : (x : ℕ) (parts : List (List ℕ)) → 0 < with_marks parts �
 with_marks-onto x [] some = absurd (omega arith)
 with_marks-onto x (part ∷ parts) some = omega arith
 
--- the parts of a run have its bytes, and each but the last a mark behind it
+-- the parts of a run have its bytes, and each but the last a mark after it
 with_marks-split : (p : ℕ → Bool) (run : List ℕ) → with_marks (slice_split p run) ≡ length run + 1
 with_marks-split p [] = refl
 with_marks-split p (b ∷ run) = at_test (p b) (with_marks-split p run)

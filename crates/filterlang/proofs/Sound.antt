@@ -97,7 +97,7 @@ start_zero q ts e = step (λ s. Begun q ts s.0 s.1 s.2) (λ u. Term zero q ts u.
     at_start (starts.Group g) r [] h = tt
     at_start (starts.Group g) r (sign ∷ rest) h = tt
 
--- a group behind its phrase
+-- a group after its phrase
 group_begun : (n : ℕ) (q r : Option Qualifiers) (ts rest : List Kind) (g : Qualifiers) → begins_relation ts ≡ false → Begun q ts (starts.Group g) r rest → IfSome (started (group_term_at n) (starts.Group g) r rest) (λ u. Term (suc n) q ts u.0 u.1 u.2)
 group_begun n q r ts [] g e (phrase, mid, a, w, f, b, c) = absurd cc
 group_begun n q r ts (sign ∷ rest) g e (phrase, mid, a, w, f, b, c) =

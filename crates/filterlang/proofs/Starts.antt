@@ -130,7 +130,7 @@ abbrev Stands : Qualifiers → List Kind → Start → List Kind → Type 0
 Stands g ts (starts.Primitive p) rest = Identified g ts p rest
 Stands g ts (starts.Group h) rest = (mid : List Kind) × (h ≡ g) × (ts ≡ kind.Open ∷ mid) × (rest ≡ ts)
 
--- what is found behind a phrase is one of the two
+-- what is found after a phrase is one of the two
 under_sound : (g : Qualifiers) (ts : List Kind) → IfSome (under g ts) (λ s. Stands g ts s.0 s.1)
 unfolding identified_at
 under_sound g (kind.Not ∷ ts) = tt
@@ -147,7 +147,7 @@ begun_under : (q : Option Qualifiers) (ts mid : List Kind) (phrase : Phrase) (g 
 begun_under q ts mid phrase g (starts.Primitive p) rest e w f (id, a, b) = prim_phrase e w f a b
 begun_under q ts mid phrase g (starts.Group h) rest e w f (behind, a, b, c) = (phrase, behind, e ∙ ap (λ x. (phrase, x)) b, w, f ∙ ap (λ x. Some x) (sym a), ap (λ x. Some x) (sym a), c ∙ b)
 
--- what is found behind a phrase is begun by it
+-- what is found after a phrase is begun by it
 qualified_sound : (q : Option Qualifiers) (ts mid : List Kind) (phrase : Phrase) → phrase_at ts ≡ (phrase, mid) → is_written phrase ≡ true → IfSome (qualified_at phrase mid) (λ s. Begun q ts s.0 s.1 s.2)
 qualified_sound q ts mid phrase e w =
     each_step (λ s. Begun q ts s.0 s.1 s.2) (qualifiers_of phrase) (λ g. under g mid >>= λ s. Some (s.0, Some g, s.1))
@@ -165,7 +165,7 @@ ranged_sound q ts behind phrase e w =
     step (λ p. Ranges phrase behind p.0 p.1) (λ s. Begun q ts s.0 s.1 s.2) (portrange_at phrase behind) (λ p. Some (starts.Primitive p.0, None, p.1)) (portrange_sound phrase behind)
     (λ p h. prim_portrange (e ∙ ap (λ x. (phrase, kind.PortRange ∷ x)) h.3) w h.4 h.5)
 
--- each way on behind a phrase
+-- each way on after a phrase
 phrased_by_sound : (q : Option Qualifiers) (ts : List Kind) (phrase : Phrase) (rest : List Kind) → phrase_at ts ≡ (phrase, rest) → IfSome (phrased_by q ts phrase rest) (λ s. Begun q ts s.0 s.1 s.2)
 phrased_by_sound q ts phrase rest e = at_plain (plain_at phrase rest) refl (plain_sound phrase.protocol phrase.direction phrase.type_word rest)
   where
@@ -181,7 +181,7 @@ phrased_by_sound q ts phrase rest e = at_plain (plain_at phrase rest) refl (plai
     at_plain (Some p) f h = rw (f, phrased_by) (prim_plain (e ∙ ap (λ x. (x, rest)) h.1) h.2 h.3)
     at_plain None f h = at_range (range_at phrase rest) f refl (range_sound phrase rest)
 
--- broadcast and multicast behind their protocol
+-- broadcast and multicast after their protocol
 broadcast_sound : (q : Option Qualifiers) (p : Protocol) (ts : List Kind) → IfSome (broadcast_at p ts) (λ b. Prim q (kind.Protocol p ∷ ts) b.0 None b.1)
 broadcast_sound q protocols.Ether (kind.Broadcast ∷ ts) = prim_ether_broadcast
 broadcast_sound q protocols.Ether (kind.Multicast ∷ ts) = prim_ether_multicast
@@ -278,7 +278,7 @@ is_identifier (kind.Name name ∷ ts) id e = is_name
 is_identifier (kind.Dotted a parts ∷ ts) id e = is_dotted
 is_identifier ts id e = absurd (none-some id e)
 
--- behind a phrase that is no primitive and no range, its qualifiers decide
+-- after a phrase that is no primitive and no range, its qualifiers decide
 phrased_qualified : (q : Option Qualifiers) (ts mid : List Kind) (phrase : Phrase) → ((p : Protocol) → stands_alone p mid ≡ false) → range_at phrase mid ≡ None → is_written phrase ≡ true → phrased_by q ts phrase mid ≡ qualified_at phrase mid
 phrased_qualified q ts mid phrase alone range written = rw (plain_none phrase.protocol phrase.direction phrase.type_word mid alone, range, written, phrased_by)
 
@@ -317,7 +317,7 @@ qualified_identifier phrase mid rest g id p f a b =
     ap (λ o. o >>= λ h. under h mid >>= λ s. Some (s.0, Some h, s.1)) f
     ∙ ap (λ o. o >>= λ s. Some (s.0, Some g, s.1)) (under_identifier g mid (is_identifier mid (id, rest) a) ∙ ap (λ o. o >>= λ x. Some (starts.Primitive x.0, x.1)) (identified_complete g mid rest id p a b))
 
--- a primitive behind a phrase, or without one
+-- a primitive after a phrase, or without one
 phrased_complete : (q : Option Qualifiers) (ts mid rest : List Kind) (phrase : Phrase) (g : Qualifiers) (id : Identifier) (p : Primitive) → phrase_at ts ≡ (phrase, mid) → is_written phrase ≡ true → qualifiers_of phrase ≡ Some g → identifier_at mid ≡ Some (id, rest) → identified g id ≡ Some p → phrased_at q ts ≡ Some (starts.Primitive p, Some g, rest)
 phrased_complete q ts mid rest phrase g id p e w f a b =
     let shape = is_identifier mid (id, rest) a in

@@ -46,7 +46,7 @@ bind_same (Some x) f g h = h x
 abbrev pub Keeps : {S T Q : Type 0} → Joining S T → Reader T Q → (T → Q → List Kind → Type 0) → Type 0
 Keeps {S} {T} {Q} signs next P = (s : S) (t v : T) (q : Q) (ts mid : List Kind) (u : T × Q × List Kind) → P t q ts → signs.sign ts ≡ Some (s, mid) → next q mid ≡ Some u → signs.join s t u.0 ≡ Some v → P v u.1 u.2
 
--- one turn, and what goes on behind it
+-- one turn, and what goes on after it
 turn_keeps : {S T Q : Type 0} (signs : Joining S T) (next : Reader T Q) (P : T → Q → List Kind → Type 0) → Keeps signs next P → (on : T → Q → List Kind → Option (T × Q × List Kind)) → ((t : T) (q : Q) (ts : List Kind) → P t q ts → IfSome (on t q ts) (λ u. P u.0 u.1 u.2)) → (t : T) (q : Q) (ts : List Kind) → P t q ts → (o : Option (S × List Kind)) → signs.sign ts ≡ o → IfSome (turn signs next on t q ts o) (λ u. P u.0 u.1 u.2)
 turn_keeps signs next P keeps on rest t q ts h None e = h
 turn_keeps signs next P keeps on rest t q ts h (Some s) e =

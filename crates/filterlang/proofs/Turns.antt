@@ -70,7 +70,7 @@ started_suc n (starts.Primitive p) q ts = refl
 started_suc n (starts.Group g) q [] = refl
 started_suc n (starts.Group g) q (t ∷ ts) = refl
 
--- a primitive, or a group behind its phrase
+-- a primitive, or a group after its phrase
 pub logical_start : (n : ℕ) (q : Option Qualifiers) (ts : List Kind) → beginning ts ≡ beginnings.Primitive → logical_at n q ts ≡ started_at n q ts
 unfolding logical_at
 logical_start zero q (kind.Not ∷ ts) h = cc

@@ -24,7 +24,7 @@ StopsBelow p rest = (k : ℕ) → k < p → operator_at k rest ≡ None
 abbrev pub Stops : List Kind → Type 0
 Stops rest = (k : ℕ) → operator_at k rest ≡ None
 
--- what is read behind a value, up to a precedence
+-- what is read after a value, up to a precedence
 abbrev after : ℕ → ℕ → Amount → Unit {0} → List Kind → Option (Amount × Unit {0} × List Kind)
 after n zero v q rest = Some (v, q, rest)
 after n (suc p) v q rest = chain (operators (suc p)) (arith_at n p) (length rest) v q rest
@@ -46,7 +46,7 @@ operator_passed k p op mid e less = ap (λ b. if b then Some (op, mid) else None
 operated_made : (op : Operator) (v w : Amount) → is_barred op w ≡ false → operated op v w ≡ Some (binary op v w)
 operated_made op v w e = ap (λ b. if b then None else Some (binary op v w)) e
 
--- a value of the precedence below, and what is read behind it
+-- a value of the precedence below, and what is read after it
 loosened : (n p : ℕ) (v : Amount) (q : Unit {0}) (ts rest : List Kind) → arith_at n p q ts ≡ Some (v, q, rest) → arith_at n (suc p) q ts ≡ after n (suc p) v q rest
 unfolding arith_at arith_by
 loosened n p v q ts rest e = ap (λ o. o >>= λ t. chain (operators (suc p)) (arith_by (factor_at n) p) (length t.2) t.0 t.1 t.2) e

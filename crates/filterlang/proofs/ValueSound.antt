@@ -66,7 +66,7 @@ leaf_sound n q (kind.Named k ∷ ts) = arith_named
 leaf_sound n q (kind.Len ∷ ts) = arith_length
 leaf_sound n q ts = tt
 
--- what stands behind an index makes an accessor of it
+-- what comes after an index makes an accessor of it
 module _ (n : ℕ) (p : Protocol) (layer : Layer) (tokens : List Kind) (v : Amount) (q : Unit {0}) (is : layer_of p ≡ Some layer) where
   sized : (k : ℕ) (rest : List Kind) → Arith n loosest tokens v (kind.Colon ∷ kind.Number k ∷ rest) → (o : Option Size) → size_of k ≡ o
       → IfSome {T = Amount × Unit {0} × List Kind} (◌>>=◌ {A = Size} {B = Size × List Kind} o (λ size. Some (size, rest)) >>= λ size. close_bracket_at size.1 >>= λ behind. Some (accessor layer v size.0, q, behind.1)) (λ u. Arith (suc n) 0 (kind.Protocol p ∷ kind.OpenBracket ∷ tokens) u.0 u.2)

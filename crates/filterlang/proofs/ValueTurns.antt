@@ -45,7 +45,7 @@ factor_parenthesis (suc n) q (kind.Open ∷ ts) h = refl
 factor_parenthesis n q (kind.Operator Minus ∷ ts) h = cc
 factor_parenthesis n q ts h = cc
 
--- a layer that is found, with no level left for what stands behind it
+-- a layer that is found, with no level left for what comes after it
 layer_zero : (o : Option Layer) (q : Unit {0}) (ts : List Kind) → (o >>= λ layer. bracketed layer (arith_by nothing loosest q ts)) ≡ (◌>>=◌ {A = Layer} {B = Layer × List Kind} o (λ layer. Some (layer, kind.OpenBracket ∷ ts)) >>= λ layer. deeper 0 layer.1 >>= λ inner. bracketed layer.0 (arith_at inner.0 loosest q inner.1))
 layer_zero None q ts = refl
 layer_zero (Some layer) q ts = ap (λ o. bracketed layer o) (arith_nothing loosest q ts)

@@ -108,7 +108,7 @@ if_within : (text : List ℕ) (b : Bool) (r s : Result (Kind × ℕ) Cause) → 
 if_within text true r s first second = first
 if_within text false r s first second = second
 
--- a name behind its backslash
+-- a name after its backslash
 backslash_within : (text : List ℕ) (o : Option (Kind × ℕ)) → IfSome o (IsTokenOf (drop 1 text)) → IfSome (option_map (λ name. (name.0, name.1 + 1)) o) (IsTokenOf text)
 backslash_within text None first = tt
 backslash_within text (Some x) first = (omega arith, omega (arith, length-drop 1 text))

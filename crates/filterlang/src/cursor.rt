@@ -100,7 +100,8 @@ impl<'a> Cursor<'a> {
         port_of(number).map_err(|_| Fault::OutOfRange(place))
     }
 
-    /// Two port numbers with a `-` between them, in either order, in the tokens after the phrase and `portrange`.
+    /// Two port numbers with a `-` between them, in either order, in the tokens after the phrase
+    /// and `portrange`.
     #[tactic(auto, unfolding(crate::specs::Reading::portrange_at))]
     pub fn portrange(&mut self, phrase: Phrase, behind: &'a [Token]) -> Result<Primitive, Fault>
         ensures { Gives (λ p. (p, kinds self.new.rest.now)) result (portrange_at phrase (kinds behind.now)) }
@@ -121,8 +122,8 @@ impl<'a> Cursor<'a> {
         })
     }
 
-    /// Goes past the sign at the front, `not`, `(`, `[` or a unary `-`, and returns the levels that are left for what it
-    /// holds open.
+    /// Goes past the sign at the front, `not`, `(`, `[` or a unary `-`, and returns the levels that
+    /// are left for what it holds open.
     pub fn deeper(&mut self, levels: usize) -> Result<usize, Fault>
         ensures { Gives (λ left. (left, kinds self.new.rest.now)) result
             (deeper levels (kinds self.old.rest.now)) }
@@ -151,8 +152,8 @@ impl<'a> Cursor<'a> {
         }
     }
 
-    /// The fault of the identifier that these tokens begin with. A fault in its `mask` or its `/` part has that part's
-    /// place.
+    /// The fault of the identifier that these tokens begin with. A fault in its `mask` or its `/`
+    /// part has that part's place.
     fn misfit(&self, misfit: Misfit, id: Identifier, tokens: &[Token]) -> Fault
         ensures { is_misreading result ≡ true }
     {

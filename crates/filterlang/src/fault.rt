@@ -9,31 +9,35 @@ use std::fmt;
 use std::fmt::{Display, Formatter};
 use thiserror::Error;
 
-/// Why a text is no filter expression. A number is the place of the fault: a byte of the text, counted from 0. It prints as its
-/// name, and then its place if it has one.
+/// Why a text is no filter expression. A number is the place of the fault: a byte of the text,
+/// counted from 0. It prints as its name, and then its place if it has one.
 #[derive(Clone, Copy, Debug, PartialEq, Eq, Error)]
 pub enum Fault {
     /// The text has more than 8,192 bytes.
     TextTooLong,
     /// No token begins with this byte.
     BadByte(usize),
-    /// A word, or a name after a backslash, that the language lacks; the place of a name is its backslash.
+    /// A word, or a name after a backslash, that the language lacks; the place of a name is its
+    /// backslash.
     BadWord(usize),
     /// A number or dotted address that is misspelled or too great, at its first digit.
     BadNumber(usize),
     /// A token, or the end of the text, with which no expression can go on.
     Syntax(usize),
-    /// An identifier without a phrase, if the nearest primitive to its left has no qualifiers to give, or there is none.
+    /// An identifier without a phrase, if the nearest primitive to its left has no qualifiers to
+    /// give, or there is none.
     NoQualifier(usize),
     /// A phrase whose qualifiers do not go together, at its first word.
     BadQualifier(usize),
-    /// An identifier of a kind that the type does not take; or a net's mask of fewer than four parts, at the mask.
+    /// An identifier of a kind that the type does not take; or a net's mask of fewer than four
+    /// parts, at the mask.
     BadIdentifier(usize),
     /// A net with bits outside its mask, at its address.
     NetBits(usize),
     /// A number out of its range, at the number: of an identifier, or the size of an accessor.
     OutOfRange(usize),
-    /// A divisor that is the literal 0 or a named value 0, in parentheses or not, at its first token.
+    /// A divisor that is the literal 0 or a named value 0, in parentheses or not, at its first
+    /// token.
     DivideByZero(usize),
     /// The `(`, `[`, `not` or unary `-` that would be the 65th open one.
     TooNested(usize),

@@ -1,5 +1,5 @@
-//! Laws of the language's definitions. No code relies on them: each is a function that does nothing and
-//! whose contract is the law.
+//! Laws of the language's definitions. No code relies on them: each is a function that does nothing
+//! and whose contract is the law.
 
 ghost use Rattle.std.specs.Prelude.{◌≡◌, ◌≤◌, ◌⊎◌, ℕ, List, Some, true, length};
 ghost use Rattle.std.specs.List.{AllByRecursion};
@@ -39,7 +39,8 @@ pub fn longest_sign()
         AllByRecursion (λ sign. stands text sign.0 ≡ true → length sign.0 ≤ n) signs }
 {}
 
-/// No word that a text begins with, and that no letter or digit follows, is longer than the one that is read there.
+/// No word that a text begins with, and that no letter or digit follows, is longer than the one
+/// that is read there.
 pub fn longest_word()
     ensures { (text : List ℕ) (kind : Kind) (n : ℕ) → whole_word words text ≡ Some (kind, n) →
         AllByRecursion (λ word. stands_whole text word.0 ≡ true → length word.0 ≤ n) words }

@@ -131,19 +131,21 @@ fn tokens_of(alloc: Global, text: &[u8]) -> Result<Vec<Token>, Fault>
     }
 }
 
-/// The tokens of a filter expression, as pcap-filter(7) spells words, numbers and addresses, in the profile of this
-/// project: what each token is, with its span in bytes. The spans are in order.
+/// The tokens of a filter expression, as pcap-filter(7) spells words, numbers and addresses, in the
+/// profile of this project: what each token is, with its span in bytes. The spans are in order.
 ///
-/// `TextTooLong` comes if and only if the text has more than 8,192 bytes. In any other text the first place where no
-/// token begins, if there is one, is named with its cause: `BadByte`, `BadWord` or `BadNumber`. `NoMemory` can come
-/// instead. Else the result is the text's one list of tokens.
+/// `TextTooLong` comes if and only if the text has more than 8,192 bytes. In any other text the
+/// first place where no token begins, if there is one, is named with its cause: `BadByte`,
+/// `BadWord` or `BadNumber`. `NoMemory` can come instead. Else the result is the text's one list of
+/// tokens.
 pub fn lex(alloc: Global, text: &str) -> Result<Vec<Token>, Fault>
     // The tokens are the text's, and no others are.
     ensures tokens { IfOk result (λ found. Lexes text.now 0 found.items) }
     ensures only { IfOk result (λ found. (others : List Token) → Lexes text.now 0 others → others ≡ found.items) }
     ensures in_order { IfOk result (λ found. AreInOrder 0 (length text.now) found.items) }
 
-    // A fault says what is wrong with the text, and what is wrong is said, unless memory was refused.
+    // A fault says what is wrong with the text, and what is wrong is said, unless memory was
+    // refused.
     ensures fault { IfErr result (IsFaultOf text.now) }
     ensures too_long { IsErrOf result Fault.TextTooLong ↔ (8192 < length text.now) }
     ensures lexed { (tokens : List Token) → length text.now ≤ MAX_TEXT → Lexes text.now 0 tokens →

@@ -1,5 +1,5 @@
-//! The filter language of pcap-filter(7), in this project's profile: a text's tokens with their places, and
-//! the tree of its one reading.
+//! The filter language of pcap-filter(7), in this project's profile: a text's tokens with their
+//! places, and the tree of its one reading.
 #![tactic(auto)]
 
 mod cursor;

@@ -29,7 +29,8 @@ pub(crate) fn look_ahead(tokens: &[Token]) -> Beginning
     }
 }
 
-/// What the first token of a value says of it, if it has operators only within parentheses and brackets.
+/// What the first token of a value says of it, if it has operators only within parentheses and
+/// brackets.
 #[derive(Clone, Copy)]
 pub(crate) enum Opening {
     Minus,

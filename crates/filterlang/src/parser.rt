@@ -24,11 +24,12 @@ use crate::tree::{joined_by, negate};
 use filter_tree::{Expr, Primitive};
 use std::alloc::Global;
 
-/// The most signs of a text that may be open within one another: `(` and `[`, and `not` and a unary `-` until the
-/// operand is complete.
+/// The most signs of a text that may be open within one another: `(` and `[`, and `not` and a unary
+/// `-` until the operand is complete.
 const MAX_NESTING: usize = 64;
 
-/// What begins a term that is neither negated nor in parentheses: a whole primitive, or the phrase before a group.
+/// What begins a term that is neither negated nor in parentheses: a whole primitive, or the phrase
+/// before a group.
 #[derive(Clone, Copy)]
 pub(crate) enum Start {
     Primitive(Primitive),
@@ -214,16 +215,17 @@ fn tree(alloc: Global, tokens: &[Token], end: usize) -> Result<Expr, Fault>
     Ok(expr)
 }
 
-/// Reads a filter expression as pcap-filter(7) does, in the profile of this project, and returns its tree. `and` and `or`
-/// bind alike, from the left. An identifier without a phrase takes the qualifiers of the nearest primitive to its left.
-/// The operators of arithmetic bind as in C, and no divisor is written as 0. The empty text is the tree that accepts
-/// every packet.
+/// Reads a filter expression as pcap-filter(7) does, in the profile of this project, and returns
+/// its tree. `and` and `or` bind alike, from the left. An identifier without a phrase takes the
+/// qualifiers of the nearest primitive to its left. The operators of arithmetic bind as in C, and
+/// no divisor is written as 0. The empty text is the tree that accepts every packet.
 ///
-/// The tree reads the text, and no other tree does. `TextTooLong`, `BadByte`, `BadWord` and `BadNumber` come as from
-/// [`lex`](crate::lexer::lex). `NoMemory` comes if memory was refused. Any other fault means that no tree reads the text,
-/// and has the byte of its place. If several apply, the one with the least place is named; at one place the first of
-/// `Syntax`, `NoQualifier`, `BadQualifier`, `BadIdentifier`, `NetBits`, `OutOfRange`, `DivideByZero` and `TooNested`.
-/// That order is tested and not proved.
+/// The tree reads the text, and no other tree does. `TextTooLong`, `BadByte`, `BadWord` and
+/// `BadNumber` come as from [`lex`](crate::lexer::lex). `NoMemory` comes if memory was refused. Any
+/// other fault means that no tree reads the text, and has the byte of its place. If several apply,
+/// the one with the least place is named; at one place the first of `Syntax`, `NoQualifier`,
+/// `BadQualifier`, `BadIdentifier`, `NetBits`, `OutOfRange`, `DivideByZero` and `TooNested`. That
+/// order is tested and not proved.
 pub fn parse(alloc: Global, text: &str) -> Result<Expr, Fault>
     // The tree reads the text, and no other tree does.
     ensures reads { IfOk result (λ expr. ReadsAs text.now (tree_of expr)) }

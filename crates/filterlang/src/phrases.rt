@@ -136,7 +136,8 @@ pub(crate) fn bare_number_at(tokens: &[Token]) -> Result<(u32, &[Token]), &[Toke
     }
 }
 
-/// The dotted address at the front with its parts and what follows, or the place of the token that is none.
+/// The dotted address at the front with its parts and what follows, or the place of the token that
+/// is none.
 fn address_at(tokens: &[Token]) -> Result<(u32, Parts, &[Token]), &[Token]>
     ensures { address_at (kinds tokens.now)
         ≡ option_map (λ found. (found.0, found.1, kinds found.2.now)) (result_ok result) }
@@ -147,7 +148,8 @@ fn address_at(tokens: &[Token]) -> Result<(u32, Parts, &[Token]), &[Token]>
     }
 }
 
-/// What follows a dotted address within its identifier, and the tokens after that; or the place where it breaks off.
+/// What follows a dotted address within its identifier, and the tokens after that; or the place
+/// where it breaks off.
 fn dotted_at(
     address: u32,
     parts: Parts,

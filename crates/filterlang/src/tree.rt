@@ -17,8 +17,8 @@ pub(crate) fn negate(alloc: Global, expr: Expr) -> Result<Expr, Fault>
     Ok(Expr::Not(Box::new(alloc, expr)?))
 }
 
-/// Two expressions and the word between them. The left one is in its box while the right one is read: if that fails,
-/// one call frees a box, where a tree would have to be taken apart here.
+/// Two expressions and the word between them. The left one is in its box while the right one is
+/// read: if that fails, one call frees a box, where a tree would have to be taken apart here.
 pub(crate) fn joined_by(
     alloc: Global,
     joint: Joint,

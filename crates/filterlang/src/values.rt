@@ -59,7 +59,8 @@ impl<'a> Cursor<'a> {
         Ok(Expr::Relation(comparison, left, right))
     }
 
-    /// A value and what operators up to this precedence join to it, from the left; precedence 0 joins nothing.
+    /// A value and what operators up to this precedence join to it, from the left; precedence 0
+    /// joins nothing.
     #[tactic(auto, using(crate::proofs::ValueTurns::arith_none, crate::proofs::ValueTurns::arith_some))]
     #[cycle(arith)]
     fn arith(&mut self, alloc: Global, levels: usize, precedence: usize) -> Result<Value, Fault>

@@ -1,4 +1,5 @@
-//! Arithmetic, and bytes at computed offsets. The answers are written down by hand, from the tables of docs/LANGUAGE.md.
+//! Arithmetic, and bytes at computed offsets. The answers are written down by hand, from the tables
+//! of docs/LANGUAGE.md.
 
 use crate::kinds::found;
 use crate::same::same;

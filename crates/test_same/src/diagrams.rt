@@ -1,5 +1,5 @@
-//! The caller that the page of `filter_diagrams` shows, crates/filter_diagrams/README.md. The answers are written down by hand, from the
-//! tables of docs/LANGUAGE.md.
+//! The caller that the page of `filter_diagrams` shows, crates/filter_diagrams/README.md. The
+//! answers are written down by hand, from the tables of docs/LANGUAGE.md.
 
 use filter_bdd::{Answer, Budget, Order};
 use filter_diagrams::{Builder, Refusal};
@@ -29,5 +29,5 @@ fn accepts(rt: &(impl Abort + AllocGlobal), text: &str) -> Result<bool, Refusal>
 #[test]
 fn what_accepts_every_packet_is_one_leaf(rt: HostRuntime) {
     assert_eq!(&rt; accepts(&rt, "less 100 or greater 100"), Ok(true));
-    assert_eq!(&rt; accepts(&rt, "less 100 or greater 101"), Ok(false));
+    assert_eq!(&rt; accepts(&rt, "less 100 or greater 102"), Ok(false));
 }

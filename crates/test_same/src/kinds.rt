@@ -1,4 +1,5 @@
-//! Pairs of expressions by how they differ, written down by hand from the tables of docs/LANGUAGE.md.
+//! Pairs of expressions by how they differ, written down by hand from the tables of
+//! docs/LANGUAGE.md.
 
 use crate::same::same;
 use filter_same::{Sameness, decide};
@@ -24,7 +25,8 @@ static DIFFER: [(&str, &str); 12] = [
     ),
 ];
 
-/// Pairs that accept the same packets of those that are captured at most as far as they were on the wire.
+/// Pairs that accept the same packets of those that are captured at most as far as they were on the
+/// wire.
 static CAPTURED: [(&str, &str); 7] = [
     ("ip", "ip and greater 14"),
     ("arp", "arp and greater 14"),
@@ -35,7 +37,8 @@ static CAPTURED: [(&str, &str); 7] = [
     ("less 5 and ip", "ip and not ip"),
 ];
 
-/// Pairs that never get Yes and No of such a packet, and one of which aborts where the other says Yes.
+/// Pairs that never get Yes and No of such a packet, and one of which aborts where the other says
+/// Yes.
 static SHORT: [(&str, &str); 9] = [
     ("port 80 or 443", "port 443 or 80"),
     ("host 10.0.0.1 or 10.0.0.2", "host 10.0.0.2 or 10.0.0.1"),

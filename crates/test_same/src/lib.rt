@@ -1,5 +1,5 @@
-//! Tests of `filter_same`: the caller of its page, pairs of expressions that it decides, pairs that it may not call the same, and
-//! programs. The caller of the page of `filter_diagrams`.
+//! Tests of `filter_same`: the caller of its page, pairs of expressions that it decides, pairs that
+//! it may not call the same, and programs. The caller of the page of `filter_diagrams`.
 #![tactic(auto)]
 
 #[cfg(test)]

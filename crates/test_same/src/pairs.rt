@@ -1,5 +1,5 @@
-//! The caller that the page of `filter_same` shows, crates/filter_same/README.md, and pairs of expressions. The answers are
-//! written down by hand, from the tables of docs/LANGUAGE.md.
+//! The caller that the page of `filter_same` shows, crates/filter_same/README.md, and pairs of
+//! expressions. The answers are written down by hand, from the tables of docs/LANGUAGE.md.
 
 use crate::same::same;
 use bpfvm::NoMemory;
@@ -132,7 +132,7 @@ fn the_same_tree_is_the_same_whatever_it_calculates(rt: HostRuntime) {
     );
 }
 
-/// So many tests of four bytes each, one after the other, joined by `and`.
+/// `count` tests of four bytes each, one after the other, joined by `and`.
 fn chain(rt: &(impl Abort + AllocGlobal), count: u16, last: u32) -> String {
     let mut text = String::new(rt.alloc());
     for place in 0..count {
@@ -154,7 +154,7 @@ fn what_asks_for_thousands_of_bits_is_decided(rt: HostRuntime) {
     same(&rt, matches!(other, Sameness::Differ(_)), true);
 }
 
-/// A chain of so many tests.
+/// A chain of `count` tests.
 fn deep(rt: &(impl Abort + AllocGlobal), count: u32) -> String {
     let mut text = String::new(rt.alloc());
     for _ in 1..count {

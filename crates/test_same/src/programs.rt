@@ -1,8 +1,9 @@
-//! Expressions and programs of `tcpdump -ddd` (4.99.3 with libpcap 1.10.3, for Ethernet), and how they differ.
+//! Expressions and programs of `tcpdump -ddd` (4.99.3 with libpcap 1.10.3, for Ethernet), and how
+//! they differ.
 
 use crate::same::same;
 use bpfvm::read_listing;
-use filter_same::{Filter, Sameness, decide_filters};
+use filter_same::{Cause, Filter, Sameness, decide_filters};
 use filterlang::parse;
 use std::process::Abort;
 
@@ -72,12 +73,22 @@ static DIFFER: [(&str, &str); 6] = [
     ),
 ];
 
-/// What is known of an expression and of a listing.
-fn found(rt: &(impl Abort + AllocGlobal), expr: &str, listing: &str) -> Sameness {
+/// What is known of an expression and of a listing, as far as these nodes decide it.
+fn found_within(
+    rt: &(impl Abort + AllocGlobal),
+    expr: &str,
+    listing: &str,
+    budget: usize,
+) -> Sameness {
     let expr = parse(rt.alloc(), expr).expect(rt, "an expression");
     let program = read_listing(listing.as_bytes()).expect(rt, "a listing");
     let filters = (Filter::Expression(&expr), Filter::Program(&program));
-    decide_filters(rt.alloc(), filters.0, filters.1, 500_000).expect(rt, "there is memory")
+    decide_filters(rt.alloc(), filters.0, filters.1, budget).expect(rt, "there is memory")
+}
+
+/// What is known of an expression and of a listing.
+fn found(rt: &(impl Abort + AllocGlobal), expr: &str, listing: &str) -> Sameness {
+    found_within(rt, expr, listing, 500_000)
 }
 
 #[test]
@@ -95,7 +106,8 @@ fn other_programs_differ(rt: HostRuntime) {
     }
 }
 
-/// Listings that accept what an expression does. They calculate, use scratch memory and X, and return the accumulator.
+/// Listings that accept what an expression does. They calculate, use scratch memory and X, and
+/// return the accumulator.
 static CALCULATING: [(&str, &str); 6] = [
     // len + 1 = 101
     (
@@ -138,4 +150,41 @@ fn a_program_that_calculates_another_number_differs(rt: HostRuntime) {
     let listing = "5\n128 0 0 0\n4 0 0 1\n21 0 1 100\n6 0 0 1\n6 0 0 0\n";
     let differs = matches!(found(&rt, "len = 100", listing), Sameness::Differ(_));
     same(&rt, differs, true);
+}
+
+/// Listings that are too large for three nodes, and why.
+static TOO_LARGE: [(&str, Cause); 5] = [
+    // X = 7; A = P[16:2] / X
+    (
+        "6\n1 0 0 7\n40 0 0 16\n60 0 0 0\n21 0 1 3\n6 0 0 1\n6 0 0 0\n",
+        Cause::Nodes,
+    ),
+    // M[1] = 7; A = P[16:2]; X = M[1]; A = A % X
+    (
+        "8\n0 0 0 7\n2 0 0 1\n40 0 0 16\n97 0 0 1\n156 0 0 0\n21 0 1 3\n6 0 0 1\n6 0 0 0\n",
+        Cause::Nodes,
+    ),
+    // X = P[16:2]; A = 7 * X
+    (
+        "8\n40 0 0 16\n7 0 0 0\n0 0 0 7\n44 0 0 0\n21 0 1 3\n6 0 0 1\n6 0 0 0\n6 0 0 0\n",
+        Cause::Nodes,
+    ),
+    // M[1] = 7; X = P[18:2]; M[1] = X; A = 7; X = M[1]; A = A / X
+    (
+        "10\n0 0 0 7\n2 0 0 1\n40 0 0 18\n7 0 0 0\n3 0 0 1\n0 0 0 7\n97 0 0 1\n60 0 0 0\n22 0 0 0\n6 0 0 0\n",
+        Cause::Quotient,
+    ),
+    // X = P[18:2]; A = P[16:2]; A = A * X
+    (
+        "7\n40 0 0 18\n7 0 0 0\n40 0 0 16\n44 0 0 0\n21 0 1 3\n6 0 0 1\n6 0 0 0\n",
+        Cause::Product,
+    ),
+];
+
+#[test]
+fn a_constant_in_x_is_no_field(rt: HostRuntime) {
+    for (listing, cause) in TOO_LARGE.iter() {
+        let found = found_within(&rt, "ip", listing, 3);
+        same(&rt, found == Sameness::NotDecided(*cause), true);
+    }
 }

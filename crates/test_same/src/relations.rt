@@ -1,4 +1,5 @@
-//! Relations against primitives and other relations. The answers are written down by hand, from the tables of docs/LANGUAGE.md.
+//! Relations against primitives and other relations. The answers are written down by hand, from the
+//! tables of docs/LANGUAGE.md.
 
 use crate::kinds::found;
 use crate::same::same;

@@ -50,7 +50,8 @@ fn octet(part: &[u8], base: u32, most: usize) -> Option<u8>
     u8::try_from(numeral(part, base)?).ok()
 }
 
-/// The numbers between the marks of a run, and how many they are: at most six, each a part of an address.
+/// The numbers between the marks of a run, and how many they are: at most six, each a part of an
+/// address.
 fn octets(run: &[u8], mark: u8, base: u32, most: usize) -> Option<([u8; 6], usize)>
     requires low { 2 ≤ base }
     requires high { base ≤ 36 }

@@ -7,7 +7,8 @@ ghost use Rattle.filterlang.specs.Finding.{IsLengthWithin, first_of};
 use crate::token::{Joint, Kind, Protocol, Side, TypeWord};
 use filter_tree::{Comparison, Operator};
 
-/// The words of pcap-filter(7), the hyphenated ones first: the first that fits at a place is the longest there.
+/// The words of pcap-filter(7), the hyphenated ones first: so the first match at a place is the
+/// longest there.
 pub(crate) const WORDS: [(&[u8], Kind); 38] = [
     (b"tcp-fin", Kind::Named(1)),
     (b"tcp-syn", Kind::Named(2)),
@@ -59,7 +60,7 @@ pub(crate) const NAMES: [(&[u8], Kind); 6] = [
     (b"rarp", Kind::Name(Protocol::Rarp)),
 ];
 
-/// The signs, the longer ones first: the first that fits at a place is the longest there.
+/// The signs, the longer ones first: so the first match at a place is the longest there.
 pub(crate) const SIGNS: [(&[u8], Kind); 25] = [
     (b"<<", Kind::Operator(Operator::ShiftLeft)),
     (b">>", Kind::Operator(Operator::ShiftRight)),

@@ -27,8 +27,8 @@ pub(crate) fn plain_of(protocol: Protocol) -> Option<Plain>
     }
 }
 
-/// Whether a protocol word before these tokens is the plain primitive: no identifier, `(`, `[` or `portrange` follows,
-/// nor, after `ip`, `multicast`.
+/// Whether a protocol word before these tokens is the plain primitive: no identifier, `(`, `[` or
+/// `portrange` follows, nor, after `ip`, `multicast`.
 pub(crate) fn stands_alone(protocol: Protocol, rest: &[Token]) -> bool
     ensures { result ≡ stands_alone protocol (kinds rest.now) }
 {
@@ -57,8 +57,8 @@ pub(crate) fn plain_at(phrase: Phrase, rest: &[Token]) -> Option<Plain>
     }
 }
 
-/// A primitive that takes no qualifiers, with what follows it; nothing if the tokens begin with none, and the
-/// place where one breaks off.
+/// A primitive that takes no qualifiers, with what follows it; nothing if the tokens begin with
+/// none, and the place where one breaks off.
 pub(crate) fn unqualified_at(tokens: &[Token]) -> Result<Option<(Primitive, &[Token])>, &[Token]>
     ensures { option_map (option_map (λ found. (found.0, kinds found.1.now))) (result_ok result)
         ≡ unqualified_at (kinds tokens.now) }

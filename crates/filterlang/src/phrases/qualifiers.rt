@@ -101,8 +101,8 @@ pub(crate) fn transport_of(protocol: Option<Protocol>) -> Option<Option<Transpor
     }
 }
 
-/// The qualifiers of a phrase, if they go together. Without a direction source or destination is meant,
-/// without a type a host.
+/// The qualifiers of a phrase, if they go together. Without a direction source or destination is
+/// meant, without a type a host.
 pub(crate) fn qualifiers_of(phrase: Phrase) -> Option<Qualifiers>
     ensures { result ≡ qualifiers_of phrase }
 {

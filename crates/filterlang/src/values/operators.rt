@@ -16,7 +16,8 @@ use std::alloc::Global;
 /// The precedence of the operators that bind most loosely.
 pub(crate) const LOOSEST: usize = 6;
 
-/// How loosely an operator binds, in C's order: of two the one with the lesser number takes its sides first.
+/// How loosely an operator binds, in C's order: of two the one with the lesser number takes its
+/// sides first.
 fn precedence_of(operator: Operator) -> usize
     ensures { result ≡ precedence_of operator }
 {
@@ -59,8 +60,8 @@ pub(crate) fn operator_at(precedence: usize, tokens: &[Token]) -> Option<(Operat
     }
 }
 
-/// Two values and the operator between them. `DivideByZero` at this place, that of the right one, if that is a
-/// divisor and 0.
+/// Two values and the operator between them. `DivideByZero` at this place, that of the right one,
+/// if that is a divisor and 0.
 pub(crate) fn combine(
     alloc: Global,
     operator: Operator,

@@ -9,7 +9,7 @@ use Rattle.filter_diagrams.specs.Programs.{program_test}
 use Rattle.filter_diagrams.proofs.Runs.{end-says, verdict_by}
 use Rattle.filter_same.proofs.filters.program_verdict.Goals as goal
 
--- the end that is told, of the packet that the witness is
+-- the end that is reported, of the packet that the witness is
 says : (program : List Insn) (w : Witness) (bytes : List ℕ) (place : ℕ) (how : How) → bytes ≡ w.bytes.items → IsEnd program bytes w.wire place how → verdict_by how ≡ program_test program (packet w)
 says program w bytes place how is end = end-says program (packet w) place how (subst (λ (b : List ℕ). IsEnd program b w.wire place how) is end)
 
