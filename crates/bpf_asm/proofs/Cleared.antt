@@ -79,7 +79,7 @@ effect_kept : (packet : List ℕ) (wire : ℕ) (i : Insn) (r : Registers) → ef
 unfolding effect
 effect_kept packet wire i r = ap (λ o. effect_if o packet wire (cleared i) r) (operation_kept i) ∙ effect_as (bpf.operation_of i.code) packet wire i r
 
--- the answer that the run comes to after an effect
+-- the answer that the run reaches after an effect
 abbrev goes_on : List Insn → List ℕ → ℕ → Effect → ℕ
 goes_on others packet wire (Goes passed r) = answer others packet wire passed r
 goes_on others packet wire (Ends n) = n

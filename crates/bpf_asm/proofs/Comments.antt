@@ -5,7 +5,7 @@ use Rattle.std.specs.List.{starts_with}
 use Rattle.std.proofs.lemmas.List.{at_drop_more, at_drop_all}
 use Rattle.bpf_asm.specs.Tokens.{past_close}
 
--- so many bytes more
+-- this many more bytes
 abbrev pub further : ℕ → Option ℕ → Option ℕ
 further n found = option_map (λ m. m + n) found
 

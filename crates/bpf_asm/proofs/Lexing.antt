@@ -23,7 +23,7 @@ pub onto_none : {A E : Type 0} (r : Result (List A) E) → r ≡ all_onto [] r
 onto_none (Ok ys) = refl
 onto_none (Err e) = refl
 
--- the tokens past so many bytes are those of the text behind them
+-- the tokens past some bytes are those of the text after them
 lexed-skip : (n : ℕ) (bs : List ℕ) → lexed n bs ≡ lexed 0 (drop n bs)
 lexed-skip zero [] = refl
 lexed-skip (suc n) [] = refl

@@ -20,7 +20,7 @@ too_great limit base n (b ∷ bs) positive above = digit_cases (is_digit b base)
     digit_cases true h = h
     digit_cases false h = refl
 
--- bytes that are there are a numeral behind 0
+-- bytes that are there are a numeral after 0
 pub numeral_is : (base : ℕ) (bs : List ℕ) → 0 < length bs → numeral base bs ≡ number_after base 0 bs
 numeral_is base [] nonempty = absurd (omega arith)
 numeral_is base (b ∷ bs) nonempty = refl

@@ -81,7 +81,7 @@ words_in_line (b ∷ bs) all =
     let both = both_true (is_word_byte b) (list_all is_word_byte bs) all in
     rw (word_in_line b both.0, words_in_line bs both.1) refl
 
--- the text is part of a line, of at most so many bytes, and is read as these tokens
+-- the text is part of a line, of at most this many bytes, and is read as these tokens
 pub record Spells (text : List ℕ) (ts : List Token) (most : ℕ) : Type 0 where
   pub lexes : lexed 0 text ≡ Ok ts
   pub flat : list_all in_line text ≡ true
@@ -154,7 +154,7 @@ word_number b bs n digit e is =
     ap (λ o. found_or o (number_or (is_ascii_digit b || b == 45) (number_of (b ∷ bs)))) none
     ∙ ap (λ test. number_or test (number_of (b ∷ bs))) digit ∙ ap (λ o. number_or true o) is
 
--- the text is a number, of at most so many bytes
+-- the text is a number, of at most this many bytes
 pub record NumberText (text : List ℕ) (n most : ℕ) : Type 0 where
   pub lexes : (rest : List ℕ) → begins is_word_byte rest ≡ false → lexed 0 (text ++ rest) ≡ onto (tokens.Number n) (lexed 0 rest)
   pub flat : list_all in_line text ≡ true

@@ -1,4 +1,4 @@
--- What calls answer that may be refused memory, and how words are found in tables. Beside `IsRefused`, private clauses alone say this.
+-- What calls answer that may be refused memory, and how words are found in tables. Except `IsRefused`, only private clauses say this.
 use Rattle.std.specs.Prelude.{◌≡◌, ◌⊎◌, ℕ, ◌<◌, ◌≤◌, List, Option, Result, Ok, Err, option_map}
 use Rattle.std.specs.Borrow.{Bor}
 use Rattle.std.specs.List.{find}
@@ -9,7 +9,7 @@ use Rattle.bpf_asm.specs.Types.faults
 use Rattle.bpf_asm.specs.Types.fronts
 use Rattle.bpf_asm.specs.Assembly.{assembled}
 
--- why a text is no assembly of a program; want of memory says nothing
+-- why a text is no assembly of a program; that memory ran out says nothing
 abbrev pub IsRefused : List ℕ → AssemblyFault → Type 0
 IsRefused text faults.NoMemory = Unit {0}
 IsRefused text (faults.Program fault) = (insns : List Insn) × (assembled text ≡ Ok insns) × IsRefusedAs insns fault
@@ -24,11 +24,11 @@ Agrees view (Err fault) answer = (fault ≡ faults.NoMemory) ⊎ (answer ≡ Err
 abbrev pub first_of : List ℕ → List (Bor (List ℕ) × Token) → Option Token
 first_of word table = option_map (λ e. e.1) (find (λ e. bytes_eq e.0.now word) table)
 
--- so many bytes of a text, one at least
+-- n bytes of a text: at least one, and at most all of them
 abbrev pub IsLengthWithin : ℕ → ℕ → Type 0
 IsLengthWithin n bytes = (0 < n) × (n ≤ bytes)
 
--- what stands at the front of so many bytes lies within them
+-- what is at the front of this many bytes lies within them
 abbrev pub IsWithin : Front → ℕ → Type 0
 IsWithin fronts.End bytes = Unit {0}
 IsWithin (fronts.Blank n) bytes = IsLengthWithin n bytes

@@ -10,7 +10,7 @@ use Rattle.bpfvm.specs.Machine.{verdict}
 use Rattle.bpf_asm.specs.Assembly.{assembled}
 use Rattle.bpf_asm.specs.Notation.{is_assembly}
 
--- An instruction with 0 in each field that its operation does not use: a conditional jump alone uses jt and jf.
+-- An instruction with 0 in each field that its operation does not use: only a conditional jump uses jt and jf.
 abbrev pub cleared_as : Option Operation → Insn → Insn
 cleared_as (Some (Branch test Constant)) i = i
 cleared_as (Some (Branch test InIndex)) i = record { code = i.code; jt = i.jt; jf = i.jf; k = 0 }

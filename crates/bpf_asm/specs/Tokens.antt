@@ -89,14 +89,14 @@ abbrev pub onto : {A E : Type 0} → A → Result (List A) E → Result (List A)
 onto x (Ok xs) = Ok (x ∷ xs)
 onto x (Err e) = Err e
 
--- what follows from what stands at the front of a text, where rest says what follows past so many more bytes
+-- what follows from what is at the front of a text; `rest` says what follows past this many more bytes
 abbrev pub after : Front → (ℕ → Result (List Token) Cause) → Result (List Token) Cause
 after fronts.End rest = Ok []
 after (fronts.Blank n) rest = rest (n - 1)
 after (fronts.Token token n) rest = onto token (rest (n - 1))
 after (fronts.Stuck cause) rest = Err cause
 
--- the tokens of a text past so many bytes, from the left; or why there are none
+-- the tokens of a text past its first n bytes, from the left; or why there are none
 abbrev pub lexed : ℕ → List ℕ → Result (List Token) Cause
 lexed n [] = Ok []
 lexed (suc n) (b ∷ bs) = lexed n bs

@@ -44,8 +44,8 @@ fn write_element(text: &mut String, insn: &Insn) -> Result<(), NoMemory>
     Ok(())
 }
 
-/// The instructions of a program as the elements of an array of C's `struct bpf_insn`, a line for each, to the byte as
-/// `tcpdump -dd` prints them.
+/// The instructions of a program as the elements of an array of C's `struct bpf_insn`, a line for
+/// each, to the byte as `tcpdump -dd` prints them.
 ///
 /// `NoMemory` if memory for the text was refused.
 pub fn write_array(alloc: Global, program: &Program) -> Result<Vec<u8>, NoMemory>

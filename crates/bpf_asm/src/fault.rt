@@ -15,7 +15,8 @@ use thiserror::Error;
 pub enum Cause {
     /// A byte with which no word, number or sign begins, or a `/*` without its `*/` on the line.
     BadByte,
-    /// A number that is misspelled, or out of its range: below -2,147,483,648 or above 4,294,967,295.
+    /// A number that is misspelled, or out of its range: below -2,147,483,648 or above
+    /// 4,294,967,295.
     BadNumber,
     /// A label of more than 32 bytes.
     LongLabel,
@@ -63,12 +64,13 @@ impl Display for Cause {
     }
 }
 
-/// Why a text is no assembly of a program. It prints as its name and its line, and a program's fault as `Program` and that fault.
+/// Why a text is no assembly of a program. It prints as its name and its line, and a program's
+/// fault as `Program` and that fault.
 #[derive(Clone, Copy, Debug, PartialEq, Eq, Error)]
 pub enum AssemblyFault {
     /// The text has more than 65,536 bytes.
     TextTooLong,
-    /// This line, counted from 1, is the first that has a fault, and this is the fault.
+    /// The first line with a fault, counted from 1, and the fault.
     Line(usize, Cause),
     /// The instructions are no program. A place counts them from 0.
     Program(Invalid),
@@ -77,7 +79,8 @@ pub enum AssemblyFault {
 }
 
 impl AssemblyFault {
-    /// Its name, without a line and without the fault of the program; of a line it is the name of the cause.
+    /// Its name, without a line and without the fault of the program; of a line it is the name of
+    /// the cause.
     pub fn name(self) -> &'static str
         ensures { result.now ≡ assembly_fault_name self }
     {

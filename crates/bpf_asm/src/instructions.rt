@@ -127,7 +127,8 @@ fn return_code(operand: Operand) -> Option<(u16, u32)>
     }
 }
 
-/// The code and the operand of arithmetic or a test, which has one code with a constant and another one with the index register.
+/// The code and the operand of arithmetic or a test, which has one code with a constant and another
+/// one with the index register.
 fn pair_code(constant: u16, index: u16, operand: Operand) -> Option<(u16, u32)>
     ensures { result ≡ pair_code constant index operand }
 {
@@ -138,7 +139,8 @@ fn pair_code(constant: u16, index: u16, operand: Operand) -> Option<(u16, u32)>
     }
 }
 
-/// The code and the operand of an instruction that does not jump, if it takes an operand of this form.
+/// The code and the operand of an instruction that does not jump, if it takes an operand of this
+/// form.
 fn code_of(name: Name, operand: Operand) -> Option<(u16, u32)>
     ensures { result ≡ code_of name operand }
 {
@@ -207,8 +209,8 @@ fn jump_at(tokens: &[Token]) -> Option<Instruction>
     Some(Instruction::Jump(target))
 }
 
-/// The other way of a conditional jump, after the one that is taken if the test holds. Without it the jump goes on at the next
-/// instruction.
+/// The other way of a conditional jump, after the one that is taken if the test holds. Without it
+/// the jump goes on at the next instruction.
 fn second_way(tokens: &[Token]) -> Option<Target>
     ensures { result ≡ second_way tokens.now }
 {

@@ -33,7 +33,7 @@ fn passed_by(line: &Line) -> usize
     if line.instruction.is_some() { 1 } else { 0 }
 }
 
-/// How many instructions stand before the first of these lines that has this label.
+/// How many instructions come before the first of these lines that has this label.
 fn ahead(label: &Label, lines: &[Line]) -> Option<usize>
     ensures { result ≡ ahead label.now lines.now }
 {
@@ -47,7 +47,8 @@ fn ahead(label: &Label, lines: &[Line]) -> Option<usize>
     None
 }
 
-/// How many instructions a jump to this label passes, between the lines up to its own and those that follow.
+/// How many instructions a jump to this label passes, between the lines up to its own and those
+/// that follow.
 fn label_distance(label: &Label, so_far: &[Line], rest: &[Line]) -> Result<usize, Cause>
     ensures { result ≡ label_distance label.now so_far.now rest.now }
 {

@@ -1,9 +1,11 @@
-//! Laws of the definitions that the contracts cite. Each function is empty, and its contract is the law.
+//! Laws of the definitions that the contracts cite. Each function is empty, and its contract is the
+//! law.
 
 ghost use Rattle.bpf_asm.specs.Laws.{ImagesAreRead, ImagesAreAssembly, ClearedIsValid, ClearedAnswersAlike, AssembledIsReadAgain};
 
-/// The image of a valid program is read as that program, with 0 in each field that an instruction does not use. With these fields
-/// so, it is a valid program too, and answers the same to each packet.
+/// The image of a valid program is read as that program, with 0 in each field that an instruction
+/// does not use. With these fields so, it is a valid program too, and answers the same to each
+/// packet.
 pub fn images_are_read()
     ensures read { ImagesAreRead }
     ensures assembly { ImagesAreAssembly }

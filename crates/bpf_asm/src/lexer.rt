@@ -76,7 +76,7 @@ fn past_close(text: &[u8]) -> Option<usize>
     None
 }
 
-/// The comment whose `/*` stands at the front of a text.
+/// The comment whose `/*` is at the front of a text.
 fn comment_at(text: &[u8]) -> Front
     requires { 2 ≤ length text.now }
     ensures value { result ≡ comment_at text.now }
@@ -109,7 +109,7 @@ fn digit_count(text: &[u8]) -> usize
     text.iter().take_while(|byte| byte.is_ascii_digit()).count()
 }
 
-/// The place of an instruction, whose `(` stands at the front of a text.
+/// The place of an instruction, whose `(` is at the front of a text.
 fn place_at(text: &[u8]) -> Front
     requires { 1 ≤ length text.now }
     ensures value { result ≡ place_at text.now }
@@ -134,7 +134,7 @@ fn sign_at(byte: u8) -> Front
     }
 }
 
-/// What stands at the front of a text.
+/// What is at the front of a text.
 #[tactic(auto, unfolding(crate::specs::Tokens::front))]
 fn at_front(text: &[u8]) -> Front
     ensures value { result ≡ front text.now }

@@ -1,8 +1,9 @@
-//! Programs of the BSD packet filter by the names of their instructions, read as programs: assembly with labels, as Linux's
-//! bpf_asm and bpfc(8) take it, and the image that `tcpdump -d` prints.
+//! Programs of the BSD packet filter by the names of their instructions, read as programs: assembly
+//! with labels, as Linux's bpf_asm and bpfc(8) take it, and the image that `tcpdump -d` prints.
 //!
-//! [`read_assembly`] reads both: an image is assembly with a place in front of each instruction, and with places for labels.
-//! [`read_program`] reads decimal listings too, and says by the text which of these it is.
+//! [`read_assembly`] reads both: an image is assembly with a place in front of each instruction,
+//! and with places for labels. [`read_program`] reads decimal listings too, and says by the text
+//! which of these it is.
 #![tactic(auto)]
 
 mod array;

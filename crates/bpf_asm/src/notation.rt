@@ -13,7 +13,8 @@ use std::fmt;
 use std::fmt::{Display, Formatter};
 use thiserror::Error;
 
-/// Why a text is no program, in the notation that it is in. It prints as the fault of that notation.
+/// Why a text is no program, in the notation that it is in. It prints as the fault of that
+/// notation.
 #[derive(Clone, Copy, Debug, PartialEq, Eq, Error)]
 pub enum ProgramTextFault {
     Listing(ListingFault),
@@ -66,7 +67,8 @@ fn past_spaces(text: &[u8]) -> &[u8]
     &text[count..]
 }
 
-/// Whether a text is assembly or an image, and no decimal listing: it has a byte that is no blank, and the first of these is no digit.
+/// Whether a text is assembly or an image, and no decimal listing: it has a byte that is no blank,
+/// and the first of these is no digit.
 pub fn is_assembly(text: &[u8]) -> bool
     ensures { result ≡ is_assembly text.now }
 {
@@ -75,8 +77,8 @@ pub fn is_assembly(text: &[u8]) -> bool
         .is_some_and(|byte| !byte.is_ascii_digit())
 }
 
-/// The program of a text: of a decimal listing as [`read_listing`] reads it, or of assembly or an image as [`read_assembly`] does.
-/// [`is_assembly`] says which it is.
+/// The program of a text: of a decimal listing as [`read_listing`] reads it, or of assembly or an
+/// image as [`read_assembly`] does. [`is_assembly`] says which it is.
 ///
 /// The fault is that of the notation. `NoMemory` may come at any time for assembly.
 pub fn read_program(alloc: Global, text: &[u8]) -> Result<Program, ProgramTextFault>

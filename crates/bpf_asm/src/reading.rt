@@ -22,7 +22,7 @@ pub const MAX_TEXT: usize = 65_536;
 // Clauses and definitions name the constant: it is this number.
 const _: () = prove!(MAX_TEXT == 65536);
 
-/// What stands before the first line feed, and after it.
+/// What comes before the first line feed, and after it.
 fn split_line(text: &[u8]) -> Option<(&[u8], &[u8])>
     ensures parts { IfSome result (λ parts. text.now ≡ parts.0.now ++ 10 ∷ parts.1.now) }
     ensures first { IfSome result (λ parts. All (λ byte. byte ≢ 10) parts.0.now) }
@@ -78,14 +78,16 @@ fn read_lines(alloc: Global, text: &[u8]) -> Result<Vec<Line>, AssemblyFault>
 
 /// The program that a text is assembly of.
 ///
-/// The notation is that of Linux's bpf_asm and of bpfc(8), and that of the image which `tcpdump -d` prints: docs/ASSEMBLY.md has
-/// its grammar. A jump leads forward, to a label or to a place of the program. If a conditional jump
-/// has no second label, the next instruction is its second way.
-/// Each field that an instruction does not use is 0.
+/// The notation is that of Linux's bpf_asm and of bpfc(8), and that of the image which `tcpdump -d`
+/// prints: docs/ASSEMBLY.md has its grammar. A jump leads forward, to a label or to a place of the
+/// program. If a conditional jump has no second label, the next instruction is its second way. Each
+/// field that an instruction does not use is 0.
 ///
-/// `TextTooLong` comes first. Then come the faults of lines, each with the number of its line and its [`Cause`](crate::Cause): first
-/// what is wrong with a line by itself, then with its label, place and jumps. In both, the first such line is named. `Program` comes
-/// if the instructions are no program, as [`Program::new`] says. `NoMemory` may come at any time: no clause says that memory was refused.
+/// `TextTooLong` comes first. Then come the faults of lines, each with the number of its line and
+/// its [`Cause`](crate::Cause): first what is wrong with a line by itself, then with its label,
+/// place and jumps. In both, the first such line is named. `Program` comes if the instructions are
+/// no program, as [`Program::new`] says. `NoMemory` may come at any time: no clause says that
+/// memory was refused.
 #[tactic(auto, unfolding(crate::specs::Assembly::assembled))]
 pub fn read_assembly(alloc: Global, text: &[u8]) -> Result<Program, AssemblyFault>
     ensures ok { IfOk result (λ program. assembled text.now ≡ Ok program) }

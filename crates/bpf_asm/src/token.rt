@@ -47,7 +47,7 @@ pub(crate) enum Name {
     Jump,
     /// A conditional jump: its code with a constant, and with the index register.
     JumpIf(u16, u16),
-    /// The same, which jumps where the test fails.
+    /// The same, which jumps if the test fails.
     JumpUnless(u16, u16),
 }
 

@@ -59,16 +59,17 @@ impl Display for ExpressionFault {
     }
 }
 
-/// The program of an expression: it returns the snapshot length if the expression accepts a packet, and else 0. Some
-/// path of jumps leads from its first instruction to each of the others.
+/// The program of an expression: it returns the snapshot length if the expression accepts a packet,
+/// and else 0. Some path of jumps leads from its first instruction to each of the others.
 ///
-/// The text is read first, and refused as [`parse`] refuses it, also if memory runs out. A text is refused as too long
-/// if and only if it has more than 8,192 bytes. If it reads, its tree is refused as [`compile`] refuses it: the first
-/// that applies of `BadSnap`, `TooDeep` and `TooLong`.
+/// The text is read first, and refused as [`parse`] refuses it, also if memory runs out. A text is
+/// refused as too long if and only if it has more than 8,192 bytes. If it reads, its tree is
+/// refused as [`compile`] refuses it: the first of `BadSnap`, `TooDeep` and `TooLong` that applies.
 pub fn compile_text(alloc: Global, text: &str, snap: u32) -> Result<Program, ExpressionFault>
     ensures program { IfOk result (λ program. IsProgramOf text.now snap program) }
     ensures reached { IfOk result IsAllReached }
-    // Why there is none, and when there is one: a snapshot length out of range gives none, nor does a tree that is too deep.
+    // Why there is none, and when there is one: a snapshot length out of range gives none, nor does
+    // a tree that is too deep.
     ensures fault { IfErr result (IsUncompiled text.now snap) }
     ensures text_too_long { IsErrOf result (ExpressionFault.Text Fault.TextTooLong) ↔ (8192 < length text.now) }
     ensures bad_snap { IsBadSnap snap → IsErr result }

@@ -1,4 +1,4 @@
--- Places behind comparisons that fail where the packet has one of some numbers.
+-- Places after comparisons that fail where the packet has one of some numbers.
 use Rattle.std.proofs.Common.{◌≡◌, ◌≢◌, ℕ, zero, suc, ◌+◌, ◌-◌, ◌<◌, ◌==◌, Bool, true, false, List, [], ◌∷◌, length, Option, Some, None, refl, sym, ap, subst, ◌∙◌, arith, ◌⊎◌, inl, inr, if◌then◌else◌}
 use Rattle.std.proofs.lemmas.Bool.{cases_eq}
 use Rattle.std.proofs.lemmas.Bool.Decides.{nat_tests}
@@ -107,7 +107,7 @@ same-returns place at code i n here is first second = record {
       ending code (length code - at) (plain_insn 6 n) n p r (second ∙ ap Some is) (return-effect n p r) ∙ sym (ending code (length code - place) (plain_insn 6 n) n p r (first ∙ ap Some is) (return-effect n p r));
 }
 
--- behind the load, over the comparisons, to where the accumulator does not matter
+-- after the load, over the comparisons, to where the accumulator does not matter
 pub skips-over : (field : Field) (choice : ℕ → Bool) (place later beyond : ℕ) (code : List Insn) → Passes (load_insn field) place later code → FailsTo choice later beyond code
     → IgnoresAccumulator place code → IgnoresAccumulator beyond code → Skips field choice place beyond code
 skips-over field choice place later beyond code passes fails fresh fresh' = record {
@@ -118,7 +118,7 @@ skips-over field choice place later beyond code passes fails fresh fresh' = reco
       sym (fresh'.same p r n) ∙ fails.leads p r' one ∙ passes.leads p r' unchanged ∙ fresh.same p r n;
 }
 
--- A number that is one of some, and behind it a second test, which goes on beyond comparisons of that number with others.
+-- A number that is one of some, and after it a second test, which goes on beyond comparisons of that number with others.
 pub decides-beyond : {k m e f y n beyond : ℕ} {u : Test} (field : Field) (xs : List ValueRange) {exits : Exits} {a b c : List Insn} → AreExits a exits → f ≡ length c
     → Skips field (in_ranges xs) exits.no beyond a → Decides k u (record { yes = exits.yes; no = beyond }) e a b
     → Passes (load_insn field) e y b → Passes (load_insn field) exits.no n b

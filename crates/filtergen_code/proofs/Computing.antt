@@ -134,7 +134,7 @@ earlier None cell p r s old mid new goes same before = goes ∙ before
 earlier (Some n) cell p r s old mid new goes same (t, goes', is, keeps) =
     (t, goes ∙ goes', is, record { cells = keeps.cells; same = λ k below. keeps.same k below ∙ ap (λ m. slice_index m k) same })
 
--- a load so many bytes behind the accumulator
+-- a load this many bytes past the accumulator
 indirect-computed : (s : Size) (k : ℕ) (p : Packet) (r : Registers) (cell : ℕ) (old : List Insn) → HasCells r
     → Computed (number_at p.captured (r.accumulator + k) (bytes_of s)) cell p r old (plain_insn 0x07 0 ∷ plain_insn (indirect_code s) k ∷ old)
 indirect-computed s k p r cell old cells =
@@ -158,7 +158,7 @@ frame-same s p n = let at : n + 0 ≡ n = omega arith in ap (λ o. number_at p.c
 pub network-same : (s : Size) (p : Packet) (n : ℕ) → number_at p.captured (n + 14) (bytes_of s) ≡ read_from bases.Network (bytes_of s) p n
 network-same s p n = let at : n + 14 ≡ 14 + n = omega arith in ap (λ o. number_at p.captured o (bytes_of s)) at
 
--- behind the IPv4 header, whose length is added modulo 2 ^ 32
+-- past the IPv4 header, whose length is added modulo 2 ^ 32
 pub applies-transport : (s : Size) (old : List Insn) → Applies 4 (read_from bases.Transport (bytes_of s)) old (plain_insn 0xb1 14 ∷ plain_insn 0x0c 0 ∷ plain_insn 0x07 0 ∷ plain_insn (indirect_code s) 14 ∷ old)
 applies-transport s old = record {
   extends = extends-both (extends-both (extends-both (extends-one (plain_insn (indirect_code s) 14) old) (extends-one (plain_insn 0x07 0) _)) (extends-one (plain_insn 0x0c 0) _)) (extends-one (plain_insn 0xb1 14) _);
@@ -194,7 +194,7 @@ unwrapped i h short near = omega arith
 header-short : (b : ℕ) → 4 * bit_and b 15 ≤ 60
 header-short b = omega (arith, and_le_r b 15)
 
--- a load behind the IPv4 header at a low index
+-- a load past the IPv4 header at a low index
 pub computes-after : (s : Size) (i : ℕ) (cell : ℕ) (old : List Insn) → 74 + i < 2 ^ 32
     → Computes 2 (λ p. read_from bases.Transport (bytes_of s) p i) cell old (plain_insn 0xb1 14 ∷ plain_insn (indirect_code s) (14 + i) ∷ old)
 computes-after s i cell old near = record {
@@ -300,7 +300,7 @@ pub computes-constant : {old new : List Insn} (v : Amount) (n cell : ℕ) → co
 computes-constant v n cell is loads =
     computes-more (value_cost v) (value_positive v) (computes-same (λ p. Some n) (value v) (λ p. sym (constant-value v n p is)) (computes-loaded (λ p. n) cell loads))
 
--- an operator with a constant behind it
+-- an operator with a constant after it
 pub constant-after : (o : Operator) (v w : Amount) (n : ℕ) (p : Packet) → constant_of w ≡ Some n
     → option_and_then (λ a. calculated (arithmetic_of o) a n) (value v p) ≡ value (binary o v w) p
 constant-after o v w n p is = sym (ap (λ x. option_and_then (λ a. option_and_then (λ b. calculated (arithmetic_of o) a b) x) (value v p)) (constant-value w n p is))
@@ -346,7 +346,7 @@ field-checked f n v w is = by_value v ∙ ap (λ x. check_both f x (Some n)) is
     by_value None = refl
     by_value (Some m) = refl
 
--- what stands in front goes on over what stands behind
+-- what stands in front goes on over what comes after
 pub computes-applied : {m n cell : ℕ} {f : Packet → ℕ → Option ℕ} {v : Packet → Option ℕ} {old mid new : List Insn} → Applies m f old mid → Computes n v cell mid new
     → Computes (m + n) (λ p. option_and_then (f p) (v p)) cell old new
 computes-applied {m} {n} {cell} {f} {v} {old} {mid} {new} second first = record {
@@ -404,7 +404,7 @@ pairs-kept {m} {n} {cell} {v} {w} {base} {mid} {new} below second first = record
               },
             )
 
--- a leaf goes into the index register behind the left value
+-- a leaf goes into the index register after the left value
 pub pairs-right : {m cell : ℕ} (n : Packet → ℕ) {v : Packet → Option ℕ} {base mid new : List Insn} → Loads Index n base mid → Computes m v cell mid new
     → Pairs (1 + m) v (λ p. Some (n p)) cell base new
 pairs-right {m} {cell} n {v} {base} {mid} {new} second first = record {
@@ -416,7 +416,7 @@ pairs-right {m} {cell} n {v} {base} {mid} {new} second first = record {
     by_value p r None ends = ends
     by_value p r (Some a) (s, goes, is, keeps) = (with_value Index (n p) s, goes ∙ second.loads p s, is, refl, record { cells = keeps.cells; same = keeps.same })
 
--- a leaf goes into the accumulator behind the right value, which moves on
+-- a leaf goes into the accumulator after the right value, which moves on
 pub pairs-left : {m cell : ℕ} (n : Packet → ℕ) {w : Packet → Option ℕ} {base mid new : List Insn} → Loads Accumulator n base mid → Computes m w cell (plain_insn 0x07 0 ∷ mid) new
     → Pairs (2 + m) (λ p. Some (n p)) w cell base new
 pairs-left {m} {cell} n {w} {base} {mid} {new} second first = record {

@@ -72,7 +72,7 @@ below-longer n size f none = let h = fine (nat_lt (0 + 1 + n) 1) f none in grind
 two-longer : (m n : ℕ) (f : Invalid) → fault_unless (nat_lt (0 + 1 + m) 1 && nat_lt (0 + 1 + n) 1) f ≡ None → ⊥
 two-longer m n f none = let h = fine (nat_lt (0 + 1 + m) 1 && nat_lt (0 + 1 + n) 1) f none in grind (arith, nat_tests)
 
--- what is sound with nothing behind it is no jump, and sound before whatever follows
+-- what is sound with nothing after it is no jump, and sound before whatever follows
 fault_in-alone : (o : Option Operation) (size : ℕ) (i : Insn) → fault_in o 1 0 i ≡ None → fault_in o size 0 i ≡ None
 fault_in-alone None size i none = absurd cc
 fault_in-alone (Some Jump) size i none = absurd (below-longer i.k size (JumpOut 0) none)
@@ -100,7 +100,7 @@ sound-alone i size none = fault_in-alone (operation_of i.code) size i none
 pub cell-sound : (cell : ℕ) → cell < 16 → fault_unless (nat_lt cell 16) (Cell 0) ≡ None
 cell-sound cell below = let h : nat_lt cell 16 ≡ true = grind (arith, nat_tests) in unless-true _ (Cell 0) h
 
--- a constant behind its operator, and the index register behind any
+-- a constant after its operator, and the index register after any
 pub calculation_sound : (o : Sign) (v : Against) → MayBeOperand o v → fault_of 1 0 (calculation_insn o v) ≡ None
 unfolding fault_of operation_of
 calculation_sound operators.Plus (operands.Constant k) may = refl

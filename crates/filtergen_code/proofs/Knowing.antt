@@ -1,4 +1,4 @@
--- What is left of a test behind what is known answers as the whole test does.
+-- What is left of a test given what is known answers as the whole test does.
 use Rattle.std.proofs.Common.{◌≡◌, ℕ, ◌-◌, ◌==◌, Bool, true, false, Some, None, refl, sym, ap, subst, ◌∙◌, arith, if◌then◌else◌, bit_and}
 use Rattle.std.proofs.lemmas.Bool.Decides.{nat_tests}
 use Rattle.filter_tree.specs.Trees.{Amount, Tree}
@@ -30,7 +30,7 @@ and-right Yes w is = is
 and-right No w is = absurd cc
 and-right Abort w is = absurd cc
 
--- the second answer counts only behind a Yes
+-- the second answer counts only after a Yes
 and-same : (v v' w w' : Verdict) → v ≡ v' → (v' ≡ Yes → w ≡ w') → and_then v w ≡ and_then v' w'
 and-same v v' w w' first second = ap (λ x. and_then x w) first ∙ by_first v' second
   where
@@ -66,7 +66,7 @@ one-holds : (b : Bool) (j k : PacketFacts) (p : Packet) → shows j p ≡ Yes �
 one-holds true j k p first second = first
 one-holds false j k p first second = second
 
--- and so does what is known behind one more test
+-- and so does what is known after one more test
 with_fact-holds : (k fact : PacketFacts) (p : Packet) → shows k p ≡ Yes → shows fact p ≡ Yes → shows (with_fact k fact) p ≡ Yes
 with_fact-holds k fact p holds passed = one-holds (implies k fact) k fact p holds passed
 
@@ -196,7 +196,7 @@ layers-ip (trees.minus v) p is = layers-ip v p is
 layers-ip (trees.binary o v w) p is = sym (and-assoc (is_type 0x0800 p) (in_layers v p) (in_layers w p)) ∙ ap (λ x. and_then x (in_layers w p)) (layers-ip v p is)
 layers-ip (trees.accessor l v size) p is = sym (and-assoc (is_type 0x0800 p) (in_layer l p) (in_layers v p)) ∙ ap (λ x. and_then x (in_layers v p)) (layer-ip l p is)
 
--- a relation behind IPv4
+-- a relation after IPv4
 pub relation-ip : (k : PacketFacts) (c : Comparison) (v w : Amount) (p : Packet) → begins_with_ip v ≡ true → shows k p ≡ Yes
     → and_then (is_type 0x0800 p) (rest_of_relation (with_fact k (known.Type 0x0800)) c v w p) ≡ relation_test c v w p
 relation-ip k c v w p begins holds =

@@ -56,7 +56,7 @@ entry-kept entry extends here = record {
   first_fragment = place-kept entry.first_fragment extends here.first_fragment;
 }
 
--- ways lead on as they did, behind what is put in front
+-- ways lead on as they did, after what is put in front
 pub relays-later : {k : ℕ} {entry relayed : Entry} {a b c : List Insn} → Relays entry relayed a b → Extends k b c → Relays entry relayed a c
 relays-later {k} {entry} {relayed} first extends = record {
   here = entry-kept relayed extends first.here;
@@ -169,7 +169,7 @@ decides-not {k} {t} {targets} {entry} {a} {b} first = record {
   decides = λ p m n bytes yes' no'. serves-same b entry p _ _ (outcome-opposite (t p) m n) (first.decides p n m bytes no' yes');
 }
 
--- the outcome of a test behind that of IPv4, whose exits are for IPv4 and for the other types
+-- the outcome of a test after that of IPv4, whose exits are for IPv4 and for the other types
 outcome-guarded : (v w : Verdict) (m n m' n' n'' : ℕ) → (v ≡ Yes → m' ≡ m) → (v ≡ Yes → n' ≡ n) → (v ≡ No → n'' ≡ n) → outcome v (outcome w m' n') n'' ≡ outcome (and_then v w) m n
 outcome-guarded Yes w m n m' n' n'' yes' no' other = ap (λ k. outcome w k n') (yes' refl) ∙ ap (λ k. outcome w m k) (no' refl)
 outcome-guarded No w m n m' n' n'' yes' no' other = other refl
@@ -227,7 +227,7 @@ first-of-any (Some transport) p is =
 pub first-ip : (transport : Option Transport) (p : Packet) → is_first_fragment transport p ≡ Yes → is_type 0x0800 p ≡ Yes
 first-ip transport p is = left-yes (is_type 0x0800 p) _ (left-yes (and_test (is_type 0x0800) has_port_number p) _ (first-of-any transport p is))
 
--- a test behind that of IPv4
+-- a test after that of IPv4
 pub decides-guarded : {k inner e : ℕ} {u : Test} (targets : Targets) {a b c : List Insn} → AreTargets a targets
     → Decides k u (record { yes = targets.yes.ip; no = targets.no.ip }) inner a b
     → Decides 4 (is_type 0x0800) (record { yes = inner; no = targets.no.other }) e b c
@@ -271,13 +271,13 @@ entry-by-here : (b : Bool) (targets : Targets) {code : List Insn} → AreTargets
 entry-by-here true targets are = are.0
 entry-by-here false targets are = are.1
 
--- the outcome of a test behind that of IPv4, of which the answer is known there
+-- the outcome of a test after that of IPv4, of which the answer is known there
 outcome-apart : (t v : Verdict) (m n x y z : ℕ) → (t ≡ Yes → x ≡ outcome v m n) → (t ≡ No → y ≡ m) → (t ≡ No → z ≡ n) → (t ≡ Abort → v ≡ Abort) → outcome t x (outcome v y z) ≡ outcome v m n
 outcome-apart Yes v m n x y z is first second aborts = is refl
 outcome-apart No v m n x y z is first second aborts = ap (λ k. outcome v k z) (first refl) ∙ ap (outcome v m) (second refl)
 outcome-apart Abort v m n x y z is first second aborts = sym (ap (λ u. outcome u m n) (aborts refl))
 
--- a test whose answer is known of IPv4, and behind that type the same test of any other
+-- a test whose answer is known of IPv4, and after that type the same test of any other
 pub decides-apart : {k other e : ℕ} {u : Test} (by_ip : Bool) (targets : Targets) {a b c : List Insn} → AreTargets a targets
     → ((p : Packet) → is_type 0x0800 p ≡ Yes → u p ≡ decided by_ip) → ((p : Packet) → is_type 0x0800 p ≡ Abort → u p ≡ Abort)
     → Decides k u (record { yes = targets.yes.other; no = targets.no.other }) other a b
@@ -361,7 +361,7 @@ pub first-place : (code : List Insn) (entry : Entry) (place : ℕ) (transport : 
 first-place code entry place transport (inl is) here = rw is here.ip
 first-place code entry place transport (inr (is, which)) here = rw is here.first_fragment
 
--- the outcome of a test behind those of IPv4, of a protocol and of a fragment, each with exits of its own
+-- the outcome of a test after those of IPv4, of a protocol and of a fragment, each with exits of its own
 outcome-first : (t b f w : Verdict) (m n m1 n1 n2 n3 : ℕ) → (and_then (and_then t b) f ≡ Yes → m1 ≡ m) → (and_then (and_then t b) f ≡ Yes → n1 ≡ n) → (t ≡ Yes → n2 ≡ n) → (t ≡ No → n3 ≡ n)
     → outcome t (outcome b (outcome f (outcome w m1 n1) n2) n2) n3 ≡ outcome (and_then (and_then (and_then t b) f) w) m n
 outcome-first Yes Yes Yes w m n m1 n1 n2 n3 yes' no' ip other = ap (λ k. outcome w k n1) (yes' refl) ∙ ap (λ k. outcome w m k) (no' refl)
@@ -384,11 +384,11 @@ outside-first Yes b f w m n n3 is same = absurd cc
 outside-first No b f w m n n3 is same = same
 outside-first Abort b f w m n n3 is same = absurd cc
 
--- IPv4, a protocol that this test tells, and no later fragment
+-- IPv4, a protocol that this test finds, and no later fragment
 abbrev pub first_by : Test → Test
 first_by protocol = and_test (and_test (is_type 0x0800) protocol) is_unfragmented
 
--- a test behind those of a first fragment
+-- a test after those of a first fragment
 pub decides-first : {k l first inner ip any : ℕ} {u : Test} (transport : Option Transport) (protocol : Test) (targets : Targets) {exits : Exits} {a b c d e : List Insn} → AreTargets a targets
     → ((p : Packet) → is_first_fragment transport p ≡ first_by protocol p)
     → IsFor transport exits.yes targets.yes → IsFor transport exits.no targets.no

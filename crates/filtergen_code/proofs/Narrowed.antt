@@ -1,4 +1,4 @@
--- Code that decides behind what is known of a packet.
+-- Code that decides given what is known of a packet.
 use Rattle.std.proofs.Common.{◌≡◌, ℕ, ◌+◌, ◌≤◌, ◌⊎◌, inl, inr, ◌==◌, Bool, true, false, List, Option, Some, None, refl, sym, ap, ◌∙◌}
 use Rattle.bpfvm.specs.declared.insn.Insn.{Insn}
 use Rattle.filter_tree.specs.declared.tree.Direction.{Direction}
@@ -23,7 +23,7 @@ use Rattle.filtergen_code.proofs.Deciding.{outcome-either, outcome-opposite}
 use Rattle.filtergen_code.proofs.Leading.{suits-any, suits-first, serves-any, place-kept}
 use Rattle.filtergen_code.proofs.Knowing.{and-left, and-right}
 
--- what decides a test of any packet does so behind what is known, also where it is the whole test only there
+-- what decides a test of any packet does so given what is known, also where it is the whole test only there
 pub given-rest : {k : ℕ} {t : Test} (known : PacketFacts) (u : Test) {targets : Targets} {entry : Entry} {a b : List Insn} → ((p : Packet) → shows known p ≡ Yes → t p ≡ u p)
     → DecidesBy k t targets entry a b → DecidesGiven known k u targets entry a b
 given-rest known u same first = record {
@@ -150,7 +150,7 @@ given-first {k} {e} {u} known transport t targets {exits} {a} {b} of_yes of_no s
       };
 }
 
--- the outcome behind the test of the fragment, where the exits are for a first fragment and for IPv4
+-- the outcome after the test of the fragment, where the exits are for a first fragment and for IPv4
 outcome-unfragmented : (f w : Verdict) (m n y z n2 : ℕ) → (f ≡ Yes → y ≡ m) → (f ≡ Yes → z ≡ n) → n2 ≡ n → outcome f (outcome w y z) n2 ≡ outcome (and_then f w) m n
 outcome-unfragmented Yes w m n y z n2 of_yes of_no ip = ap (λ x. outcome w x z) (of_yes refl) ∙ ap (λ x. outcome w m x) (of_no refl)
 outcome-unfragmented No w m n y z n2 of_yes of_no ip = ip

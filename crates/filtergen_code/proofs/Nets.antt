@@ -132,7 +132,7 @@ follows-other {e} {y} {k} u exits {a} {b} {c} {d} are arp at-rarp rarp-jump arp-
     follows-more (k + 6) (by_other u) (omega arith)
     (follows-chosen (λ r. u) _ (λ r. r.accumulator == 0x0806) (follows-kept (λ r. u) arp' rarp-jump.extends) rarp-test (rw at-rarp at arp-jump))
 
--- The test of IPv4 stands behind that of the other types, or before it.
+-- The test of IPv4 comes after that of the other types, or before it.
 pub decides-any-net : {e f y n g h : ℕ} (t u : Test) (targets : Targets) {c0 c1 c2 c3 c4 c5 : List Insn} → AreTargets c0 targets
     → Decides g u (record { yes = targets.yes.other; no = targets.no.other }) e c0 c1
     → y ≡ length c2 → n ≡ length c3

@@ -19,7 +19,7 @@ use Rattle.filtergen_code.specs.Insns.{plain_insn, branch_insn, load_insn}
 use Rattle.filtergen_code.specs.Emission.{IsPlace, AreExits, run_from, Answers, Extends, condition, field_of, Passes, GoesOnAt, IsRelay, Chooses}
 use Rattle.filtergen_code.specs.ValueLists.{GoesOnAs}
 
--- a run over code goes on behind its first instruction, or ends
+-- a run over code goes on after its first instruction, or ends
 abbrev pub after : List Insn → Packet → Effect → ℕ
 after rest p (Goes passed r) = answer rest p.captured p.wire passed r
 after rest p (Ends n) = n
@@ -147,7 +147,7 @@ pub return-effect : (k : ℕ) (p : Packet) (r : Registers) → effect p.captured
 unfolding effect operation_of
 return-effect k p r = refl
 
--- a run that comes to a return ends there
+-- a run that reaches a return ends there
 pub ending : (code : List Insn) (k : ℕ) (i : Insn) (n : ℕ) (p : Packet) (r : Registers) → slice_get code k ≡ Some i → effect p.captured p.wire i r ≡ Ends n → answer code p.captured p.wire k r ≡ n
 unfolding answer
 ending [] k i n p r here is = absurd cc

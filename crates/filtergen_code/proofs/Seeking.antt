@@ -171,7 +171,7 @@ pub found-checked : (location : Location) (r : Registers) (p : Packet) (xs : Lis
 found-checked location r p xs some =
     any-same (found_at location r) (λ (x : ValueRange) q. check (within x.low x.high) (location_value location r p)) p (λ x. refl) xs ∙ any-checked xs p (location_value location r p) some
 
--- exits that are not passed, and those behind the same load
+-- exits that are not passed, and those after the same load
 pub passes-none : (location : Location) {exits : Exits} (a : List Insn) → AreExits a exits → PassesLocation location exits exits a
 passes-none location a are = record { here = are; yes = λ p r n is. refl; no = λ p r n is. refl }
 
@@ -278,7 +278,7 @@ location-masked o mask p r x = by_value (word o p)
     by_value None = refl
     by_value (Some n) = refl
 
--- a test behind the header's length, which goes in front
+-- a test after the header's length, which goes in front
 abbrev pub behind_length : (ℕ → Test) → Packet → Option ℕ → Verdict
 behind_length t p None = Abort
 behind_length t p (Some b) = t (4 * bit_and b 15) p
@@ -318,7 +318,7 @@ decides-header {most} {e} {y} {n} t {exits} {a} {b} is yes-passed no-passed inne
         (λ t' kept same. yes-passed.leads p t' (unchanged p x t' is' same) ∙ yes'.always t' kept)
         (λ t' kept same. no-passed.leads p t' (unchanged p x t' is' same) ∙ no'.always t' kept)
 
--- the ports of a list, behind the header
+-- the ports of a list, past the header
 abbrev pub port_at : Direction → ℕ → ValueRange → Test
 port_at d l x = by_direction d (port_after l x.low x.high 0) (port_after l x.low x.high 2)
 

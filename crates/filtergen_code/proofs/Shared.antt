@@ -1,4 +1,4 @@
--- Lists behind what their members share.
+-- Lists after what their members share.
 use Rattle.std.proofs.Common.{◌≡◌, ◌<◌, ◌==◌, List, length, Option, refl, sym, ap, ◌∙◌}
 use Rattle.filter_tree.specs.declared.tree.Direction.{Direction}
 use Rattle.filter_tree.specs.declared.tree.Transport.{Transport}

@@ -25,7 +25,7 @@ abbrev pub chosen_by : Option ℕ → (ℕ → Bool) → (ℕ → Bool) → (ℕ
 chosen_by None f g h first other = Abort
 chosen_by (Some n) f g h first other = if f n then first else (if g n then other else (if h n then other else No))
 
--- one of three numbers behind a test, and then a test
+-- one of three numbers after a test, and then a test
 pub one_of_three : (i : Verdict) (v : Option ℕ) (f g h : ℕ → Bool) (d : Verdict)
     → and_then (and_then i (or_else (or_else (check f v) (check g v)) (check h v))) d
     ≡ or_else (or_else (and_then (and_then i (check f v)) d) (and_then (and_then i (check g v)) d)) (and_then (and_then i (check h v)) d)
@@ -48,7 +48,7 @@ one_of_three Yes (Some n) f g h d = by_test (f n) (g n) (h n) d
     by_test false true c Abort = refl
     by_test false false c d = refl
 
--- the same with a further test behind the three numbers
+-- the same with a further test after the three numbers
 pub ports_shared : (i : Verdict) (v : Option ℕ) (f g h : ℕ → Bool) (first d : Verdict)
     → and_then (and_then (and_then i (or_else (or_else (check f v) (check g v)) (check h v))) first) d
     ≡ or_else (or_else (and_then (and_then (and_then i (check f v)) first) d) (and_then (and_then (and_then i (check g v)) first) d)) (and_then (and_then (and_then i (check h v)) first) d)
@@ -59,7 +59,7 @@ ports_shared i v f g h first d =
     ∙ ap (λ x. or_else (or_else (and_then (and_then (and_then i (check f v)) first) d) x) (and_then (and_then i (check h v)) (and_then first d))) (sym (and-assoc (and_then i (check g v)) first d))
     ∙ ap (λ x. or_else (or_else (and_then (and_then (and_then i (check f v)) first) d) (and_then (and_then (and_then i (check g v)) first) d)) x) (sym (and-assoc (and_then i (check h v)) first d))
 
--- one of two numbers behind a test, and then two tests
+-- one of two numbers after a test, and then two tests
 pub one_of_two : (i : Verdict) (v : Option ℕ) (f g : ℕ → Bool) (first d : Verdict)
     → and_then i (and_then (or_else (check f v) (check g v)) (and_then first d))
     ≡ and_then (or_else (and_then (and_then i (check f v)) first) (and_then (and_then i (check g v)) first)) d

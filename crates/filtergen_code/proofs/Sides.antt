@@ -1,4 +1,4 @@
--- The tests of a port behind a header, and of an address of whatever protocol.
+-- The tests of a port past a header, and of an address of whatever protocol.
 use Rattle.std.proofs.Common.{◌≡◌, ℕ, suc, ◌+◌, ◌*◌, ◌<◌, ◌≤◌, Bool, true, false, List, ◌∷◌, length, Option, Some, None, refl, sym, ap, ◌∙◌, arith, if◌then◌else◌, nat_lt, nat_le, bit_and, ◌⊎◌, inl, inr, option_map, option_and_then}
 use Rattle.std.proofs.lemmas.Bool.{cases_lt}
 use Rattle.std.proofs.lemmas.Bool.Decides.{nat_tests}
@@ -41,7 +41,7 @@ within-bounds low high n = by_cases (cases_lt high n) (cases_lt n low)
     by_cases (inr upto) (inl below) = grind (arith, nat_tests)
     by_cases (inr upto) (inr from) = grind (arith, nat_tests)
 
--- a port, and what is tested behind it where it is within the range and where not
+-- a port, and what is tested after it where it is within the range and where not
 follows-port : {k l m e y n : ℕ} (o low high : ℕ) (t u : Registers → Test) {exits : Exits} {a b c : List Insn}
     → Follows same_index k t exits y a b → Follows same_index l u exits n a b
     → ChoosesAfter m (plain_insn 0x48 (14 + o)) (λ r. within low high r.accumulator) (record { yes = y; no = n }) e b c
@@ -99,7 +99,7 @@ follows-both-ports low high {exits} {a} are second jump =
     by_value r p None = refl
     by_value r p (Some n) = by_choice (port_after r.index low high 2) p (within low high n)
 
--- a port behind the header that this first byte of it tells, if there is one
+-- a port past the header whose length this first byte gives, if there is one
 abbrev pub after_header : ℕ → ℕ → ℕ → Option ℕ → Packet → Verdict
 after_header low high o v p = check (within low high) (option_and_then (λ x. half (14 + 4 * bit_and x 15 + o) p) v)
 

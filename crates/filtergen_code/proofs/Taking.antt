@@ -141,7 +141,7 @@ emits-alone first all kind ranges groups made = record {
   relays = made.1;
 }
 
--- those of one kind, and behind them the others
+-- those of one kind, and after them the others
 pub emits-more : {known : PacketFacts} {targets second relayed : Targets} {later entry : Entry} {a b c : List Insn} (first next : Member) (all rest others : List Member) (kind : ListKind) (ranges : List ValueRange) → Groups first all kind ranges rest
     → rest ≡ others ++ (next ∷ []) → EmitsMembers known next others targets second later a b
     → DecidesGiven known (list_weight kind.form (length ranges)) (any_of (kind_test kind) ranges) (record { yes = second.yes; no = later }) entry b c

@@ -22,7 +22,7 @@ IsBadSnap snap = (snap ≡ 0) ⊎ (MAX_SNAP < snap)
 abbrev pub IsRightSnap : ℕ → Type 0
 IsRightSnap snap = (0 < snap) × (snap ≤ MAX_SNAP)
 
--- Why a tree is refused: the first that stands of a snapshot length out of range, more than the 16 cells of the scratch
+-- Why a tree is refused, by the first of these that applies: a snapshot length out of range, more than the 16 cells of the scratch
 -- memory, and too great a weight.
 abbrev pub IsRefused : Tree → ℕ → Refusal → Type 0
 IsRefused t snap BadSnap = IsBadSnap snap

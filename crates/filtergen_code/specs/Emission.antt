@@ -24,7 +24,7 @@ IsPlace code place = (0 < place) × (place ≤ length code)
 abbrev pub AreExits : List Insn → Exits → Type 0
 AreExits code exits = IsPlace code exits.yes × IsPlace code exits.no
 
--- the code has room for so many more instructions, which may go on at these exits
+-- the code has room for `most` more instructions, which may go on at these exits
 abbrev pub CanEmit : ℕ → Exits → List Insn → Type 0
 CanEmit most exits code = (length code + most ≤ MAX_CODE) × AreExits code exits
 
@@ -40,7 +40,7 @@ run_from code place p r = answer code p.captured p.wire (length code - place) r
 pub record Answers (code : List Insn) (place : ℕ) (p : Packet) (n : ℕ) : Type 0 where
   pub always : (r : Registers) → HasCells r → run_from code place p r ≡ n
 
--- new is old with something put in front, at most so many instructions
+-- new is old with at most `most` instructions put in front
 pub record Extends (most : ℕ) (old new : List Insn) : Type 0 where
   pub longer : length old ≤ length new
   pub within : length new ≤ length old + most

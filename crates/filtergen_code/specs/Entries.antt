@@ -44,7 +44,7 @@ pub record IsEntry (code : List Insn) (entry : Entry) : Type 0 where
 abbrev pub AreTargets : List Insn → Targets → Type 0
 AreTargets code targets = IsEntry code targets.yes × IsEntry code targets.no
 
--- the code has room for so many more instructions, which may go on at these targets
+-- the code has room for `most` more instructions, which may go on at these targets
 abbrev pub CanEmitBy : ℕ → Targets → List Insn → Type 0
 CanEmitBy most targets code = (length code + most ≤ MAX_CODE) × AreTargets code targets
 

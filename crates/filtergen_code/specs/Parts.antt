@@ -123,7 +123,7 @@ base_of layers.Tcp = bases.Transport
 base_of layers.Udp = bases.Transport
 base_of layers.Icmp = bases.Transport
 
--- so many bytes at an index that is counted from a base
+-- this many bytes at an index that is counted from a base
 abbrev pub read_from : Base → ℕ → Packet → ℕ → Option ℕ
 read_from bases.Frame = in_frame
 read_from bases.Network = behind_ethernet

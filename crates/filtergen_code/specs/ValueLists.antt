@@ -166,7 +166,7 @@ abbrev pub targets_for_chain : Chain → Targets → Targets
 targets_for_chain chains.AnyOf targets = targets
 targets_for_chain chains.NoneOf targets = record { yes = targets.no; no = targets.yes }
 
--- a call emits the test whether any member of a group holds, whose cost is that of so many members
+-- a call emits the test whether any member of a group holds; its cost is that for the number of members
 abbrev pub EmitsGroup : (ℕ → ℕ) → (ListKind → ValueRange → Test) → Group → Targets → List Insn → List Insn → Result Entry Full → Type 0
 EmitsGroup cost test group targets old new result =
     EmitsEntry (cost (length group.ranges.items)) (any_of (test group.kind) group.ranges.items) targets old new result

@@ -1,6 +1,8 @@
-//! Code that is written from its end: what a jump leads to is there before the jump, so no jump is patched.
+//! Code that is written from its end: what a jump leads to is there before the jump, so no jump is
+//! patched.
 //!
-//! Methods named `emit` put instructions in front. Those of a test return the place where it is entered.
+//! Methods named `emit` put instructions in front. Those of a test return the place where it is
+//! entered.
 
 ghost use Rattle.std.specs.Prelude.{◌≡◌, ℕ, ◌+◌, ◌-◌, ◌<◌, ◌≤◌, List, [], ◌∷◌, length, Some, None, reverse, bit_and, MatchResult, IfOk, IsErr, slice_get};
 ghost use Rattle.std.specs.Bool.{OnTrue};
@@ -25,7 +27,8 @@ use std::marker::Model;
 /// How many instructions a conditional jump can pass: its offsets have 8 bits.
 pub(crate) const REACH: usize = 255;
 
-/// Where a test goes on: two places of the code, counted from its end, so that they stay valid as the code grows.
+/// Where a test goes on: two places of the code, counted from its end, so that they stay valid as
+/// the code grows.
 #[derive(Clone, Copy)]
 pub(crate) struct Exits {
     pub yes: usize,
@@ -45,8 +48,8 @@ impl Exits {
 #[derive(Drop)]
 pub(crate) struct Full;
 
-/// The end of a program. It is a valid program at each moment, except for its size: it has room for more instructions than a program,
-/// since a part asks for the most that it may take.
+/// The end of a program. It is a valid program at each moment, except for its size: it has room for
+/// more instructions than a program, since a part asks for the most that it may take.
 #[derive(Drop)]
 pub(crate) struct Code {
     /// The last instruction comes first.
@@ -114,7 +117,7 @@ impl Code {
         self.emit(plain_insn(code, k));
     }
 
-    /// The instruction that goes on at a place: a copy of the return that stands there, or a jump.
+    /// The instruction that goes on at a place: a copy of the return that is there, or a jump.
     fn jump_to(&self, place: usize) -> Insn
         requires { IsPlace self.now place }
         ensures { GoesOnAt result place self.now }
@@ -127,7 +130,8 @@ impl Code {
         }
     }
 
-    /// The place if it is in reach, or a relay of it: an equal return in reach, or else an instruction that is put in front.
+    /// The place if it is in reach, or a relay of it: an equal return in reach, or else an
+    /// instruction that is put in front.
     pub fn emit_relay(&mut self, place: usize, reach: usize) -> usize
         requires room { length self.old < MAX_CODE }
         requires place { IsPlace self.old place }
@@ -176,8 +180,8 @@ impl Code {
         }
     }
 
-    /// The place, or the next one if this instruction stands there: for a run in which it would change nothing. If a jump reaches only the
-    /// place itself, it stays.
+    /// The place, or the next one if this instruction is there: for a run in which it would
+    /// change nothing. If a jump reaches only the place itself, it stays.
     fn place_after(&self, insn: Insn, place: usize) -> usize
         requires { IsPlace self.now place }
         ensures { Passes insn place result self.now }
@@ -191,7 +195,7 @@ impl Code {
         }
     }
 
-    /// The exits, each moved past this instruction if it stands there.
+    /// The exits, each moved past this instruction if it is there.
     pub fn exits_after(&self, insn: Insn, exits: Exits) -> Exits
         requires { AreExits self.now exits }
         ensures yes { Passes insn exits.yes result.yes self.now }
@@ -221,7 +225,8 @@ impl Code {
         )
     }
 
-    /// The place, or the one to which its comparisons lead that fail if the accumulator is one of these numbers.
+    /// The place, or the one to which its comparisons lead that fail if the accumulator is one of
+    /// these numbers.
     fn place_after_mismatches(&self, ranges: &[ValueRange], place: usize) -> usize
         requires { IsPlace self.now place }
         ensures { FailsTo (in_ranges ranges.now) place result self.now }
@@ -254,14 +259,16 @@ impl Code {
         found
     }
 
-    /// Whether a jump reaches a place, or a return stands there, of which all later jumps can share a copy.
+    /// Whether a jump reaches a place, or a return is there, of which all later jumps can share
+    /// a copy.
     fn is_in_reach(&self, place: usize) -> bool
         requires { IsPlace self.now place }
     {
         self.len() - place < REACH || self.insn_at(place).code == code::RET_K
     }
 
-    /// The place, or the one after its comparisons that fail if this field is one of these numbers, if that is in reach.
+    /// The place, or the one after its comparisons that fail if this field is one of these numbers,
+    /// if that is in reach.
     pub fn place_past_comparisons(&self, field: Field, ranges: &[ValueRange], place: usize) -> usize
         requires { IsPlace self.now place }
         ensures { Skips field (in_ranges ranges.now) place result self.now }
@@ -279,7 +286,8 @@ impl Code {
         }
     }
 
-    /// Emits the comparison of a field. An exit that begins with the same load is entered after it: the number is still in the accumulator.
+    /// Emits the comparison of a field. An exit that begins with the same load is entered after it:
+    /// the number is still in the accumulator.
     pub fn emit_test(&mut self, field: Field, jump: Jump, value: u32, exits: Exits) -> usize
         requires { CanEmit 4 exits self.old }
         ensures { Decides 4 (λ p. check (λ n. holds (comparison_of jump) n value) (field_of field p)) exits result
@@ -304,7 +312,8 @@ impl Code {
         self.len()
     }
 
-    /// The program, without the instructions that nothing reaches. `Full` if more than 512 are left.
+    /// The program, without the instructions that nothing reaches. `Full` if more than 512 are
+    /// left.
     pub fn into_program(mut self) -> Result<Program, Full>
         ensures same { IfOk result (λ program. (packet : List ℕ) (wire : ℕ) → verdict program packet wire ≡ verdict self packet wire) }
         ensures reached { IfOk result IsAllReached }

@@ -1,4 +1,5 @@
-//! Expressions to programs. Code is written from its end, so an expression is walked from its right end to its left.
+//! Expressions to programs. Code is written from its end, so an expression is walked from its right
+//! end to its left.
 
 ghost use Rattle.std.specs.Prelude.{◌≡◌, ◌≢◌, ◌↔◌, ◌⊎◌, ℕ, ◌+◌, ◌<◌, ◌≤◌, All, length, Err, IfOk, IsErr, MatchOption};
 ghost use Rattle.bpfvm.specs.declared.program.TheConstants.{MAX_INSNS};
@@ -29,7 +30,8 @@ use savefile::MAX_SNAP;
 pub(crate) struct Emitted {
     /// Where its run begins.
     pub entry: Entry,
-    /// The expression's targets, or relays in reach that lead to them: what comes in front uses these.
+    /// The expression's targets, or relays in reach that lead to them: what comes in front uses
+    /// these.
     pub targets: Targets,
 }
 
@@ -37,7 +39,7 @@ pub(crate) struct Emitted {
 #[derive(Clone, Copy)]
 struct RightEnd<'a> {
     emitted: Emitted,
-    /// What stands to its left: nothing if the right end is the whole expression.
+    /// What is to its left: nothing if the right end is the whole expression.
     left: Option<&'a Expr>,
 }
 
@@ -72,7 +74,7 @@ impl KeptTargets {
 }
 
 impl Emitted {
-    /// The targets of what stands to its left.
+    /// The targets of what is to its left.
     fn left_targets(self, chain: Chain) -> Targets
         ensures { result ≡ left_targets chain self.entry self.targets }
     {
@@ -110,8 +112,9 @@ fn targets_for_chain(chain: Chain, targets: Targets) -> Targets
 }
 
 impl Code {
-    /// Emits relays of the targets, so that the jumps of the primitive and those in front of it reach them, and then the primitive. It is
-    /// not inlined, to keep its locals out of each frame of the walk down a tree.
+    /// Emits relays of the targets, so that the jumps of the primitive and those in front of it
+    /// reach them, and then the primitive. It is not inlined, to keep its locals out of each frame
+    /// of the walk down a tree.
     #[inline(never)]
     fn emit_primitive_with_relays(
         &mut self,
@@ -157,8 +160,8 @@ impl Code {
         Ok(Emitted { entry, targets })
     }
 
-    /// Emits the members of one kind. A single member is emitted as its primitive, except an Ethernet host: the lists of such hosts enter
-    /// each other after their loads.
+    /// Emits the members of one kind. A single member is emitted as its primitive, except an
+    /// Ethernet host: the lists of such hosts enter each other after their loads.
     #[inline(never)]
     fn emit_group(&mut self, group: &Group, context: Context) -> Result<Emitted, Full>
         requires some { 0 < length group.now.ranges.items }
@@ -206,8 +209,9 @@ impl Code {
         Ok(Emitted { entry, targets })
     }
 
-    /// Emits the lists at the right end of a chain of these two, if it ends in any. It is not inlined: the members take room on the stack,
-    /// which the frames of the walk down a tree must not have.
+    /// Emits the lists at the right end of a chain of these two, if it ends in any. It is not
+    /// inlined: the members take room on the stack, which the frames of the walk down a tree must
+    /// not have.
     #[inline(never)]
     fn emit_value_lists<'a>(
         &mut self,
@@ -231,7 +235,8 @@ impl Code {
         Ok(Some(RightEnd { emitted, left }))
     }
 
-    /// Looks first whether the chain can end in lists, and only then emits them: no stack is cleared in vain.
+    /// Looks first whether the chain can end in lists, and only then emits them: no stack is
+    /// cleared in vain.
     fn emit_lists_if_any<'a>(
         &mut self,
         chain: Chain,
@@ -271,7 +276,8 @@ impl Code {
         Ok(RightEnd { emitted, left })
     }
 
-    /// Emits the right end of an expression: the last link or the lists of a chain, and the whole of any other expression.
+    /// Emits the right end of an expression: the last link or the lists of a chain, and the whole
+    /// of any other expression.
     #[inline(never)]
     #[cycle(expression)]
     fn emit_right_end<'a>(&mut self, expr: &'a Expr, context: Context) -> Result<RightEnd<'a>, Full>
@@ -314,8 +320,8 @@ impl Code {
         Ok(RightEnd { emitted, left })
     }
 
-    /// Emits an expression, or only what it needs of a packet of which something is known. A loop goes from its right end to its left, so a
-    /// long chain takes no more stack than a short one.
+    /// Emits an expression, or only what it needs of a packet of which something is known. A loop
+    /// goes from its right end to its left, so a long chain takes no more stack than a short one.
     #[cycle(expression)]
     fn emit_expr(&mut self, expr: &Expr, context: Context) -> Result<Emitted, Full>
         requires need { need (tree_of expr.now) ≤ 16 }
@@ -342,7 +348,8 @@ impl Code {
     }
 }
 
-/// The program of an expression. If the code is not entered at its front, a jump there leads to its entry.
+/// The program of an expression. If the code is not entered at its front, a jump there leads to its
+/// entry.
 fn program_of(expr: &Expr, snap: u32) -> Result<Program, Full>
     requires { need (tree_of expr.now) ≤ 16 }
     ensures program { IfOk result (λ program. StandsFor program (tree_of expr.now) snap) }
@@ -358,14 +365,17 @@ fn program_of(expr: &Expr, snap: u32) -> Result<Program, Full>
     code.into_program()
 }
 
-/// Compiles an expression: the program answers the snapshot length where the expression accepts the packet, and else 0.
+/// Compiles an expression: the program answers the snapshot length if the expression accepts the
+/// packet, and else 0.
 ///
-/// docs/LANGUAGE.md says what an expression means, after pcap-filter(7). A packet is its captured bytes and its length on the wire. A test
-/// that reads past the captured bytes, or divides by 0, rejects the packet, also under a `not`. Some path of jumps leads from the
-/// program's first instruction to each of the others.
+/// docs/LANGUAGE.md says what an expression means, after pcap-filter(7). A packet is its captured
+/// bytes and its length on the wire. A test that reads past the captured bytes, or divides by 0,
+/// rejects the packet, also under a `not`. Some path of jumps leads from the program's first
+/// instruction to each of the others.
 ///
-/// `BadSnap` comes exactly if `snap` is not from 1 to [`MAX_SNAP`] bytes; else `TooDeep` comes exactly if the expression needs more than
-/// 16 cells of scratch memory (see [`need`](filtergen_facts::need)). `TooLong` comes only if its weight exceeds 500 (see
+/// `BadSnap` comes exactly if `snap` is not from 1 to [`MAX_SNAP`] bytes; else `TooDeep` comes
+/// exactly if the expression needs more than 16 cells of scratch memory (see
+/// [`need`](filtergen_facts::need)). `TooLong` comes only if its weight exceeds 500 (see
 /// [`weight`](filtergen_facts::weight)). `NoMemory` never comes: this takes no memory.
 pub fn compile(expr: &Expr, snap: u32) -> Result<Program, Refusal>
     ensures program { IfOk result (λ program. StandsFor program (tree_of expr.now) snap) }

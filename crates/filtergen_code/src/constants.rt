@@ -7,8 +7,9 @@ ghost use Rattle.filtergen_code.specs.Parts.{constant_of};
 use filter_meaning::calculate;
 use filter_tree::Value;
 
-/// The number that a value is for every packet, if it has no accessor and no `len`, and never divides by 0. The right operand is looked at
-/// first, so that a chain that ends in anything else is left at once.
+/// The number that a value is for every packet, if it has no accessor and no `len`, and never
+/// divides by 0. The right operand is looked at first, so that a chain that ends in anything else
+/// is left at once.
 pub(crate) fn constant(amount: &Value) -> Option<u32>
     ensures { result ≡ constant_of (amount_of amount.now) }
 {

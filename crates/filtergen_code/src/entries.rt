@@ -1,4 +1,5 @@
-//! Entries and targets: where code is entered, by what is known of the packet, and where a test goes on.
+//! Entries and targets: where code is entered, by what is known of the packet, and where a test
+//! goes on.
 
 ghost use Rattle.std.specs.Prelude.{◌≡◌, ◌+◌, ◌≤◌, ◌⊎◌, length, None};
 ghost use Rattle.std.specs.Bool.{OnTrue};
@@ -11,8 +12,9 @@ use filter_meaning::protocol_number;
 use filter_tree::Transport;
 use filtergen_facts::PacketFacts;
 
-/// The entry of a piece of code: the place for any packet, and places for packets of which a test before has shown something, which need
-/// not be tested for it again. If that spares nothing, the places are the same.
+/// The entry of a piece of code: the place for any packet, and places for packets of which a test
+/// before has shown something, which need not be tested for it again. If that spares nothing, the
+/// places are the same.
 #[derive(Clone, Copy)]
 pub(crate) struct Entry {
     /// For any packet.
@@ -41,7 +43,8 @@ impl Entry {
         }
     }
 
-    /// The entry of a list of ports of one protocol, made to lead first fragments of another protocol to where the list's No leads them.
+    /// The entry of a list of ports of one protocol, made to lead first fragments of another
+    /// protocol to where the list's No leads them.
     pub fn with_other_protocol(self, asked: Option<Transport>, next: Entry) -> Entry
         ensures { (result ≡ self) ⊎ (AreOther asked next.transport × (result ≡ with_other_protocol self next)) }
     {
@@ -148,8 +151,8 @@ impl Code {
         }
     }
 
-    /// Emits a relay of the place for any packet, if a jump at the front does not reach it. It then also serves for the other places that are
-    /// out of reach.
+    /// Emits a relay of the place for any packet, if a jump at the front does not reach it. It then
+    /// also serves for the other places that are out of reach.
     fn emit_entry_relays(&mut self, entry: Entry) -> Entry
         requires room { length self.old + 1 ≤ MAX_CODE }
         requires entry { IsEntry self.old entry }
@@ -166,8 +169,8 @@ impl Code {
         }
     }
 
-    /// Emits relays of the targets that a jump at the front does not reach. All tests that come in front share them, so a long chain takes
-    /// few of them.
+    /// Emits relays of the targets that a jump at the front does not reach. All tests that come in
+    /// front share them, so a long chain takes few of them.
     pub fn emit_relays(&mut self, targets: Targets) -> Targets
         requires { CanEmitBy 2 targets self.old }
         ensures extends { Extends 2 self.old self.new }

@@ -1,6 +1,8 @@
-//! Primitives and relations of a packet of which something is known: what tests to their left have shown is not tested again.
+//! Primitives and relations of a packet of which something is known: what tests to their left have
+//! shown is not tested again.
 //!
-//! Code is written from its end, so what a run does last is emitted first. `next` is where a run goes on after a test.
+//! Code is written from its end, so what a run does last is emitted first. `next` is where a run
+//! goes on after a test.
 
 ghost use Rattle.std.specs.Prelude.{◌≡◌, ◌+◌, ◌≤◌, ◌⊎◌, true, Some, None, max};
 ghost use Rattle.std.specs.Bool.{OnTrue};
@@ -34,7 +36,8 @@ fn may_be_ip(network: Option<Network>) -> bool
 }
 
 impl Code {
-    /// Emits the test for IPv4 in front of a test for IPv4 packets, unless the packet is known to be one.
+    /// Emits the test for IPv4 in front of a test for IPv4 packets, unless the packet is known to
+    /// be one.
     pub fn emit_ip_guard_given(&mut self, next: usize, context: Context) -> Entry
         requires { CanEmit 4 (record { yes = next; no = context.targets.no.other }) self.old }
         ensures { GuardsIp context.known next context.targets result self.old self.new }
@@ -45,8 +48,8 @@ impl Code {
         self.emit_ip_guard(next, context.targets.no.other)
     }
 
-    /// Emits the test for a first fragment in front of a test for first fragments, unless the packet is known to be one. It is known to be of
-    /// this protocol.
+    /// Emits the test for a first fragment in front of a test for first fragments, unless the
+    /// packet is known to be one. It is known to be of this protocol.
     pub fn emit_fragment_guard_given(
         &mut self,
         asked: Option<Transport>,
@@ -150,7 +153,8 @@ impl Code {
         Ok(Entry::at(place))
     }
 
-    /// Emits what a relation needs whose first accessor is of IPv4: an IPv4 packet enters it after the test of the type.
+    /// Emits what a relation needs whose first accessor is of IPv4: an IPv4 packet enters it after
+    /// the test of the type.
     fn emit_ip_relation_given(
         &mut self,
         comparison: Comparison,

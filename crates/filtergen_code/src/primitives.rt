@@ -1,4 +1,5 @@
-//! The primitives. Code is written from its end, so what a run does last is emitted first. `next` is where a run goes on after a test.
+//! The primitives. Code is written from its end, so what a run does last is emitted first. `next`
+//! is where a run goes on after a test.
 
 ghost use Rattle.std.specs.Prelude.{◌≡◌, ◌≢◌, ◌+◌, ◌≤◌, ◌==◌, true, if◌then◌else◌, None, length};
 ghost use Rattle.filtergen_trim.specs.declared.unreached.TheConstants.{MAX_CODE};
@@ -75,7 +76,8 @@ fn plain_cost(word: Plain) -> usize
     }
 }
 
-/// How many instructions a primitive takes at most: its loads, masks and jumps, and two relays for each jump.
+/// How many instructions a primitive takes at most: its loads, masks and jumps, and two relays for
+/// each jump.
 pub(crate) fn cost(primitive: Primitive) -> usize
     ensures value { result ≡ cost primitive }
     ensures within { result ≤ 38 }
@@ -110,7 +112,8 @@ impl Code {
         self.emit_test(Field::IP_P, Jump::Equal, number, exits)
     }
 
-    /// Emits the test for IPv4 in front of a test for IPv4 packets. A packet of another type goes to the other place.
+    /// Emits the test for IPv4 in front of a test for IPv4 packets. A packet of another type goes
+    /// to the other place.
     pub fn emit_ip_guard(&mut self, next: usize, other: usize) -> Entry
         requires { CanEmit 4 (record { yes = next; no = other }) self.old }
         ensures test { Decides 4 (is_type ETHERTYPE_IP) (record { yes = next; no = other }) result.any self.old self.new }
@@ -120,7 +123,8 @@ impl Code {
         self.emit_ip_split(Entry::at(next), other)
     }
 
-    /// Emits the test for IPv4. A packet of IPv4 goes on at the given entry, a packet of another type at the other place.
+    /// Emits the test for IPv4. A packet of IPv4 goes on at the given entry, a packet of another
+    /// type at the other place.
     pub fn emit_ip_split(&mut self, ip: Entry, other: usize) -> Entry
         requires { CanEmit 4 (record { yes = ip.ip; no = other }) self.old }
         ensures test { Decides 4 (is_type ETHERTYPE_IP) (record { yes = ip.ip; no = other }) result.any self.old self.new }
@@ -132,7 +136,8 @@ impl Code {
         Entry { any, other, ..ip }
     }
 
-    /// Emits the test of an Ethernet type other than IPv4. If the targets differ for IPv4, that type is tested first.
+    /// Emits the test of an Ethernet type other than IPv4. If the targets differ for IPv4, that
+    /// type is tested first.
     fn emit_non_ip_type(&mut self, number: u32, targets: Targets) -> Entry
         requires number { number ≢ ETHERTYPE_IP }
         requires ready { CanEmitBy 8 targets self.old }
@@ -190,7 +195,8 @@ impl Code {
         );
     }
 
-    /// Emits the test for the protocol number of TCP or UDP. An exit that begins with the same load is entered after it.
+    /// Emits the test for the protocol number of TCP or UDP. An exit that begins with the same load
+    /// is entered after it.
     pub fn emit_tcp_or_udp(&mut self, exits: Exits) -> usize
         requires { CanEmit 7 exits self.old }
         ensures { Decides 7 has_tcp_or_udp_number exits result self.old self.new }
@@ -202,7 +208,8 @@ impl Code {
         self.len()
     }
 
-    /// Emits the test for a protocol number with ports. An exit that begins with the same load is entered after it.
+    /// Emits the test for a protocol number with ports. An exit that begins with the same load is
+    /// entered after it.
     fn emit_protocol_with_ports(&mut self, exits: Exits) -> usize
         requires { CanEmit 10 exits self.old }
         ensures { Decides 10 has_port_number exits result self.old self.new }
@@ -216,7 +223,8 @@ impl Code {
         self.len()
     }
 
-    /// Emits the test for a port from low to high, at an offset after the IPv4 header whose length is in the index register.
+    /// Emits the test for a port from low to high, at an offset after the IPv4 header whose length
+    /// is in the index register.
     fn emit_port(&mut self, offset: u32, low: u32, high: u32, exits: Exits) -> usize
         requires offset { offset ≤ 2 }
         requires ready { CanEmit 7 exits self.old }
@@ -228,7 +236,8 @@ impl Code {
         self.len()
     }
 
-    /// Emits the tests of the ports that a direction chooses. They share the header's length in the index register.
+    /// Emits the tests of the ports that a direction chooses. They share the header's length in the
+    /// index register.
     fn emit_port_sides(&mut self, ports: PortTest, exits: Exits) -> usize
         requires { CanEmit 14 exits self.old }
         ensures test { Follows same_index 14
@@ -251,8 +260,8 @@ impl Code {
         }
     }
 
-    /// Emits the load of the IPv4 header's length and the tests of the ports. An exit that begins with the same load is entered after it: the
-    /// length is still in the index register.
+    /// Emits the load of the IPv4 header's length and the tests of the ports. An exit that begins
+    /// with the same load is entered after it: the length is still in the index register.
     pub fn emit_header_and_ports(&mut self, ports: PortTest, exits: Exits) -> usize
         requires { CanEmit 15 exits self.old }
         ensures { Decides 15 (by_direction ports.direction (has_port ports.low ports.high 0) (has_port ports.low ports.high 2)) exits
@@ -276,8 +285,8 @@ impl Code {
         }
     }
 
-    /// Emits the tests of type, protocol number and fragment in front of a test for first fragments. If any protocol will do, its forms share
-    /// all but the protocol number.
+    /// Emits the tests of type, protocol number and fragment in front of a test for first
+    /// fragments. If any protocol will do, its forms share all but the protocol number.
     pub fn emit_transport_guard(
         &mut self,
         asked: Option<Transport>,
@@ -321,7 +330,8 @@ impl Code {
         }
     }
 
-    /// Emits the test of an Ethernet address. The last four bytes come first, so that a byte past the captured ones aborts in any case.
+    /// Emits the test of an Ethernet address. The last four bytes come first, so that a byte past
+    /// the captured ones aborts in any case.
     fn emit_ethernet(&mut self, offset: u32, address: EthernetAddress, exits: Exits) -> usize
         requires offset { offset ≤ 40 }
         requires ready { CanEmit 8 exits self.old }
@@ -374,7 +384,8 @@ impl Code {
         }
     }
 
-    /// Emits the tests of the IPv4 addresses that a direction chooses, at these offsets in the frame.
+    /// Emits the tests of the IPv4 addresses that a direction chooses, at these offsets in the
+    /// frame.
     pub fn emit_addresses(&mut self, offsets: (u32, u32), net: NetTest, exits: Exits) -> usize
         requires source { offsets.0 ≤ 40 }
         requires destination { offsets.1 ≤ 40 }
@@ -388,7 +399,8 @@ impl Code {
         self.emit_sides(net.direction, source, destination, exits)
     }
 
-    /// Emits the test for a host or a net of ARP or RARP. A packet of another type may still be IPv4, so it goes to the exits for any packet.
+    /// Emits the test for a host or a net of ARP or RARP. A packet of another type may still be
+    /// IPv4, so it goes to the exits for any packet.
     #[tactic(auto, using(crate::proofs::Leading::decides_any))]
     fn emit_arp_net(&mut self, number: u32, net: NetTest, targets: Targets) -> Entry
         requires { CanEmitBy 14 targets self.old }
@@ -415,8 +427,8 @@ impl Code {
         }
     }
 
-    /// Emits the test for a host or a net of any protocol: three comparisons of one type. ARP and RARP have their addresses at the same
-    /// offsets.
+    /// Emits the test for a host or a net of any protocol: three comparisons of one type. ARP and
+    /// RARP have their addresses at the same offsets.
     fn emit_any_net(&mut self, net: NetTest, targets: Targets) -> Entry
         requires { CanEmitBy 30 targets self.old }
         ensures { DecidesBy 30 (in_any_net None net.direction net.address net.mask) targets result self.old self.new }
@@ -439,7 +451,8 @@ impl Code {
             Exits { yes, no },
         );
         self.emit(load_insn(Field::ETHER_TYPE));
-        // The place for other types compares the accumulator with them, so a packet known to be of another type enters at the load.
+        // The place for other types compares the accumulator with them, so a packet known to be of
+        // another type enters at the load.
         let mut entry = Entry::at(yes);
         entry.any = self.len();
         entry.other = entry.any;

@@ -1,4 +1,5 @@
-//! Relations. Code is written from its end, so what a run does last is emitted first. `next` is where a run goes on after a test.
+//! Relations. Code is written from its end, so what a run does last is emitted first. `next` is
+//! where a run goes on after a test.
 
 ghost use Rattle.std.specs.Prelude.{◌≡◌, ◌+◌, ◌≤◌, max, bit_and, option_map, Some, IfSome};
 ghost use Rattle.filter_tree.specs.Trees.{amount_of};
@@ -87,8 +88,9 @@ impl Code {
         }
     }
 
-    /// Emits what the tests of the layers of a value's accessors need. A constant has no layers: what its left operand shows is not looked up,
-    /// so that the time of a chain of constants does not grow with the square of its length.
+    /// Emits what the tests of the layers of a value's accessors need. A constant has no layers:
+    /// what its left operand shows is not looked up, so that the time of a chain of constants does
+    /// not grow with the square of its length.
     fn emit_layers(
         &mut self,
         known: PacketFacts,
@@ -134,7 +136,8 @@ impl Code {
         }
     }
 
-    /// Emits the comparison of a field with a constant. An exit that begins with the same load is entered after it.
+    /// Emits the comparison of a field with a constant. An exit that begins with the same load is
+    /// entered after it.
     fn emit_field_comparison(
         &mut self,
         comparison: Comparison,
@@ -192,7 +195,8 @@ impl Code {
         Ok(self.len())
     }
 
-    /// Emits the comparison of a value with a number. Whether bits under a mask are 0 takes one jump.
+    /// Emits the comparison of a value with a number. Whether bits under a mask are 0 takes one
+    /// jump.
     fn emit_constant_comparison(
         &mut self,
         comparison: Comparison,
@@ -238,7 +242,8 @@ impl Code {
         Ok(self.len())
     }
 
-    /// Emits a relation: what the tests of its accessors' layers need, then the values and their comparison.
+    /// Emits a relation: what the tests of its accessors' layers need, then the values and their
+    /// comparison.
     pub fn emit_relation(
         &mut self,
         known: PacketFacts,

@@ -1,7 +1,8 @@
 //! Lookups: whether a number of the packet is one of a list's.
 //!
-//! The jumps that compare the accumulator with each member are the list's comparisons; with the load in front of them they are a lookup.
-//! Code is written from its end, so what a run does last is emitted first.
+//! The jumps that compare the accumulator with each member are the list's comparisons; with the
+//! load in front of them they are a lookup. Code is written from its end, so what a run does last
+//! is emitted first.
 
 ghost use Rattle.std.specs.Prelude.{◌≡◌, ◌+◌, ◌-◌, ◌<◌, ◌≤◌, length, bit_and, option_map};
 ghost use Rattle.filtergen_trim.specs.declared.unreached.TheConstants.{MAX_CODE};
@@ -51,8 +52,9 @@ pub(crate) fn are_two_hosts(group: &Group) -> bool {
 }
 
 impl Code {
-    /// Emits the comparisons of the accumulator with each range. The first range is compared last. An exit that gets out of reach gets one
-    /// relay, which all comparisons in front of it share. If both exits are one place, nothing is compared.
+    /// Emits the comparisons of the accumulator with each range. The first range is compared last.
+    /// An exit that gets out of reach gets one relay, which all comparisons in front of it share.
+    /// If both exits are one place, nothing is compared.
     fn emit_comparisons(&mut self, ranges: &[ValueRange], exits: Exits) -> Result<usize, Full>
         requires exits { AreExits self.old exits }
         ensures { EmitsComparisons ranges.now exits self.old self.new result }
@@ -85,7 +87,8 @@ impl Code {
         }
     }
 
-    /// The exits, each moved past a load of this location if one stands there: its number is still in the accumulator.
+    /// The exits, each moved past a load of this location if one is there: its number is still
+    /// in the accumulator.
     fn exits_after_load(&self, location: Location, exits: Exits) -> Exits
         requires { AreExits self.now exits }
         ensures { PassesLocation location exits result self.now }
@@ -96,7 +99,8 @@ impl Code {
         }
     }
 
-    /// Emits a load and the comparisons after it. An exit that begins with the same load is entered after it.
+    /// Emits a load and the comparisons after it. An exit that begins with the same load is entered
+    /// after it.
     pub fn emit_lookup(
         &mut self,
         location: Location,
@@ -114,9 +118,10 @@ impl Code {
         Ok(self.len())
     }
 
-    /// Emits the lookups of the source, of the destination, or of either. For either, the first member's source is looked up alone,
-    /// as its own test does. Then the destination is loaded; after that no load can abort, so all members share the lookup of the destination,
-    /// and all but the first that of the source.
+    /// Emits the lookups of the source, of the destination, or of either. For either, the first
+    /// member's source is looked up by itself, as in its own test. Then the destination is loaded;
+    /// after that no load can abort, so all members share the lookup of the destination, and all
+    /// but the first that of the source.
     fn emit_side_lookups(
         &mut self,
         source: Location,
@@ -158,7 +163,8 @@ impl Code {
         Ok(self.len())
     }
 
-    /// Emits the comparisons with which the lookup of a list of addresses ends: with all members, of one side or of the destination.
+    /// Emits the comparisons with which the lookup of a list of addresses ends: with all members,
+    /// of one side or of the destination.
     pub fn emit_last_comparisons(&mut self, group: &Group, exits: Exits) -> Result<usize, Full>
         requires some { 0 < length group.now.ranges.items }
         requires exits { AreExits self.old exits }
@@ -182,9 +188,11 @@ impl Code {
         Ok(self.len())
     }
 
-    /// Emits the lookup of either address in front of the last comparisons, those of the destination. The first member's source is looked up
-    /// alone. Then a load of the index register at the destination's last byte shows that the destination is there, and leaves the source in
-    /// the accumulator; after that no load can abort, so all other members share the lookup of the source.
+    /// Emits the lookup of either address in front of the last comparisons, those of the
+    /// destination. The first member's source is looked up by itself. Then a load of the index
+    /// register at the destination's last byte shows that the destination is there, and leaves the
+    /// source in the accumulator; after that no load can abort, so all other members share the
+    /// lookup of the source.
     fn emit_either_address(
         &mut self,
         offsets: (u32, u32),
@@ -212,7 +220,8 @@ impl Code {
         Ok(self.len())
     }
 
-    /// Emits the lookup of addresses at these offsets of the frame in front of the last comparisons.
+    /// Emits the lookup of addresses at these offsets of the frame in front of the last
+    /// comparisons.
     pub fn emit_address_lookup_before(
         &mut self,
         offsets: (u32, u32),
@@ -232,8 +241,9 @@ impl Code {
         }
     }
 
-    /// Emits the lookup of addresses at these offsets of the frame. Two hosts are looked up as ports are, which takes less when one of them is the
-    /// destination. Of two nets one often has the source as well.
+    /// Emits the lookup of addresses at these offsets of the frame. Two hosts are looked up as
+    /// ports are, which takes less when one of them is the destination. Of two nets one often has
+    /// the source as well.
     pub fn emit_address_lookup(
         &mut self,
         offsets: (u32, u32),
@@ -254,8 +264,9 @@ impl Code {
         self.emit_address_lookup_before(offsets, group, exits)
     }
 
-    /// Emits the lookup of Ethernet hosts that share their first two bytes, at an offset of the frame. The last four bytes are loaded first: if
-    /// they are there, all six are. If they match and the first two do not, what comes next is entered after its own comparisons of other last
+    /// Emits the lookup of Ethernet hosts that share their first two bytes, at an offset of the
+    /// frame. The last four bytes are loaded first: if they are there, all six are. If they match
+    /// and the first two do not, what comes next is entered after its own comparisons of other last
     /// four bytes.
     fn emit_tail_lookup(&mut self, offset: u32, group: &Group, exits: Exits) -> Result<usize, Full>
         requires offset { offset ≤ 40 }
@@ -277,8 +288,9 @@ impl Code {
         Ok(self.len())
     }
 
-    /// Emits the lookups of Ethernet hosts that share their first two bytes. In the frame the destination stands before the source, so it is
-    /// there if the source is: all members share the lookup of the source, which comes first.
+    /// Emits the lookups of Ethernet hosts that share their first two bytes. In the frame the
+    /// destination comes before the source, so it is there if the source is: all members share the
+    /// lookup of the source, which comes first.
     pub fn emit_ethernet_lookup(&mut self, group: &Group, exits: Exits) -> Result<usize, Full>
         requires some { 0 < length group.now.ranges.items }
         requires exits { AreExits self.old exits }
@@ -294,7 +306,8 @@ impl Code {
         }
     }
 
-    /// Emits the lookup of ports after the IPv4 header, whose length it loads. An exit that begins with the same load is entered after it.
+    /// Emits the lookup of ports after the IPv4 header, whose length it loads. An exit that begins
+    /// with the same load is entered after it.
     pub fn emit_port_lookup(&mut self, group: &Group, exits: Exits) -> Result<usize, Full>
         requires many { 2 ≤ length group.now.ranges.items }
         requires exits { AreExits self.old exits }

@@ -41,7 +41,8 @@ pub(crate) fn has_number(ranges: &[ValueRange], number: u32) -> bool
 }
 
 impl Code {
-    /// Emits a list of Ethernet types. Its answer for IPv4 is known here, so the type is compared with IPv4 first.
+    /// Emits a list of Ethernet types. Its answer for IPv4 is known here, so the type is compared
+    /// with IPv4 first.
     fn emit_type_list(&mut self, group: &Group, targets: Targets) -> Result<Entry, Full>
         requires many { 2 ≤ length group.now.ranges.items }
         requires targets { AreTargets self.old targets }
@@ -79,7 +80,8 @@ impl Code {
         Ok(self.emit_ip_guard_given(next, context))
     }
 
-    /// Emits a list of hosts or nets of ARP or RARP. A packet of another type may still be IPv4, so it goes to the exits for any packet.
+    /// Emits a list of hosts or nets of ARP or RARP. A packet of another type may still be IPv4, so
+    /// it goes to the exits for any packet.
     fn emit_arp_list(&mut self, number: u32, group: &Group, targets: Targets) -> Result<Entry, Full>
         requires many { 2 ≤ length group.now.ranges.items }
         requires targets { AreTargets self.old targets }
@@ -91,7 +93,8 @@ impl Code {
         Ok(Entry::at(self.emit_ether_type(number, Exits { yes: next, ..exits })))
     }
 
-    /// Emits the last comparisons for ARP and RARP. Those for IPv4, at this place, serve for them if they lead to the same exits.
+    /// Emits the last comparisons for ARP and RARP. Those for IPv4, at this place, serve for them
+    /// if they lead to the same exits.
     fn emit_last_comparisons_of_others(
         &mut self,
         of_ip: usize,
@@ -116,9 +119,10 @@ impl Code {
         }
     }
 
-    /// Emits the lookups of hosts or nets for packets whose type is known, and returns the place for IPv4 and the place for ARP and RARP, which
-    /// have their addresses at the same offsets. All types share the last comparisons if they lead to the same exits. Two hosts are
-    /// looked up otherwise, with so few last comparisons that each type has its own.
+    /// Emits the lookups of hosts or nets for packets whose type is known, and returns the place
+    /// for IPv4 and the place for ARP and RARP, which have their addresses at the same offsets. All
+    /// types share the last comparisons if they lead to the same exits. Two hosts are looked up
+    /// otherwise, with so few last comparisons that each type has its own.
     fn emit_net_lookups(&mut self, group: &Group, targets: Targets) -> Result<(usize, usize), Full>
         requires many { 2 ≤ length group.now.ranges.items }
         requires targets { AreTargets self.old targets }
@@ -173,7 +177,8 @@ impl Code {
         Ok(entry)
     }
 
-    /// Emits a list of hosts or nets of any protocol, or only what it needs of a packet known to be IPv4.
+    /// Emits a list of hosts or nets of any protocol, or only what it needs of a packet known to be
+    /// IPv4.
     fn emit_net_list(&mut self, group: &Group, context: Context) -> Result<Entry, Full>
         requires many { 2 ≤ length group.now.ranges.items }
         requires targets { AreTargets self.old context.targets }
@@ -213,7 +218,8 @@ impl Code {
         }
     }
 
-    /// Emits a list of ports or port ranges of TCP or UDP. Both protocols share all but the comparison of the protocol number.
+    /// Emits a list of ports or port ranges of TCP or UDP. Both protocols share all but the
+    /// comparison of the protocol number.
     fn emit_tcp_or_udp_port_list(&mut self, group: &Group, context: Context) -> Result<Entry, Full>
         requires many { 2 ≤ length group.now.ranges.items }
         requires targets { AreTargets self.old context.targets }
@@ -238,7 +244,8 @@ impl Code {
         Ok(Entry::at(entry))
     }
 
-    /// Emits a list of bytes of TCP or UDP. A packet known to be a first fragment of the protocol is only looked up.
+    /// Emits a list of bytes of TCP or UDP. A packet known to be a first fragment of the protocol
+    /// is only looked up.
     fn emit_transport_bytes_list(
         &mut self,
         transport: Transport,
@@ -301,7 +308,8 @@ impl Code {
         }
     }
 
-    /// Emits a list of at least two members, or only what it needs of a packet of which something is known.
+    /// Emits a list of at least two members, or only what it needs of a packet of which something
+    /// is known.
     pub fn emit_list(&mut self, group: &Group, context: Context) -> Result<Entry, Full>
         requires many { 2 ≤ length group.now.ranges.items }
         requires targets { AreTargets self.old context.targets }

@@ -270,7 +270,8 @@ impl Code {
         }
     }
 
-    /// Emits the computation of two values, the left one into the accumulator and the right one into the index register.
+    /// Emits the computation of two values, the left one into the accumulator and the right one
+    /// into the index register.
     #[tactic(auto, unfolding(bpfvm::specs::Validity::fault_of, bpfvm::specs::Codes::operation_of))]
     #[cycle(value)]
     pub fn emit_pair(&mut self, left: &Value, right: &Value, cell: u32) -> Result<(), Full>

@@ -1,4 +1,4 @@
--- Kinds of which all may be asked before one that may abort behind them.
+-- Kinds of which all may be asked before one that may abort after them.
 use Rattle.std.proofs.Common.{◌≡◌, ℕ, ◌==◌, ◌⊎◌, inl, inr, Bool, true, false, List, All, Option, Some, None, refl, sym, ap, subst, ◌∙◌, arith}
 use Rattle.std.specs.Prelude.{Contains}
 use Rattle.std.proofs.lemmas.List.Elements.{All-contains}
@@ -28,7 +28,7 @@ pub other-number : (a b : ℕ) (v : Option ℕ) → (a == b) ≡ false → check
 other-number a b None differ is = absurd cc
 other-number a b (Some n) differ is = ap decided (ap (λ k. k == b) (equal-true n a (yes-decided (n == a) is)) ∙ differ)
 
--- behind a test that is No unless what comes next is asked
+-- after a test that is No unless what comes next is asked
 guarded : (g t u : Verdict) → (g ≡ Yes → t ≡ No → ⊥) → and_then g t ≡ No → and_then g u ≡ No
 guarded Yes t u never is = absurd (never refl is)
 guarded No t u never is = refl

@@ -53,7 +53,7 @@ apart-swap v w (inl is) = rw is (sym (or-no w))
 apart-swap v w (inr (inl is)) = rw is (or-no v)
 apart-swap v w (inr (inr both)) = rw (both.0, both.1) refl
 
--- a test behind either of them
+-- a test after either of them
 apart-guards : (v w u : Verdict) → AreApart v w → or_else (and_then v u) (and_then w u) ≡ and_then (or_else v w) u
 apart-guards v w u (inl is) = rw is refl
 apart-guards v w u (inr (inl is)) = rw is (or-no (and_then v u) ∙ ap (λ x. and_then x u) (sym (or-no v)))
@@ -77,7 +77,7 @@ tcp-apart p = numbers-apart (is_type 0x0800 p) (byte 23 p) (check (λ b. bit_and
 abbrev asked_ports : Direction → ValueRange → Test
 asked_ports d x = by_direction d (has_port x.low x.high 0) (has_port x.low x.high 2)
 
--- ports of TCP or UDP behind what their tests share
+-- ports of TCP or UDP after what their tests share
 pub either-guarded : (d : Direction) (xs : List ValueRange) (p : Packet) → 0 < length xs
     → any_of (λ (x : ValueRange). or_test (has_ports 6 d x.low x.high) (has_ports 17 d x.low x.high)) xs p
     ≡ and_then (or_else (is_first_fragment_of 6 p) (is_first_fragment_of 17 p)) (any_of (λ (x : ValueRange). by_direction d (has_port x.low x.high 0) (has_port x.low x.high 2)) xs p)

@@ -24,7 +24,7 @@ use Rattle.filtergen_facts.specs.Lists.{any_of, direction_of, bytes_test, form_t
 use Rattle.filtergen_facts.proofs.Members.{any-first, bytes-at, bytes-same, weight-append}
 use Rattle.filtergen_facts.proofs.Settling.{both-no, header-short}
 
--- a port is two bytes behind the header
+-- a port is two bytes past the header
 port-accessed : (i : ℕ) (p : Packet) → i ≤ 2 → behind_header 2 p i ≡ half_behind_header i p
 port-accessed i p small = by_byte (byte 14 p)
   where

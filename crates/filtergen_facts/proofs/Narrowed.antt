@@ -1,4 +1,4 @@
--- A protocol word, and behind it a primitive of any protocol.
+-- A protocol word, and after it a primitive of any protocol.
 use Rattle.std.proofs.Common.{◌≡◌, ℕ, ◌==◌, false, Some, None, refl, ap, ◌∙◌, bit_and}
 use Rattle.std.specs.Prelude.{IfSome}
 use Rattle.filter_tree.specs.declared.tree.Direction.{Direction}
@@ -12,7 +12,7 @@ use Rattle.filtergen_facts.proofs.Members.{or-no, and-assoc}
 use Rattle.filtergen_facts.proofs.Settling.{yes-both}
 use Rattle.filtergen_facts.proofs.Apart.{other-number}
 
--- Three tests, each behind one of its own, and before them one of these: where that is Yes, the other two are No.
+-- Three tests, each after one of its own, and before them one of these: where that is Yes, the other two are No.
 first-of : (f g h u v w : Verdict) → (f ≡ Yes → g ≡ No) → (f ≡ Yes → h ≡ No) → and_then f (or_else (or_else (and_then f u) (and_then g v)) (and_then h w)) ≡ and_then f u
 first-of Yes g h u v w second third = rw (second refl, third refl) (or-no (or_else u No) ∙ or-no u)
 first-of No g h u v w second third = refl

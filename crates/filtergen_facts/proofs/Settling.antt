@@ -191,7 +191,7 @@ covers-ports k other both of_bytes are = record {
       (bytes-covered k.form k.mask k.head k.bytes other.bytes p x y are (ap (λ s. form_test k.form (direction_of s) k.mask k.head k.bytes x p) (sym both) ∙ is));
 }
 
--- what a negation that was passed tells
+-- what a negation that was passed says
 turned-passing : (c : Chain) (v : Verdict) → turned c v ≡ passing c → v ≡ No
 turned-passing chains.AnyOf v is = is
 turned-passing chains.NoneOf Yes is = absurd cc

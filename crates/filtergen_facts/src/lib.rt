@@ -1,7 +1,8 @@
 //! What the compiler has to know of an expression before it writes a program.
 //!
-//! [`need`] and [`weight`] say how much an expression may take. [`PacketFacts`] is what passed tests have shown of a packet, and
-//! [`ValueLists`] finds the links of a chain that differ only in their numbers. None of these takes memory.
+//! [`need`] and [`weight`] say how much an expression may take. [`PacketFacts`] is what passed
+//! tests have shown of a packet, and [`ValueLists`] finds the links of a chain that differ only in
+//! their numbers. None of these takes memory.
 #![tactic(auto)]
 
 mod lists;

@@ -1,4 +1,5 @@
-//! Members of lists: the links of a chain of `or`, or the negations in a chain of `and`, that differ only in their numbers.
+//! Members of lists: the links of a chain of `or`, or the negations in a chain of `and`, that
+//! differ only in their numbers.
 
 ghost use Rattle.std.specs.Prelude.{◌≡◌, ◌≢◌, ◌+◌, ◌≤◌, IfSome, MatchOption, None};
 ghost use Rattle.filter_tree.specs.Trees.{amount_of, tree_of, number as literal, both};
@@ -42,7 +43,8 @@ pub enum Form {
     TcpPorts,
     UdpPorts,
     SctpPorts,
-    /// Ports of TCP or UDP. No member has this form: two lists, of TCP and of UDP, with the same numbers become one.
+    /// Ports of TCP or UDP. No member has this form: two lists, of TCP and of UDP, with the same
+    /// numbers become one.
     TcpOrUdpPorts,
     IpProto,
     EtherProto,
@@ -122,7 +124,8 @@ impl Sides {
         }
     }
 
-    /// Whether an IPv4 address of the other sides is captured if one of these is: the destination comes after the source.
+    /// Whether an IPv4 address of the other sides is captured if one of these is: the destination
+    /// comes after the source.
     fn reaches(self, other: Sides) -> bool
         ensures { OnTrue result (Reaches self other) }
     {
@@ -187,7 +190,8 @@ impl ListKind {
         if self == other { true } else { false }
     }
 
-    /// Whether a test of this kind loads all that a test of the other kind does. Masks and first bytes make no difference.
+    /// Whether a test of this kind loads all that a test of the other kind does. Masks and first
+    /// bytes make no difference.
     fn is_broader(self, other: ListKind) -> bool
         ensures { OnTrue result (Covers self other) }
     {
@@ -217,8 +221,8 @@ impl ListKind {
         self.is_broader(other) || self.has_ports(other)
     }
 
-    /// Whether all tests of this kind are No if one of them is and a test of the other kind aborts: the packet then has another type or
-    /// protocol.
+    /// Whether all tests of this kind are No if one of them is and a test of the other kind aborts:
+    /// the packet then has another type or protocol.
     pub(crate) fn is_apart(self, other: ListKind) -> bool
         ensures { OnTrue result (IsApart self other) }
     {
@@ -357,7 +361,8 @@ fn transport_of(word: Plain) -> Option<Transport>
     }
 }
 
-/// The primitive that a protocol word and a primitive without a protocol after it make together: `tcp` and `port 80` make `tcp port 80`.
+/// The primitive that a protocol word and a primitive without a protocol after it make together:
+/// `tcp` and `port 80` make `tcp port 80`.
 fn primitive_of_both(word: Plain, primitive: Primitive) -> Option<Primitive>
     ensures { IfSome result (λ q. (p : Packet)
         → and_then (plain_test word p) (primitive_test primitive p) ≡ primitive_test q p) }
@@ -548,8 +553,8 @@ impl Member {
         }
     }
 
-    /// Two operands of `and`: `tcp and port 80` is the member `tcp port 80`. `port 80 and tcp` is none: on a packet of another protocol
-    /// `port 80` may abort before `tcp` is tested.
+    /// Two operands of `and`: `tcp and port 80` is the member `tcp port 80`. `port 80 and tcp` is
+    /// none: on a packet of another protocol `port 80` may abort before `tcp` is tested.
     fn of_both(left: &Expr, right: &Expr) -> Option<Member>
         ensures same { IfSome result (λ m. (p : Packet) → meaning (both (tree_of left.now) (tree_of right.now)) p ≡ member_test m p) }
         ensures weighs { IfSome result (λ m. list_weight m.kind.form 1 ≤ weight (both (tree_of left.now) (tree_of right.now))) }

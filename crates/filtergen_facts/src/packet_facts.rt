@@ -12,8 +12,9 @@ use filter_tree::headers::{
 };
 use filter_tree::{Expr, Layer, Network, Plain, Primitive, Transport, Value};
 
-/// How many levels of `and` deep an operand is searched for what it shows. Each operand of a chain searches those to its left, so without a
-/// bound the time would grow with the square of the chain's length.
+/// How many levels of `and` deep an operand is searched for what it shows. Each operand of a chain
+/// searches those to its left, so without a bound the time would grow with the square of the
+/// chain's length.
 const LOOK_BACK: u32 = 16;
 
 /// What is known of a packet.
@@ -72,7 +73,8 @@ impl PacketFacts {
         }
     }
 
-    /// What is known after one more passed test. Of two facts of which neither implies the other, the new one is kept.
+    /// What is known after one more passed test. Of two facts of which neither implies the other,
+    /// the new one is kept.
     pub fn with_fact(self, fact: PacketFacts) -> PacketFacts
         ensures { result ≡ with_fact self fact }
     {
@@ -141,7 +143,8 @@ impl PacketFacts {
         }
     }
 
-    /// The packet's protocol, if it is known and the test is for its ports. `asked` is the protocol of the test; `None` is any with ports.
+    /// The packet's protocol, if it is known and the test is for its ports. `asked` is the protocol
+    /// of the test; `None` is any with ports.
     pub fn transport_of(self, asked: Option<Transport>) -> Option<Transport>
         ensures { IfSome result
             (λ t. (has_protocol self (protocol_number t) ≡ true) × ((asked ≡ None) ⊎ (asked ≡ Some t))) }

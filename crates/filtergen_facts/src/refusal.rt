@@ -7,11 +7,12 @@ use std::fmt;
 use std::fmt::{Display, Formatter};
 use thiserror::Error;
 
-/// Why an expression is not compiled. `BadSnap` is looked for first, and `TooDeep` second. It prints as its name.
+/// Why an expression is not compiled. `BadSnap` is looked for first, and `TooDeep` second. It
+/// prints as its name.
 #[derive(Clone, Copy, Debug, PartialEq, Eq, Error)]
 pub enum Refusal {
-    /// More than 512 instructions are written for the expression, before those that nothing reaches are taken out. It comes only
-    /// if the expression's weight is above 500.
+    /// More than 512 instructions are written for the expression, before those that nothing reaches
+    /// are taken out. It comes only if the expression's weight is above 500.
     TooLong,
     /// A relation needs more than 16 cells of the scratch memory.
     TooDeep,

@@ -10,15 +10,17 @@ use arrayvec::ArrayVec;
 use bpfvm::MAX_INSNS;
 use filter_tree::{Expr, Primitive};
 
-/// How many links farther left a test is searched for after which no test of a kind aborts. The bound keeps the time linear in the chain's
-/// length.
+/// How many links farther left a test is searched for after which no test of a kind aborts. The
+/// bound keeps the time linear in the chain's length.
 const LOOK_LEFT: u32 = 8;
 
-/// How many kinds the members have at most, not counting the first one's. Members of each kind take room on the stack.
+/// How many kinds the members have at most, not counting the first one's. Members of each kind take
+/// room on the stack.
 const MAX_KINDS: usize = 8;
 
-/// The links at the right end of a chain that are members of lists. The first one is tested first; after it the others may be tested kind by
-/// kind, since none of them aborts any more, or since all others are No if those of one kind abort.
+/// The links at the right end of a chain that are members of lists. The first one is tested first;
+/// after it the others may be tested kind by kind, since none of them aborts any more, or since all
+/// others are No if those of one kind abort.
 #[derive(Drop)]
 pub struct ValueLists {
     /// The member that is tested first.
@@ -112,8 +114,9 @@ fn count_kind(kinds: &mut ArrayVec<ListKind, MAX_KINDS>, kind: ListKind) -> bool
     true
 }
 
-/// Whether the last link of a chain may be the first member although tests of this kind can abort after it. All members of its own kind may
-/// then be tested first. Only members of these two kinds may be to its right, and some of its own kind must be among them.
+/// Whether the last link of a chain may be the first member although tests of this kind can abort
+/// after it. All members of its own kind may then be tested first. Only members of these two kinds
+/// may be to its right, and some of its own kind must be among them.
 fn may_lead(chain: Chain, expr: &Expr, kind: ListKind, kinds: &[ListKind]) -> bool {
     let Some(first) = Member::of_link(chain, chain.last_of(expr)) else {
         return false;
@@ -129,8 +132,9 @@ fn may_lead(chain: Chain, expr: &Expr, kind: ListKind, kinds: &[ListKind]) -> bo
     is_listed && first.kind.is_apart(kind)
 }
 
-/// How many links to the left of a link belong to its lists. They end before a link whose kind can abort after those farther left, or is one kind
-/// too many; the next one still belongs to them if it may be the first member.
+/// How many links to the left of a link belong to its lists. They end before a link whose kind can
+/// abort after those farther left, or is one kind too many; the next one still belongs to them if
+/// it may be the first member.
 fn count_links(
     chain: Chain,
     expr: &Expr,
@@ -173,7 +177,8 @@ impl OtherMembers {
         }
     }
 
-    /// Takes at most `most` links from the right end of an expression, and returns what is left of it.
+    /// Takes at most `most` links from the right end of an expression, and returns what is left of
+    /// it.
     fn take_links<'a>(&mut self, chain: Chain, expr: &'a Expr, most: usize) -> Option<&'a Expr>
         ensures { MatchOption result
             (Takes chain (tree_of expr.now) None self.old.members.items self.new.members.items)
@@ -292,7 +297,8 @@ impl OtherMembers {
         true
     }
 
-    /// Removes the members of the first member's kind, and returns them with it. Members that hold only if one of these does are dropped.
+    /// Removes the members of the first member's kind, and returns them with it. Members that hold
+    /// only if one of these does are dropped.
     fn group_of_kind(&mut self, first: Member) -> Group
         requires room { length self.old.members.items < MAX_INSNS }
         ensures kind { result.kind ≡ first.kind }
@@ -311,8 +317,8 @@ impl OtherMembers {
         }
     }
 
-    /// Removes and returns the group of the first member. If all others have the same ports of UDP as the group has of TCP, or the other way
-    /// round, they join it.
+    /// Removes and returns the group of the first member. If all others have the same ports of UDP
+    /// as the group has of TCP, or the other way round, they join it.
     #[inline(never)]
     pub fn group_of(&mut self, first: Member) -> Group
         requires room { length self.old.members.items < MAX_INSNS }
@@ -345,7 +351,8 @@ impl OtherMembers {
 }
 
 impl ValueLists {
-    /// The lists at the right end of a chain of these two, if there are any, and what is to their left.
+    /// The lists at the right end of a chain of these two, if there are any, and what is to their
+    /// left.
     pub fn at_end<'a>(
         chain: Chain,
         left: &'a Expr,

@@ -39,11 +39,12 @@ fn value_weight(value: &Value) -> u64
     }
 }
 
-/// The weight of an expression: 40 for each primitive, 20 for each accessor, 10 for each operator, comparisons among
-/// them; numbers, `len`, `and`, `or` and `not` weigh nothing.
+/// The weight of an expression: 40 for each primitive, 20 for each accessor, 10 for each operator,
+/// comparisons among them; numbers, `len`, `and`, `or` and `not` weigh nothing.
 ///
-/// It bounds how many instructions the expression takes, but for the jump to its entry and the two returns, so what weighs at
-/// most [`MAX_WEIGHT`] is never too long. A heavier one may compile too. A sum above the largest `u64` is returned as that.
+/// It bounds how many instructions the expression takes, but for the jump to its entry and the two
+/// returns, so what weighs at most [`MAX_WEIGHT`] is never too long. A heavier one may compile too.
+/// A sum above the largest `u64` is returned as that.
 pub fn weight(expr: &Expr) -> u64
     ensures { result ≡ min (weight (tree_of expr.now)) u64.MAX }
 {
@@ -70,11 +71,13 @@ fn value_need(value: &Value) -> u64
     }
 }
 
-/// How many cells of the scratch memory an expression needs: the most that one of its relations does.
+/// How many cells of the scratch memory an expression needs: the most that one of its relations
+/// does.
 ///
-/// A number and `len` need none; a unary minus and an accessor need what their operand does; an operator, a comparison
-/// too, needs what its left operand does, or one more than its right operand, whichever is more. What needs at most
-/// [`MAX_NEED`] is never too deep. A number above the largest `u64` is returned as that.
+/// A number and `len` need none; a unary minus and an accessor need what their operand does; an
+/// operator, a comparison too, needs what its left operand does, or one more than its right
+/// operand, whichever is more. What needs at most [`MAX_NEED`] is never too deep. A number above
+/// the largest `u64` is returned as that.
 pub fn need(expr: &Expr) -> u64
     ensures { result ≡ min (need (tree_of expr.now)) u64.MAX }
 {

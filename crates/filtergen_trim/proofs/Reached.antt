@@ -631,7 +631,7 @@ pub next-count_marked : (program : List Insn) (place : ℕ) (d : Insn) (goes : O
 next-count_marked program place d goes marks marks' code within is here all new =
     marks-step program place (get_or program place d) marks marks' code (slice_get-get_or program place d within) within here all (subst (λ (x : Onward). MarksNext place x marks marks') is new)
 
--- the marks behind a place
+-- the marks after a place
 pub after-inside : (marks : List Bool) (place n : ℕ) → place + 1 + n < length marks → n ≤ length (take (length marks - (place + 1)) (drop (place + 1) marks))
 after-inside marks place n below =
     let whole = take_all (length marks - (place + 1)) (drop (place + 1) marks) (omega (arith, length-drop (place + 1) marks)) in

@@ -4,7 +4,7 @@ use Rattle.std.proofs.lemmas.Bool.Decides.{nat_tests}
 use Rattle.bpfvm.specs.declared.insn.Insn.{Insn}
 use Rattle.bpfvm.specs.Machine.{Registers, Effect, Goes, Ends, effect, answer}
 
--- a run goes on behind its first instruction, or ends
+-- a run goes on after its first instruction, or ends
 abbrev pub after : List Insn → List ℕ → ℕ → Effect → ℕ
 after rest packet wire (Goes passed r) = answer rest packet wire passed r
 after rest packet wire (Ends n) = n

@@ -9,7 +9,8 @@ ghost use Rattle.filtergen_trim.specs.Trimming.{onward_of, MayGo, IsSound, count
 use arrayvec::ArrayVec;
 use bpfvm::{Insn, code};
 
-/// The most instructions that code has before those that nothing reaches are taken out: 40 more than a program.
+/// The most instructions that code has before those that nothing reaches are taken out: 40 more
+/// than a program.
 pub const MAX_CODE: usize = 552;
 
 // Clauses and definitions name the constant: it is this number.
@@ -28,7 +29,8 @@ enum Onward {
     Either(u8, u8),
 }
 
-/// Where a run goes on after an instruction. Each opcode of a jump has its own arm, since the proof goes by the opcode.
+/// Where a run goes on after an instruction. Each opcode of a jump has its own arm, since the proof
+/// goes by the opcode.
 fn onward_of(insn: Insn) -> Onward
     requires { IsSound insn }
     ensures { result ≡ onward_of insn }
@@ -135,8 +137,9 @@ fn keep_marked(insns: &[Insn], marks: &[bool]) -> ArrayVec<Insn, MAX_CODE>
     kept
 }
 
-/// The code without the instructions that nothing reaches; it answers as before. Some path of jumps leads from its first instruction
-/// to each of the others, though it may take a side that no packet takes.
+/// The code without the instructions that nothing reaches; it answers as before. Some path of jumps
+/// leads from its first instruction to each of the others, though it may take a side that no packet
+/// takes.
 ///
 /// Code here is a program that may have up to [`MAX_CODE`] instructions.
 pub fn trim_unreached(insns: &[Insn]) -> ArrayVec<Insn, MAX_CODE>

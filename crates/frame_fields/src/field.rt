@@ -20,7 +20,7 @@ pub enum Notation {
 
 /// A field of a header: its name, and how its number is written.
 #[derive(Clone, Copy, Debug, PartialEq, Eq)]
-pub struct Field {
+pub struct FrameField {
     pub name: &'static str,
     pub notation: Notation,
 }
@@ -28,9 +28,9 @@ pub struct Field {
 /// Bytes of a frame: the field that they are, or are part of.
 #[derive(Clone, Copy, Debug, PartialEq, Eq)]
 pub enum FieldPart {
-    Whole(Field),
+    Whole(FrameField),
     /// Of this field these bytes, both included, counted from 0.
-    Bytes(Field, usize, usize),
+    Bytes(FrameField, usize, usize),
 }
 
 impl FieldPart {

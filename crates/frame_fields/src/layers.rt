@@ -86,8 +86,8 @@ fn rows_of_protocol(protocol: u8) -> &'static [Row] {
     }
 }
 
-/// The field that `size` bytes belong to, from byte `at` of what follows the header of IPv4. Without a protocol these are the ports, if they
-/// can be.
+/// The field that `size` bytes belong to, from byte `at` of what follows the header of IPv4.
+/// Without a protocol these are the ports, if they can be.
 pub fn part_of_payload(protocol: Option<u8>, at: usize, size: usize) -> Option<FieldPart> {
     match protocol {
         Some(protocol) => find_part(rows_of_protocol(protocol), at, size),

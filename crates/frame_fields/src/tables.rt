@@ -1,8 +1,9 @@
 //! The fields of each header: where they begin in it, how many bytes they have, and their names.
 
-use crate::field::{Field, FieldPart, Notation};
+use crate::field::{FieldPart, FrameField, Notation};
 
-/// A field in its header: where it begins, how many bytes it has, its name, and how its number is written.
+/// A field in its header: where it begins, how many bytes it has, its name, and how its number is
+/// written.
 pub(crate) type Row = (usize, usize, &'static str, Notation);
 
 /// These bytes of a header, if they are a field or part of it.
@@ -10,7 +11,7 @@ fn part_of(row: &Row, at: usize, size: usize) -> Option<FieldPart> {
     let (begin, len, name, notation) = *row;
     let first = at.checked_sub(begin)?;
     let end = first.checked_add(size)?;
-    let field = Field { name, notation };
+    let field = FrameField { name, notation };
     if size == 0 || end > len {
         None
     } else if size == len {

@@ -26,7 +26,8 @@ impl Drawing<'_> {
         }
     }
 
-    /// The place of the last instruction of the box that begins at a place: one that asks or returns, or the one before another box.
+    /// The place of the last instruction of the box that begins at a place: one that asks or
+    /// returns, or the one before another box.
     fn last_of(&self, first: usize) -> usize {
         let mut place = first;
         for _ in 0..self.insns.len() {
@@ -111,9 +112,10 @@ impl Drawing<'_> {
     }
 }
 
-/// The graph of a program as a text in the language of Graphviz: `digraph filter {` .. `}`. A box is named after the place of its first
-/// instruction, `n0`, and says what its last one asks, as `destination port = 443?`; two arrows go from it, `yes` and `no`. What the run
-/// came along is drawn with thicker lines; an empty run marks nothing.
+/// The graph of a program as a text in the language of Graphviz: `digraph filter {` .. `}`. A box
+/// is named after the place of its first instruction, `n0`, and says what its last one asks, as
+/// `destination port = 443?`; two arrows go from it, `yes` and `no`. What the run came along is
+/// drawn with thicker lines; an empty run marks nothing.
 pub fn write_graph(alloc: Global, program: &Program, run: &[Executed]) -> Result<String, NoMemory> {
     let insns = program.insns();
     let known = known_places(alloc, insns)?;

@@ -13,9 +13,9 @@ const ETHERNET_LEN: usize = 14;
 pub(crate) enum Source {
     /// A field of a header, or part of one.
     Part(FieldPart),
-    /// So many bytes from a place of the frame.
+    /// `size` bytes from a place of the frame.
     Bytes { at: usize, size: usize },
-    /// So many bytes from a place past X.
+    /// `size` bytes from a place past X.
     PastX { at: usize, size: usize },
     /// The length on the wire.
     Length,
@@ -122,7 +122,8 @@ fn of_frame(insn: &Insn, ethertype: Option<u16>) -> Source {
     }
 }
 
-/// The bytes that a load takes past X, which is the length of the header of IPv4 as programs for ports have it.
+/// The bytes that a load takes past X, which is the length of the header of IPv4 as programs for
+/// ports have it.
 fn past_x(insn: &Insn, protocol: Option<u8>) -> Source {
     let (at, size) = (insn.k as usize, size_of(insn.code));
     let part = match at.checked_sub(ETHERNET_LEN) {

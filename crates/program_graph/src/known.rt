@@ -1,4 +1,5 @@
-//! What is known where a program comes to each of its instructions. All jumps lead on, so one pass finds it.
+//! What is known when a program reaches each of its instructions. All jumps lead on, so one pass
+//! finds it.
 
 use crate::held::{Held, held_after};
 use crate::ways::{Way, first_place, way_from};
@@ -15,13 +16,14 @@ const TYPE_ARP: u16 = 0x0806;
 
 const TYPE_RARP: u16 = 0x8035;
 
-/// What is known where a program comes to an instruction.
+/// What is known when a program reaches an instruction.
 #[derive(Clone, Copy, Debug, PartialEq, Eq)]
 pub(crate) struct Known {
     pub held: Held,
     pub ethertype: Option<u16>,
     pub protocol: Option<u8>,
-    /// Whether a box begins here: it is the first instruction, or a jump leads here, or more than one way.
+    /// Whether a box begins here: it is the first instruction, or a jump leads here, or more than
+    /// one way.
     pub begins: bool,
 }
 

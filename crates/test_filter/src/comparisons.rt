@@ -1,4 +1,5 @@
-//! Programs compared with the evaluator: every primitive, and random trees, on frames that are cut short.
+//! Programs compared with the evaluator: every primitive, and random trees, on frames that are cut
+//! short.
 
 ghost use Rattle.std.specs.Prelude.{◌<◌};
 
@@ -65,7 +66,8 @@ static TRANSPORTS: [Option<Transport>; 4] = [
     Some(Transport::Sctp),
 ];
 
-/// Addresses with their masks. Of the last two one has bits outside its mask, as no text has, and one has none at all.
+/// Addresses with their masks. Of the last two one has bits outside its mask, as no text has, and
+/// one has none at all.
 pub(crate) static NETS: [(u32, u32); 6] = [
     (0x0a00_0001, 0xffff_ffff),
     (0x0a00_0002, 0xffff_ffff),
@@ -84,7 +86,8 @@ pub(crate) static RANGES: [(u16, u16); 5] = [
     (80, 53),
 ];
 
-// The first three are in frames; the others have the first two or the last four bytes of one of these.
+// The first three are in frames; the others have the first two or the last four bytes of one of
+// these.
 pub(crate) static ADDRESSES: [[u8; 6]; 6] = [
     [0, 1, 2, 3, 4, 5],
     [6, 7, 8, 9, 10, 11],
@@ -122,7 +125,7 @@ pub(crate) static UNDIRECTED: [Primitive; 14] = [
     Primitive::Greater(0),
 ];
 
-// The program, and that it is refused as too long only where it is heavy.
+// The program, and that it is refused as too long only if it is heavy.
 pub(crate) fn program_of(rt: &impl Abort, expr: &Expr) -> Option<Program> {
     match compile(expr, 96) {
         Ok(program) => Some(program),
@@ -388,7 +391,7 @@ fn accepted_by(
     accepted
 }
 
-// A tree compared, and how many frames it accepts; nothing where it is too long.
+// A tree compared, and how many frames it accepts; nothing if it is too long.
 fn compared(rt: &impl Abort, random: &mut Random, expr: Expr, frames: &[Vec<u8>]) -> Option<u32> {
     match program_of(rt, &expr) {
         Some(program) => Some(accepted_by(rt, random, &expr, &program, frames)),

@@ -1,5 +1,6 @@
-//! Tests of `filtergen` and `filter_explain` that no command shows: trees that no text reads as and random trees, whose programs are
-//! compared with the evaluator, what trees weigh and need, and the callers of the pages.
+//! Tests of `filtergen` and `filter_explain` that no command shows: trees that no text reads as and
+//! random trees, whose programs are compared with the evaluator, what trees weigh and need, and the
+//! callers of the pages.
 #![tactic(auto)]
 
 #[cfg(test)]

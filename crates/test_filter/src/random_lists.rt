@@ -1,4 +1,5 @@
-//! Random chains whose links differ only in their numbers, which become lists of a program, on frames cut at each byte.
+//! Random chains whose links differ only in their numbers, which become lists of a program, on
+//! frames cut at each byte.
 
 use crate::comparisons::{
     ADDRESSES, NETS, PLAIN, RANGES, Random, UNDIRECTED, boxed, frames, random_primitive,
@@ -7,7 +8,8 @@ use crate::random_relations::{Answers, compared};
 use filterlang::{EthernetAddress, Expr, Network, Plain, Primitive, Transport};
 use std::process::Abort;
 
-/// Another primitive of the same kind: of the same protocol, direction and mask, sometimes with the same number.
+/// Another primitive of the same kind: of the same protocol, direction and mask, sometimes with the
+/// same number.
 fn neighbour(random: &mut Random, primitive: Primitive) -> Primitive {
     match primitive {
         Primitive::Protocol(_) => Primitive::Protocol(PLAIN[random.below(7)]),

@@ -1,4 +1,5 @@
-//! Relations over numbers at their bounds, by the program and by the evaluator. The trees are put together by hand.
+//! Relations over numbers at their bounds, by the program and by the evaluator. The trees are put
+//! together by hand.
 
 use crate::comparisons::compare;
 use crate::same::same;

@@ -75,7 +75,8 @@ fn expressions_weigh_as_worked_out(rt: HostRuntime) {
     }
 }
 
-/// What values need. A comparison keeps its left value in a word too, and the need is the most that a relation has, wherever it is.
+/// What values need. A comparison keeps its left value in a word too, and the need is the most that
+/// a relation has, wherever it is.
 static NEEDS: [(Nested, u64); 5] = [
     (("", 16, " = 17"), MAX_NEED),
     (DEEP, 17),

@@ -1,4 +1,5 @@
-//! Tests of `savefile` and `bpfvm`: savefiles that are read and written, programs of the filter machine and their listings.
+//! Tests of `savefile` and `bpfvm`: savefiles that are read and written, programs of the filter
+//! machine and their listings.
 #![tactic(auto)]
 
 #[cfg(test)]

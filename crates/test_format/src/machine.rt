@@ -1,4 +1,5 @@
-//! The filter machine, beside what the program shows: its instructions and their names, its trace, and its page's caller.
+//! The filter machine, beside what the program shows: its instructions and their names, its trace,
+//! and its page's caller.
 
 mod assembled;
 mod caller;

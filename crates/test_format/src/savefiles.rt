@@ -1,4 +1,5 @@
-//! Savefiles: what `bpftap cut` does not show of their headers, and devices that fail in mid-stream.
+//! Savefiles: what `bpftap cut` does not show of their headers, and devices that fail in
+//! mid-stream.
 
 mod caller;
 mod reader;
@@ -341,7 +342,7 @@ fn are_its(rt: &impl Abort, numbers: (u32, u32, u32), bytes: &[u8]) {
     assert!(rt; bytes == TCP_FRAME.as_slice());
 }
 
-/// This one passes too where any one request for memory is refused.
+/// This one passes too if any one request for memory is refused.
 #[test]
 fn a_packet_is_lent_and_copied(rt: HostRuntime) {
     if let Ok(bytes) = Vec::from_slice(rt.alloc(), &TCP_FRAME) {
@@ -379,7 +380,7 @@ fn have_two_bytes(rt: &impl Abort, packets: &[Packet]) {
     }
 }
 
-/// This one passes too where any one request for memory is refused.
+/// This one passes too if any one request for memory is refused.
 #[test]
 fn refused_memory_is_named(rt: HostRuntime) {
     match read_all(rt.alloc(), &TORN) {

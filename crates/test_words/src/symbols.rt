@@ -1,5 +1,5 @@
-//! What values are of packets: relations that get one answer from all packets, or from all that have enough bytes. The answers are written
-//! down by hand, from the tables of docs/LANGUAGE.md.
+//! What values are of packets: relations that get one answer from all packets, or from all that
+//! have enough bytes. The answers are written down by hand, from the tables of docs/LANGUAGE.md.
 
 ghost use Rattle.std.specs.Prelude.{◌<◌, IfSome};
 
@@ -32,7 +32,8 @@ fn answer_to_all(
     }
 }
 
-/// Relations that are so of each packet with this many captured bytes, if its IPv4 header has five words.
+/// Relations that are so of each packet with this many captured bytes, if its IPv4 header has five
+/// words.
 static ALWAYS: [(&str, u32); 12] = [
     ("1 + 1 = 2", 0),
     ("4294967295 + 1 = 0", 0),

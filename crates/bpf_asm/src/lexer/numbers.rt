@@ -6,7 +6,7 @@ ghost use Rattle.bpf_asm.specs.Numbers.{numeral, decimal_of, number_of, negative
 /// The greatest number that a negative one is the negation of.
 const MAX_NEGATED: u32 = 0x8000_0000;
 
-/// The number that these bytes spell in a base, where each is a digit of it and the number fits.
+/// The number that these bytes spell in a base, if each is a digit of it and the number fits.
 fn numeral(bytes: &[u8], base: u32) -> Option<u32>
     requires low { 2 ≤ base }
     requires high { base ≤ 36 }

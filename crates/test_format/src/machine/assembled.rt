@@ -1,5 +1,5 @@
-//! Programs by the names of their instructions, as the page of Linux's bpf_asm has its first one. What `check -f` prints is tested
-//! of the program.
+//! Programs by the names of their instructions, as the page of Linux's bpf_asm has its first one.
+//! What `check -f` prints is tested of the program.
 
 use crate::same::same;
 use bpf_asm::{

@@ -1,4 +1,5 @@
-//! Instructions by their names. That each line of a program is what libpcap prints is tested of the program.
+//! Instructions by their names. That each line of a program is what libpcap prints is tested of the
+//! program.
 
 use crate::same::same;
 use bpfvm::{Brief, Insn, PlacedInsn};

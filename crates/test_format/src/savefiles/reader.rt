@@ -91,7 +91,8 @@ fn both_tell_once(
     }
 }
 
-/// A text of a record and a torn one, in pieces of at most this many bytes, gives the one and reports the other once.
+/// A text of a record and a torn one, in pieces of at most this many bytes, gives the one and
+/// reports the other once.
 fn is_told_once(rt: &(impl Abort + AllocGlobal), text: &[u8], at_once: usize) {
     let mut owning = over(rt, text, at_once);
     let mut lending = over(rt, text, at_once);
@@ -109,7 +110,8 @@ fn a_torn_record_header_in_pieces_is_reported_once(rt: HostRuntime) {
     }
 }
 
-/// How many calls of a reader gave a packet, up to nine, and the first that did not: the end, or the fault.
+/// How many calls of a reader gave a packet, up to nine, and what the first other one answered: the
+/// end, or the fault.
 fn first_without<R: Source>(reader: &mut Reader<R>) -> (u32, Result<bool, Fault>) {
     for packets in 0..9_u32 {
         let advanced = reader.advance();
@@ -120,7 +122,7 @@ fn first_without<R: Source>(reader: &mut Reader<R>) -> (u32, Result<bool, Fault>
     (9, Ok(true))
 }
 
-/// What one call after the other answers, up to the first that is no packet, and that one again.
+/// What one call after the other answers, up to the first answer without a packet, and that again.
 fn fate<R: Source + Drop>(rt: &(impl Abort + AllocGlobal), mut reader: Reader<R>) -> String {
     let (packets, ended) = first_without(&mut reader);
     let again = told_lent(rt, &mut reader);
@@ -164,7 +166,7 @@ fn a_text_cut_short_anywhere_is_torn(rt: HostRuntime) {
     }
 }
 
-/// What becomes of a source that fails at this call, where each call gives a byte.
+/// What becomes of a source that fails at this call, if each call gives a byte.
 fn fate_of_failure(call: usize) -> &'static str {
     match call {
         1..25 => "open Device",
@@ -200,14 +202,16 @@ fn whole_records_come_before_a_break(rt: HostRuntime) {
     comes_back(&rt, source_of(&rt, &text, 10, 2));
 }
 
-/// A record of no bytes, and one of 262,144: the longest that there is, at the end of the reader's memory.
+/// A record of no bytes, and one of 262,144: the longest that there is, at the end of the reader's
+/// memory.
 fn longest(rt: &(impl Abort + AllocGlobal)) -> Vec<u8> {
     let header = [2, 0, 0, 0, 0, 0, 0, 0, 0, 0, 4, 0, 5, 0, 0, 0];
     let bytes = sevens(rt, 262_144);
     joined(rt, &[&HEADER_LITTLE_MICRO, &[0; 16], &header, &bytes])
 }
 
-/// How many bytes a source gives at once: few, about a record's header, and about the longest record and the reader's memory.
+/// How many bytes a source gives at once: few, about a record's header, and about the longest
+/// record and the reader's memory.
 static PIECES: [usize; 17] = [
     1,
     16,
@@ -292,7 +296,7 @@ fn gives_or_breaks(rt: &(impl Abort + AllocGlobal), mut reader: Reader<&[u8]>) {
     }
 }
 
-/// This one passes too where any one request for memory is refused.
+/// This one passes too if any one request for memory is refused.
 #[test]
 fn refused_memory_breaks_a_reader(rt: HostRuntime) {
     match Reader::open(rt.alloc(), ONE_PACKET.as_slice()) {
