@@ -1,4 +1,4 @@
--- What the rule tells of a pair that is taken apart.
+-- What the rule says of a pair that is taken apart.
 use Rattle.std.proofs.Common.{◌≡◌, ℕ, zero, suc, ◌+◌, Bool, true, false, List, [], ◌∷◌, ◌++◌, length, take, Option, Some, None, Contains, refl, sym, ap, ◌∙◌, subst, arith, append_assoc, take-append-drop}
 use mathlib.Core.Option.{some, some-injective, some-ne-none}
 use mathlib.Core.List.{IsPrefix}
@@ -56,7 +56,7 @@ at_home : (capacity : ℕ) (full : Bool) (home : Home) (s : PlainList) → IsHel
 at_home capacity true home s h p = p
 at_home capacity false home s h p = p ∙ ap (λ (n : ℕ). some (filled capacity (take n s.pending))) (sym h)
 
--- what the joined seat's rule tells of both lists and of the buffer in the slot
+-- what the joined seat's rule says of both lists and of the buffer in the slot
 pub record Ending (p : Profile) (fs : List Feed) (ts : List Take) (y : Filled) : Type 0 where
   pub fits : AllFit p.capacity fs
   pub legal : Legal (terms_of p) empty (events (merge fs ts))

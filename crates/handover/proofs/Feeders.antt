@@ -146,7 +146,7 @@ counted_flush full (Arrive m fed) fs counts answers c = absurd answers
 counted_flush full (Flush made) fs counts answers c = counted_more counts counts fs (Flush made ∷ []) (omega arith) (omega arith) (omega arith) c
 counted_flush full FlushClosed fs counts answers c = counted_more counts counts fs (FlushClosed ∷ []) (omega arith) (omega arith) (omega arith) c
 
--- ---- The fields behind a call
+-- ---- The fields after a call
 
 pub fields_after : (m n : Sat) (b c : Filled) (f : Feed) (es : List WordStep) (snap : ℕ) (mode : Mode) (counts : Counts) → IsFeeder m b false → InRange snap b.capacity
     → m.0.profile.mode ≡ mode → Went m n c f es → AreCountsOfCalls counts (m.0.feeds ++ f ∷ [])

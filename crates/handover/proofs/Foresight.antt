@@ -1,4 +1,4 @@
--- What a feeder has seen when it has ended doesn't tell what the drain does next.
+-- What a feeder has seen when it has ended doesn't determine what the drain does next.
 use Rattle.std.proofs.Common.{◌≡◌, ℕ, Bool, true, false, ◌||◌, List, [], ◌∷◌, ◌++◌, refl, sym, ap, ◌∙◌, subst, append-nil, append_assoc, arith}
 use Rattle.std.specs.Prelude.{slice_index}
 use mathlib.Core.List.{IsPrefix}
@@ -21,7 +21,7 @@ quiet_parts (x ∷ xs) ys quiet =
     let two = neither (is_store_to Ended x) (store_to Ended (xs ++ ys)) quiet in
     let rest = quiet_parts xs ys two.1 in (ap (λ (b : Bool). b || store_to Ended xs) two.0 ∙ rest.0, rest.1)
 
--- a beginning of two lists that part behind `taken` begins that
+-- a beginning of two lists that part after `taken` begins that
 common : (p taken s t later : List WordStep) → p ++ s ≡ taken ++ Store Closed 1 ∷ [] → p ++ t ≡ taken ++ Load Ended 0 ∷ later → IsPrefix p taken
 common [] taken s t later one two = (taken, refl)
 common (x ∷ p) [] s t later one two = absurd (cc (one, two))
@@ -42,7 +42,7 @@ stays a b (OfDrain (Store Closed n) ∷ ms) none quiet = stays a n ms none quiet
 stays a b (OfDrain (Store Ended n) ∷ ms) none quiet = absurd (cc (quiet))
 stays a b (OfDrain (Give given) ∷ ms) none quiet = stays 1 b ms none quiet
 
--- behind the feeder's store to `ended`, where the drain makes none
+-- after the feeder's store to `ended`, where the drain makes none
 ends : (a b c : ℕ) (ms : List EndStep) (fs : List WordStep) → of_feeder ms ≡ fs ++ Store Ended 1 ∷ [] → store_to Ended (of_drain ms) ≡ false
     → EndIsSet (words_from (a ∷ b ∷ c ∷ []) ms)
 ends a b c [] [] own quiet = absurd (cc (own))

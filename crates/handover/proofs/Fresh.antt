@@ -1,4 +1,4 @@
--- What a step may tell where the rule holds before it and behind it.
+-- What a step may tell where the rule holds before it and after it.
 use Rattle.std.proofs.Common.{◌≡◌, ℕ, List, [], ◌∷◌, sym, ap, ◌∙◌, subst, arith}
 use Rattle.std.specs.Prelude.{slice_index, slice_set}
 use mathlib.Core.Option.{some}

@@ -45,7 +45,7 @@ found_more (g ∷ fs) f n = elim (kind g) as (λ k. by_kind k (finds fs) (finds 
   | finds_closed ↦ λ m. refl
 ] n
 
--- ---- Ended stands behind all calls
+-- ---- Ended comes after all calls
 
 no_ended : (hs : List Happening) → ended_in (takes_in hs) ≡ false → EndedIsLast hs
 no_ended [] n = tt
@@ -258,7 +258,7 @@ loud_keeps t home given v d f e going none idle fit q k =
 late_finds : (f : Feed) → kind f ≡ finds_closed → by_kind (kind f) false false true ≡ true
 late_finds f is = ap (λ (k : Kind). by_kind k false false true) is
 
--- the merged list behind such a call: the close may come in before it
+-- the merged list after such a call: the close may come in before it
 pub record Later (t : Terms) (full : Bool) (fs : List Feed) (ts : List Take) (f : Feed) : Type 0 where
   pub legal : Legal t empty (events (merge (fs ++ f ∷ []) ts))
   pub closes : (last (fs ++ f ∷ []) ts).closed ≡ true

@@ -117,7 +117,7 @@ Answers (Full b) full = full ≡ true
 Answers Nothing full = full ≡ false
 Answers Ended full = full ≡ false
 
--- a read behind the last of these turns
+-- a read after the last of these turns
 abbrev into_last : Take → List (List Take) → List (List Take)
 into_last t [] = (t ∷ []) ∷ []
 into_last t (u ∷ []) = (u ++ t ∷ []) ∷ []
@@ -139,7 +139,7 @@ has_turns (Full b ∷ ts) = tt
 has_turns (Nothing ∷ ts) = has_read Nothing (turns_of ts)
 has_turns (Ended ∷ ts) = has_read Ended (turns_of ts)
 
--- a read in front of the first turn, and one behind the last
+-- a read in front of the first turn, and one after the last
 both_ends : (r t : Take) (us : List (List Take)) → HasTurn us → with_read r (add_read t us) ≡ add_read t (with_read r us)
 both_ends r t [] h = absurd h
 both_ends r (Full b) (u ∷ us) h = refl

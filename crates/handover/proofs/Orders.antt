@@ -45,7 +45,7 @@ prefix_more xs ys zs p = (p.0 ++ zs, sym (append_assoc xs p.0 zs) ∙ ap (λ (l 
 pub prefix_trans : (xs ys zs : List EndStep) → IsPrefix xs ys → IsPrefix ys zs → IsPrefix xs zs
 prefix_trans xs ys zs p q = subst (IsPrefix xs) q.1 (prefix_more xs ys q.0 p)
 
--- a seat behind a step of the feeder or of the drain
+-- a seat after a step of the feeder or of the drain
 abbrev pub feeder_at_step : Sight → View → List EndStep → Sight
 feeder_at_step s v order = record { view = v; feeder_saw = order; drain_saw = s.drain_saw }
 
@@ -107,7 +107,7 @@ drain_parts [] ys = refl
 drain_parts (OfFeeder x ∷ xs) ys = drain_parts xs ys
 drain_parts (OfDrain x ∷ xs) ys = ap (λ (l : List WordStep). x ∷ l) (drain_parts xs ys)
 
--- what was added to a list is what stands behind it
+-- what was added to a list is what comes after it
 pub added : (xs ys zs : List WordStep) → xs ++ ys ≡ xs ++ zs → ys ≡ zs
 added [] ys zs is = is
 added (x ∷ xs) ys zs is = added xs ys zs (cc (is))
@@ -116,7 +116,7 @@ fresh_last : (ws : List ℕ) (ms : List EndStep) (m : EndStep) → IsFreshFrom w
 fresh_last ws [] m k = k.0
 fresh_last ws (x ∷ ms) m k = fresh_last (behind ws (step_of x)) ms m k.1
 
--- the order before a step begins the order behind it
+-- the order before a step begins the order after it
 begins : (order more a b c d : List EndStep) → (order ≡ a) ⊎ (order ≡ b) → IsPrefix a c → IsPrefix b d → IsPrefix c more → IsPrefix d more → IsPrefix order more
 begins order more a b c d (inl is) p q r s = subst (λ (l : List EndStep). IsPrefix l more) (sym is) (prefix_trans a c more p r)
 begins order more a b c d (inr is) p q r s = subst (λ (l : List EndStep). IsPrefix l more) (sym is) (prefix_trans b d more q s)
@@ -203,6 +203,6 @@ pub store_more : (w : Word) (es : List WordStep) (e : WordStep) → store_to w (
 store_more w [] e = refl
 store_more w (x ∷ es) e = ap (λ (b : Bool). is_store_to w x || b) (store_more w es e) ∙ or_swaps (is_store_to w x) (is_store_to w e) (store_to w es)
 
--- a flag that tells of a store, behind one step more
+-- a flag that says whether there was a store, after one more step
 pub flag_more : (w : Word) (es new : List WordStep) (e : WordStep) (was is : Bool) → new ≡ es ++ e ∷ [] → was ≡ store_to w es → is ≡ (is_store_to w e || was) → is ≡ store_to w new
 flag_more w es new e was is steps before after = after ∙ (ap (λ (b : Bool). is_store_to w e || b) before ∙ (sym (store_more w es e) ∙ ap (store_to w) (sym steps)))

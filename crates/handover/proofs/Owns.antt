@@ -156,7 +156,7 @@ fits_head capacity (Arrive None answer) fs fits = (tt, fits)
 fits_head capacity (Flush full) fs fits = (tt, fits)
 fits_head capacity FlushClosed fs fits = (tt, fits)
 
--- behind a call that stores 1, from the states z and v
+-- after a call that stores 1, from the states z and v
 twin : (t : Terms) (f : Feed) (z v : PlainList) → HeldIsWithin z → HeldIsWithin v → stored z ≡ stored v → z.closed ≡ false → v.closed ≡ false → IsRight t z (event_of (fed f))
     → IsRight t v (event_of (fed f)) → 0 < (next v (event_of (fed f))).in_hold → Twin true (next z (event_of (fed f))) (next v (event_of (fed f)))
 twin t f z v w x e o q a b p = record {
@@ -169,11 +169,11 @@ twin t f z v w x e o q a b p = record {
   right_open = fed_open v f ∙ q;
 }
 
--- what the rest of the calls owes, behind a call that stores 1
+-- what the rest of the calls owes, after a call that stores 1
 abbrev More : Terms → List Feed → List (List Take) → Type 0
 More t fs us = (z v : PlainList) → Twin true z v → Legal t z (events (deal us fs)) → Legal t v (events (own_from true v fs))
 
--- the own list of a call that stores 1 and the calls behind it
+-- the own list of a call that stores 1 and the calls after it
 abbrev own_storing : Bool → PlainList → Feed → List Feed → List Happening
 own_storing after u f fs = cond after
     (reads_hold u ∷ fed f ∷ own_from true (next (next u (event_of (reads_hold u))) (event_of (fed f))) fs)
@@ -248,6 +248,6 @@ feeds_in-own false s (f ∷ fs) = elim (kind f) as (λ b. feeds_in (by_kind b (f
   | finds_closed ↦ feeds_fed (f ∷ fs)
 ]
 
--- the store of the own run is the one that the calls tell
+-- the store of the own run is the one that the calls give
 pub own_store : (t : Terms) (fs : List Feed) → Legal t empty (events (own fs)) → stored (run empty (events (own fs))) ≡ store_of fs
 own_store t fs legal = stored_run t empty (own fs) (omega arith) legal ∙ ap (λ (l : List Feed). store_from [] l) (feeds_in-own false empty fs)

@@ -1,5 +1,5 @@
--- The ways on which a call of the feeder goes over the words. A call begins at the seat m with the store b; behind its load of `closed`
--- the seat is n, behind its load of `turn` o, behind its exchange p, and behind its store q.
+-- The ways on which a call of the feeder goes over the words. A call begins at the seat m with the store b; after its load of `closed`
+-- the seat is n, after its load of `turn` o, after its exchange p, and after its store q.
 use Rattle.std.proofs.Common.{◌≡◌, ◌≢◌, ℕ, zero, suc, ◌+◌, ◌<◌, ◌≤◌, Bool, true, false, List, [], ◌∷◌, ◌++◌, length, IsTrue, refl, sym, ap, ◌∙◌, subst, arith}
 use Rattle.std.specs.Bool.{OnTrue}
 use Rattle.listener.specs.declared.message.Message.{Message}

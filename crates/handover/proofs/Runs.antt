@@ -41,7 +41,7 @@ within_next s e w = held_stays s (e ∷ []) w
 pub within_run : (hs : List Happening) → HeldIsWithin (run empty (events hs))
 within_run hs = held_stays empty (events hs) (omega arith)
 
--- the store is told by the feeder's calls
+-- the feeder's calls determine the store
 stored_next : (t : Terms) (s : PlainList) (h : Happening) (hs : List Happening) → HeldIsWithin s → IsRight t s (event_of h)
     → store_from (stored (next s (event_of h))) (feeds_in hs) ≡ store_from (stored s) (feeds_in (h ∷ hs))
 stored_next t s (fed f) hs w is_right = ap (λ (l : List Message). store_from l (feeds_in hs)) (buffers_follow t s (event_of (fed f)) w is_right).store

@@ -21,7 +21,7 @@ pub store_from-append : (xs : List Message) (fs gs : List Feed) → store_from x
 store_from-append xs [] gs = refl
 store_from-append xs (f ∷ fs) gs = store_from-append (store_after xs (event_of (fed f))) fs gs
 
--- the store behind one call more
+-- the store after one more call
 abbrev pub after_call : Filled → Feed → Filled
 after_call b f = filled b.capacity (store_after b.messages (event_of (fed f)))
 

@@ -1,4 +1,4 @@
--- What a merged list that is legal tells: where the close stands, what is kept, and the counts.
+-- What a merged list that is legal shows: where the close stands, what is kept, and the counts.
 use Rattle.std.proofs.Common.{◌≡◌, ◌+◌, Bool, true, false, List, [], ◌∷◌, ◌++◌, map, Some, None, drop, refl, sym, ap, ◌∙◌, subst, arith, append_assoc, append-nil, take-append-drop}
 use Rattle.listener.specs.declared.answer.Fed.TheVariants.{Passed, Stored, Held, Rotated, Dropped, Closed}
 use Rattle.listener.specs.declared.message.Message.{Message}

@@ -35,7 +35,7 @@ use Rattle.handover.proofs.Keeps.{quiet_keeps, busy_keeps, loud_keeps, late_keep
 abbrev words_of : Bool → View → View → List ℕ
 words_of full f d = bit full ∷ bit d.closed ∷ bit f.ended ∷ []
 
--- the same by the stores that were made, as the rule tells them
+-- the same by the stores that were made, as the rule has them
 abbrev stores_of : Bool → View → View → List ℕ
 stores_of full f d = bit full ∷ bit (store_to word.Closed d.take_steps) ∷ bit (store_to word.Ended f.feed_steps) ∷ []
 

@@ -9,7 +9,7 @@ use Rattle.handover.specs.Own.{store_of}
 use Rattle.handover.specs.declared.calls.Feed.{Feed}
 use Rattle.handover.specs.declared.calls.Feed.TheVariants.{Arrive, Flush}
 
--- a call of an open pair that the store alone decides
+-- a call of an open pair that depends only on the store
 abbrev pub Quiet : Terms → List Message → Feed → Type 0
 Quiet t store (Arrive None Passed) = Unit {0}
 Quiet t store (Arrive (Some m) Stored) = (t.mode ≡ Buffered) × (room store + size_of m ≤ t.capacity)
@@ -41,7 +41,7 @@ AllFit capacity [] = Unit {0}
 AllFit capacity (Arrive (Some m) answer ∷ fs) = (size_of m ≤ capacity) × AllFit capacity fs
 AllFit capacity (f ∷ fs) = AllFit capacity fs
 
--- no call, or one that the store alone decides
+-- no call, or one that depends only on the store
 abbrev pub IsQuiet : Terms → List Feed → List Feed → Type 0
 IsQuiet t fs [] = Unit {0}
 IsQuiet t fs (f ∷ []) = Quiet t (store_of fs) f × AllFit t.capacity (f ∷ [])

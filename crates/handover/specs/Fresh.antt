@@ -1,4 +1,4 @@
--- What a step may tell, whatever private code says of it: the rule holds before the step and behind it.
+-- What a step may tell, whatever private code says of it: the rule holds before the step and after it.
 use Rattle.std.specs.Prelude.{◌≡◌, ℕ, false, List, [], ◌∷◌, ◌++◌, slice_index}
 use mathlib.Core.List.{IsPrefix}
 use Rattle.atomic_table.specs.Table.{State}

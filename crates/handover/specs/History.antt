@@ -82,7 +82,7 @@ FirstFinds (fed f ∷ hs) = kind f ≡ finds_closed
 FirstFinds (got t ∷ hs) = ⊥
 FirstFinds (shut ∷ hs) = ⊥
 
--- The close stands at most once, behind all reads and directly before the first call that found it; and without it no call
+-- The close comes at most once, after all reads and directly before the first call that found it; and without it no call
 -- found it.
 abbrev pub CloseIsPlaced : List Happening → Type 0
 CloseIsPlaced [] = Unit {0}
@@ -90,7 +90,7 @@ CloseIsPlaced (fed f ∷ hs) = (kind f ≡ finds_closed → ⊥) × CloseIsPlace
 CloseIsPlaced (got t ∷ hs) = CloseIsPlaced hs
 CloseIsPlaced (shut ∷ hs) = FirstFinds hs × OnlyFeeds hs
 
--- behind an Ended stands no call of the feeder
+-- no call of the feeder comes after an Ended
 abbrev pub EndedIsLast : List Happening → Type 0
 EndedIsLast [] = Unit {0}
 EndedIsLast (fed f ∷ hs) = EndedIsLast hs
@@ -145,7 +145,7 @@ deal turns (f ∷ fs) = by_kind (kind f)
     (map got (reads_of turns) ++ shut ∷ fed f ∷ map fed fs)
 
 -- The history made by counting. Five calls, for example: the feeder's arrivals are answered Stored, Rotated and Dropped, the drain's
--- reads Nothing and then Full. So the turns are [Nothing] and [Full], and Rotated alone stores 1 to `turn` and takes the first one:
+-- reads Nothing and then Full. So the turns are [Nothing] and [Full], and only Rotated stores 1 to `turn` and takes the first one:
 -- Stored, Nothing, Rotated, Dropped, Full. If the third arrival is answered Rotated too, it takes the second turn, and the Full stands
 -- directly before it.
 abbrev pub merge : List Feed → List Take → List Happening

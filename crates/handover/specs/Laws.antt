@@ -55,7 +55,7 @@ abbrev pub OnlyDroppedAreMissing : Type 0
 OnlyDroppedAreMissing = (t : Terms) (fs : List Feed) (ts : List Take) (hs : List Happening) → LegalHistory t fs ts hs → stored_in fs ≡ undropped_in fs
 
 -- Where the merged list is legal, the feeder's own calls are right by themselves, with one read directly before each that stores 1
--- to `turn` but the first, and the close directly before the first that found it. Both runs have one store and the same counts.
+-- to `turn` but the first, and the close directly before the first one that found it. Both runs have one store and the same counts.
 pub record IsOwn (t : Terms) (fs : List Feed) (ts : List Take) : Type 0 where
   pub legal : Legal t empty (events (own fs))
   pub feeds : feeds_in (own fs) ≡ fs
@@ -78,7 +78,7 @@ SeatsKeepTheRule =
     × ((p : Profile) (id : ℕ) (v : Sight) (other : ℕ) (w : Sight) → v.view.role ≡ Feeds → w.view.role ≡ Drains → Joins (KeepsRule p) id v other w (joint v w) spent)
     × ((p : Profile) (id : ℕ) (v : Sight) → v.view.role ≡ Joined → Splits (KeepsRule p) id v v (witness v))
 
--- The feeder's load of `closed` ends a call that the store alone decides where the pair is open, and a call that found it closed
+-- The feeder's load of `closed` ends a call that depends only on the store where the pair is open, and a call that found it closed
 -- where it is not.
 abbrev pub FeederLooksAtClosed : Type 0
 FeederLooksAtClosed =

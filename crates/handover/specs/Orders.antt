@@ -1,4 +1,4 @@
--- The steps of both ends in one order, and what the words are behind them.
+-- The steps of both ends in one order, and what the words are after them.
 use Rattle.std.specs.Prelude.{◌≡◌, ℕ, Bool, true, false, ◌||◌, ◌⊎◌, List, [], ◌∷◌, slice_index, slice_set}
 use mathlib.Core.List.{IsPrefix}
 use Rattle.listener.specs.declared.message.Message.{Message}
@@ -21,7 +21,7 @@ Finds words (Load w n) = slice_index words (index_of w) ≡ n
 Finds words (Store w n) = Unit {0}
 Finds words (Give given) = Unit {0}
 
--- the words behind a step
+-- the words after a step
 abbrev pub behind : List ℕ → WordStep → List ℕ
 behind words (Load w n) = words
 behind words (Store w n) = slice_set words (index_of w) n
@@ -31,7 +31,7 @@ abbrev pub step_of : EndStep → WordStep
 step_of (OfFeeder e) = e
 step_of (OfDrain e) = e
 
--- the words behind these steps
+-- the words after these steps
 abbrev pub words_from : List ℕ → List EndStep → List ℕ
 words_from words [] = words
 words_from words (m ∷ ms) = words_from (behind words (step_of m)) ms

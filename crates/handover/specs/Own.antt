@@ -1,4 +1,4 @@
--- What the feeder knows by its own calls alone.
+-- What the feeder knows by nothing but its own calls.
 use Rattle.std.specs.Prelude.{ℕ, ◌+◌, Bool, true, false, cond, List, [], ◌∷◌, map}
 use Rattle.listener.specs.declared.answer.Fed.TheVariants.{Passed, Dropped, Closed}
 use Rattle.listener.specs.declared.message.Message.{Message}
@@ -14,7 +14,7 @@ abbrev pub reads_hold : PlainList → Happening
 reads_hold s = got (Full (hold_of s))
 
 -- A read directly before each call that stores 1 to `turn` but the first, and a close directly before the first call that found
--- it. `after` tells that a call before these stored 1, and s is the list before them.
+-- it. `after` says that a call before these stored 1, and s is the list before them.
 abbrev pub own_from : Bool → PlainList → List Feed → List Happening
 own_from after s [] = []
 own_from after s (f ∷ fs) = by_kind (kind f)

@@ -55,7 +55,7 @@ BufferFollowsTurn capacity true false (Some batch) home in_hold = (home ≡ none
 BufferFollowsTurn capacity false rotating (Some batch) home in_hold = ⊥
 BufferFollowsTurn capacity true true taking home in_hold = ⊥
 
--- the plain list behind both lists of calls
+-- the plain list after both lists of calls
 abbrev pub last : List Feed → List Take → PlainList
 last fs ts = run empty (events (merge fs ts))
 

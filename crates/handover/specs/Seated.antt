@@ -32,7 +32,7 @@ pub record IsGiving (m : Sat) (b : Filled) : Type 0 where
   pub unclosed : finds m.0.feeds ≡ false
   pub slot : m.1 ≡ (0, b) ∷ []
 
--- The seat went on by one call and these steps, and this is the store behind it.
+-- The seat went on by one call and these steps, and this is the store after it.
 pub record Went (m n : Sat) (b : Filled) (f : Feed) (es : List WordStep) : Type 0 where
   pub feeder : IsFeeder n b false
   pub profile : n.0.profile ≡ m.0.profile

@@ -34,7 +34,7 @@ undropped_in (Arrive (Some m) Dropped ∷ fs) = undropped_in fs
 undropped_in (Arrive (Some m) answer ∷ fs) = m ∷ undropped_in fs
 undropped_in (f ∷ fs) = undropped_in fs
 
--- What was read, the hold and then the rest are what is kept, and by the answers alone what was stored; each message is an accepted
+-- What was read, the hold and then the rest are what is kept, and, by nothing but the answers, what was stored; each message is an accepted
 -- arrival; what matched is what is kept and what was dropped; and where a read found the end, no call found the pair closed.
 pub record IsWhole (p : Profile) (fs : List Feed) (ts : List Take) (hold rest : List Message) (counts : Counts) : Type 0 where
   pub whole : (joined (batches_of ts) ++ hold) ++ rest ≡ kept_of_history p fs ts

@@ -12,7 +12,8 @@ use listener::Buffer;
 use std::alloc::Global;
 use std::marker::{Brand, PhantomData};
 
-/// The words of the table: 1 exactly while the hold is full; 1 once the drain has closed; 1 once the feeder has ended.
+/// The words of the table: 1 exactly while the hold is full; 1 once the drain has closed; 1 once
+/// the feeder has ended.
 pub(crate) const TURN: usize = 0;
 
 pub(crate) const CLOSED: usize = 1;
@@ -59,7 +60,8 @@ impl Join<Sight> for Ends {
     ghost spent = { spent };
 }
 
-/// The calls that a load of `closed` ends where it finds the pair open, and the one that it ends where it is closed.
+/// The calls that a load of `closed` ends if it finds the pair open, and the one that it ends
+/// if it is closed.
 pub trait Opening {
     ghost quiet: { List Feed };
 

@@ -1,11 +1,13 @@
-//! The calls of the two ends with their answers, and the steps on the words. Only contracts have values of these types.
+//! The calls of the two ends with their answers, and the steps on the words. Only contracts have
+//! values of these types.
 
 use listener::{Fed, Message};
 use std::collections::LinkedList;
 
 /// A call of the feeder, with its answer.
 pub enum Feed {
-    /// What the filter keeps of a packet that arrived, nothing where it rejects it, and what became of it.
+    /// What the filter keeps of a packet that arrived, nothing if it rejects it, and what became
+    /// of it.
     Arrive(Option<Message>, Fed),
     /// A flush of an open pair, and whether the store became the hold.
     Flush(bool),

@@ -29,8 +29,8 @@ pub enum Read {
 
 /// The end of a pair that batches are read from.
 ///
-/// Contracts see which pair it is of, its terms, its reads with their answers, its steps, and the steps of both ends that
-/// it has seen.
+/// Contracts see which pair it is of, its terms, its reads with their answers, its steps, and the
+/// steps of both ends that it has seen.
 #[derive(Drop)]
 pub struct Drain {
     pub(crate) seat: PairSeat,
@@ -79,11 +79,13 @@ impl Drain {
         self.capacity
     }
 
-    /// Takes the whole hold and puts the given empty buffer, of the pair's capacity, in its place. If there is nothing to read, that
-    /// buffer is given back, with [`Read::Ended`] if the feeder had ended.
+    /// Takes the whole hold and puts the given empty buffer, of the pair's capacity, in its place.
+    /// If there is nothing to read, that buffer is given back, with [`Read::Ended`] if the feeder
+    /// had ended.
     ///
-    /// It waits for nobody, and takes no memory. What it answers was so at its own load of `turn`. A batch is what was handed over
-    /// last, of all that the drain has seen. That the feeder made those steps, `settle` promises.
+    /// It waits for nobody, and takes no memory. What it answers was so at its own load of `turn`.
+    /// A batch is what was handed over last, of all that the drain has seen. That the feeder made
+    /// those steps, `settle` promises.
     pub fn read(&mut self, link: &Link, empty: Buffer) -> Read
         requires pair { self.old.pair ≡ link.now }
         requires empty { empty ≡ filled self.old.profile.capacity [] }
@@ -109,8 +111,8 @@ impl Drain {
         }
     }
 
-    /// Closes the pair: an arrival that finds it closed is answered with [`Fed::Closed`](listener::Fed::Closed), and
-    /// a flush with false.
+    /// Closes the pair: an arrival that finds it closed is answered with
+    /// [`Fed::Closed`](listener::Fed::Closed), and a flush with false.
     pub fn close(self, link: &Link) -> DrainEnd
         requires { self.pair ≡ link.now }
         ensures closed { result ≡ draining self.pair self.profile self.takes (self.steps ++ Store word.Closed 1 ∷ []) result.seen }

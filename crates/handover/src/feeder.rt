@@ -23,9 +23,9 @@ use std::marker::Model;
 
 /// The end of a pair that packets are given to: a filter, the store, and the counts.
 ///
-/// Contracts see which pair it is of, its filter, its calls with their answers, the steps that these took, which steps
-/// of both ends it has seen, and its store.
-// The program stands first, so that a packet which it rejects takes one address of the feeder.
+/// Contracts see which pair it is of, its filter, its calls with their answers, the steps that
+/// these took, which steps of both ends it has seen, and its store.
+// The program comes first, so that a packet which it rejects takes one address of the feeder.
 #[derive(Drop)]
 pub struct Feeder {
     pub(crate) program: Program,
@@ -54,7 +54,8 @@ impl Model for Feeder {
 
 /// A feeder that has ended.
 ///
-/// Contracts see what they saw of the feeder, but for its filter; and what it still had in its store.
+/// Contracts see what they saw of the feeder, but for its filter; and what it still had in its
+/// store.
 #[derive(Drop)]
 pub struct FeedEnd {
     pub(crate) seat: PairSeat,
@@ -103,9 +104,10 @@ fn count(counts: &mut Counts, fed: Fed) -> Fed
 impl Feeder {
     /// A packet arrives, from a capture and a place there.
     ///
-    /// Where the program accepts it, the least of the snapshot length, the program's answer and the captured length is
-    /// kept of it. The answer is [`Fed::Closed`] where it found that the drain had closed. It waits for nobody, takes no
-    /// memory, and copies the bytes once where it stores them.
+    /// If the program accepts it, the least of the snapshot length, the program's answer and the
+    /// captured length is kept of it. The answer is [`Fed::Closed`] if it found that the drain
+    /// had closed. It waits for nobody, takes no memory, and copies the bytes once if it stores
+    /// them.
     pub fn arrive(&mut self, link: &Link, capture: u32, place: u64, packet: &PacketRef<'_>) -> Fed
         requires pair { self.old.pair ≡ link.now }
         requires room { received_in self.old.feeds < 2 ^ 64 - 1 }
@@ -132,8 +134,8 @@ impl Feeder {
         )
     }
 
-    /// Makes a nonempty store the hold if the hold is empty, and returns whether it did: what the read timeout of bpf(4)
-    /// does. It answers false where it found that the drain had closed.
+    /// Makes a nonempty store the hold if the hold is empty, and returns whether it did: what the
+    /// read timeout of bpf(4) does. It answers false if it found that the drain had closed.
     pub fn flush(&mut self, link: &Link) -> bool
         requires { self.old.pair ≡ link.now }
         ensures same { IsSameFeeder self.old self.new }
@@ -159,8 +161,9 @@ impl Feeder {
         self.counts
     }
 
-    /// Ends the feeder: a read that finds this and an empty hold is answered with [`Read::Ended`](crate::Read::Ended). The
-    /// buffer is the rest: what it still had in its store, which comes after what is read and the hold.
+    /// Ends the feeder: a read that finds this and an empty hold is answered with
+    /// [`Read::Ended`](crate::Read::Ended). The buffer is the rest: what it still had in its store,
+    /// which comes after what is read and the hold.
     pub fn end(self, link: &Link) -> (FeedEnd, Buffer)
         requires { self.pair ≡ link.now }
         ensures ended { result.0 ≡ feeding_ended self.pair self.profile self.feeds (self.steps ++ Store word.Ended 1 ∷ []) result.0.seen self.store }

@@ -1,5 +1,5 @@
-//! A feeder and a drain, each in a thread of its own, hand a listener's packets over without a lock: the calls of a pair that is
-//! settled have one legal history.
+//! A feeder and a drain, each in a thread of its own, hand a listener's packets over without a
+//! lock: the calls of a pair that is settled have one legal history.
 #![tactic(auto)]
 
 mod atomic_words;

@@ -44,10 +44,11 @@ impl Model for Link {
     ghost invariant = { λ l. (l.table.shared.table_id.words ≡ 3) × (l.table.shared.table_id.slots ≡ 1) };
 }
 
-/// What was done with a pair that is settled. It has no bytes, and only [`settle`] makes one: so these calls were made, by the
-/// two ends of one pair.
+/// What was done with a pair that is settled. It has no bytes, and only [`settle`] makes one: so
+/// these calls were made, by the two ends of one pair.
 ///
-/// Contracts see which pair it was, its terms, the calls of both ends with their answers, and the steps that these took.
+/// Contracts see which pair it was, its terms, the calls of both ends with their answers, and the
+/// steps that these took.
 #[derive(Drop)]
 pub struct Past {
     seat: PairSeat,
@@ -109,11 +110,11 @@ fn hold_slot(alloc: Global, capacity: usize) -> Result<Vec<Buffer>, OpenFault>
     Ok(slots)
 }
 
-/// Makes a feeder and a drain, and what they share: a filter program, at most this many bytes of a packet, this many bytes of
-/// records in each of the buffers, and when the store becomes the hold.
+/// Makes a feeder and a drain, and what they share: a filter program, at most this many bytes of a
+/// packet, this many bytes of records in each of the buffers, and when the store becomes the hold.
 ///
-/// [`OpenFault::BadSnap`] and [`OpenFault::BadCapacity`] come exactly where [`check_range`] answers them. No other call of
-/// this crate takes memory.
+/// [`OpenFault::BadSnap`] and [`OpenFault::BadCapacity`] come exactly where [`check_range`] answers
+/// them. No other call of this crate takes memory.
 pub fn pair_as(
     alloc: Global,
     program: Program,
@@ -175,10 +176,12 @@ fn parted(
 
 /// Takes a pair apart, once both ends have ended.
 ///
-/// The feeder's calls and the drain's reads make one legal history of the plain list, and the hold with the rest, which
-/// [`Feeder::end`] gave, has what then pends: what was read, then the hold, then the rest is exactly what was kept, and this is
-/// the messages of the arrivals that were answered Stored, Held or Rotated, in order. The steps of both have one order, in which each load answered what the last
-/// store to its word left, or 0 where there is none: one of the ends has seen it all, and the other a beginning of it.
+/// The feeder's calls and the drain's reads make one legal history of the plain list, and the hold
+/// with the rest, which [`Feeder::end`] gave, has what then pends: what was read, then the hold,
+/// then the rest is exactly what was kept, and this is the messages of the arrivals that were
+/// answered Stored, Held or Rotated, in order. The steps of both have one order, in which each load
+/// answered what the last store to its word left, or 0 if there is none: one of the ends has
+/// seen it all, and the other a beginning of it.
 pub fn settle(link: Link, feeder: FeedEnd, drain: DrainEnd) -> Settled
     requires { (feeder.pair ≡ link) × (drain.pair ≡ link) }
     ensures history { LegalHistory (terms_of feeder.profile) feeder.feeds drain.takes (merge feeder.feeds drain.takes) }

@@ -23,7 +23,8 @@ use savefile::PacketRef;
 use std::marker::Brand;
 use std::mem;
 
-/// A packet that the filter accepted, its capture, its place there, and how many bytes are kept of it.
+/// A packet that the filter accepted, its capture, its place there, and how many bytes are kept of
+/// it.
 #[derive(Clone, Copy)]
 pub(crate) struct Accepted<'a> {
     pub(crate) capture: u32,
@@ -39,7 +40,8 @@ pub(crate) struct Stand {
     pub(crate) store: Buffer,
 }
 
-/// Loads `closed`. The step ends the calls that C names where the pair is open, else the one that found it closed.
+/// Loads `closed`. The step ends the calls that C names if the pair is open, else the one that
+/// found it closed.
 fn see_closed<C: Opening>(link: &Link, seat: &mut PairSeat) -> u64
     requires pair { seat.old.table_id ≡ link.now }
     requires calm { (seat.old.me.0.view.role ≡ Feeds) × (seat.old.me.0.view.rotating ≡ false) × (seat.old.me.0.view.ended ≡ false) }
@@ -53,7 +55,7 @@ fn see_closed<C: Opening>(link: &Link, seat: &mut PairSeat) -> u64
     link.table.shared.load::<SawClosed<C>>(seat, CLOSED)
 }
 
-/// Loads `turn`. The step ends the call C where the hold is full.
+/// Loads `turn`. The step ends the call C if the hold is full.
 fn see_turn<C: Call>(link: &Link, seat: &mut PairSeat) -> u64
     requires pair { seat.old.table_id ≡ link.now }
     requires calm { (seat.old.me.0.view.role ≡ Feeds) × (seat.old.me.0.view.rotating ≡ false) × (seat.old.me.0.view.ended ≡ false) }
@@ -110,7 +112,8 @@ impl Stand {
         }
     }
 
-    /// A packet for which the store has room, where the store becomes the hold only for want of room.
+    /// A packet for which the store has room, in the mode Buffered: the store becomes the hold only
+    /// when it lacks room.
     fn keep(&mut self, link: &Link, packet: &Accepted<'_>) -> Fed
         ghost message: { Message }
         requires offered { IsOffered link.now self.old packet.now message }
@@ -127,7 +130,8 @@ impl Stand {
         Fed::Stored
     }
 
-    /// A packet for which the store has room, where the store becomes the hold at once.
+    /// A packet for which the store has room, in the mode Immediate: the store becomes the hold at
+    /// once.
     fn hand_over(&mut self, link: &Link, packet: &Accepted<'_>) -> Fed
         ghost message: { Message }
         requires offered { IsOffered link.now self.old packet.now message }

@@ -13,7 +13,8 @@ pub enum Role {
     Spent,
 }
 
-/// The terms of a pair: how many bytes of records a buffer has room for, and when the store becomes the hold.
+/// The terms of a pair: how many bytes of records a buffer has room for, and when the store becomes
+/// the hold.
 #[derive(Clone, Copy, Debug)]
 pub struct Profile {
     pub capacity: usize,
@@ -24,13 +25,14 @@ pub struct Profile {
 pub struct View {
     pub role: Role,
     pub profile: Profile,
-    /// The feeder's calls and steps; whether it has loaded 0 from `turn` and not yet stored 1 there, and whether it has ended.
+    /// The feeder's calls and steps; whether it has loaded 0 from `turn` and not yet stored 1
+    /// there, and whether it has ended.
     pub feeds: LinkedList<Feed>,
     pub feed_steps: LinkedList<WordStep>,
     pub rotating: bool,
     pub ended: bool,
-    /// The drain's calls and steps; what it has taken out of the slot, whether it saw that the feeder had ended, and whether it
-    /// has closed.
+    /// The drain's calls and steps; what it has taken out of the slot, whether it saw that the
+    /// feeder had ended, and whether it has closed.
     pub takes: LinkedList<Take>,
     pub take_steps: LinkedList<WordStep>,
     pub taking: Option<LinkedList<Message>>,
@@ -38,7 +40,8 @@ pub struct View {
     pub closed: bool,
 }
 
-/// What a seat knows: of its own calls, and which steps of both ends it has seen, in their one order, up to its own last one.
+/// What a seat knows: of its own calls, and which steps of both ends it has seen, in their one
+/// order, up to its own last one.
 pub struct Sight {
     pub view: View,
     /// What the feeder has seen.

@@ -34,7 +34,7 @@ Takes-then a b c s t (Err e) first second = TakesPart-then a b c s t first secon
 
 -- ---- the texts of a list's elements, one by one
 
--- after the first i, the next one, and more behind it
+-- after the first i, the next one, and more after it
 numbered-cut : {X : Type 0} (f : ℕ → X → List ℕ) (n : ℕ) (xs : List X) (i : ℕ) (x : X) → i < length xs → x ≡ get_or xs i x →
     (more : List ℕ) × (numbered f n xs ≡ (numbered f n (take i xs) ++ f (n + i) x) ++ more)
 numbered-cut f n [] i x inside is = absurd (omega arith)

@@ -18,7 +18,8 @@ pub fn split_once(text: &[u8], at: u8) -> Option<(&[u8], &[u8])>
     Some((&text[..place], &text[place + 1..]))
 }
 
-/// The first line of a text, without the byte 10 at its end, which the last line may lack, and the text after it.
+/// The first line of a text, without the byte 10 at its end, which the last line may lack, and the
+/// text after it.
 pub fn first_line(text: &[u8]) -> (&[u8], &[u8])
     ensures first { text.now ≢ [] → further_lines text.now ≡ result.0.now ∷ further_lines result.1.now }
     ensures shorter { text.now ≢ [] → length result.1.now < length text.now }
@@ -29,7 +30,8 @@ pub fn first_line(text: &[u8]) -> (&[u8], &[u8])
     }
 }
 
-/// A number up to the greatest one, in decimal digits only. Leading zeros are fine; a sign, a blank or no digit is refused.
+/// A number up to the greatest one, in decimal digits only. Leading zeros are fine; a sign, a blank
+/// or no digit is refused.
 pub fn number(text: &[u8], most: u64) -> Option<u64>
     ensures some { IfSome result (λ n. IsNumber most text.now n) }
     ensures none { IfNone result ((n : ℕ) → IsNumber most text.now n → ⊥) }

@@ -9,8 +9,8 @@ use std::io;
 use std::io::ErrorKind;
 use std::marker::Model;
 
-/// A line that is put together before it is sent, by `write!` and `writeln!`: at most 512 bytes. It takes no memory, since it
-/// may have to report that memory ran out.
+/// A line that is put together before it is sent, by `write!` and `writeln!`: at most 512 bytes. It
+/// takes no memory, since it may have to report that memory ran out.
 #[derive(Drop)]
 pub struct Line {
     text: ArrayString<512>,
@@ -46,7 +46,8 @@ impl Line {
         self.text.as_str().as_bytes()
     }
 
-    /// Adds a value, as `write!` and `writeln!` do. If there is no room for it, the error is `WriteZero`.
+    /// Adds a value, as `write!` and `writeln!` do. If there is no room for it, the error is
+    /// `WriteZero`.
     pub fn write_fmt<D: Display + Drop>(&mut self, value: D) -> io::Result<()>
         ensures { OnOk result (AppendsText self.old self.new (D.output value)) }
     {

@@ -10,7 +10,8 @@ const RETRIES: u32 = 64;
 
 /// Sends a text. If that fails, the writer took a prefix of the text and no more.
 ///
-/// Up to 64 writes that are interrupted are tried again. A write of no bytes is the error `WriteZero`.
+/// Up to 64 writes that are interrupted are tried again. A write of no bytes is the error
+/// `WriteZero`.
 pub fn send<W: Write>(text: &[u8], out: &mut W) -> io::Result<()>
     ensures { Takes (W.contents out.old) (W.contents out.new) result text.now }
 {

@@ -45,8 +45,9 @@ fn put_escaped(line: &mut String, text: &str) -> Result<(), AllocError>
     line.push_str(&text[start..])
 }
 
-/// Appends a text as a JSON string: in quotes, with `\"`, `\\`, and `\u00` with two digits for each control character below 32. All else
-/// stays as it is, in UTF-8. It fails if memory is refused; the line is then unspecified.
+/// Appends a text as a JSON string: in quotes, with `\"`, `\\`, and `\u00` with two digits for each
+/// control character below 32. All else stays as it is, in UTF-8. It fails if memory is refused;
+/// the line is then unspecified.
 pub fn put_string(line: &mut String, text: &str) -> Result<(), AllocError>
     ensures { OnOk result (string_bytes line.new ≡ string_bytes line.old ++ json_string text.now) }
 {

@@ -19,7 +19,7 @@ use Rattle.listener.specs.Decoded.{kept_in, first_in, after_first, messages_of, 
 pub length_number : (n x : ℕ) → length (little_bytes n x) ≡ n
 length_number n x = length-bytes_low_first 0 n x
 
--- a number that stands behind a front
+-- a number that comes after a front
 field_at : (n x k : ℕ) (front tail text : List ℕ) → text ≡ front ++ (little_bytes n x ++ tail) → length front ≡ k → x < 256 ^ n → little_number n (drop k text) ≡ x
 field_at n x k front tail text e l lt = ap (little_number n) (ap (drop k) e ∙ drop_at front (little_bytes n x ++ tail) k l) ∙ little_number-reads_back n x tail lt
 

@@ -86,7 +86,7 @@ held_stays s (e ∷ es) h = held_stays (next s e) es (held_next s e h)
 pub buffers_follow : BuffersFollow
 buffers_follow t s e w f = grind (arith, common_steps)
 
--- both buffers are within the capacity, told by what they are behind an event
+-- both buffers are within the capacity, by what they are after an event
 within_by : (capacity : ℕ) (s : PlainList) (e : Event) → HeldIsWithin s → Follows s e
     → room (store_after (stored s) e) ≤ capacity → room (hold_after (hold_of s) (stored s) e) ≤ capacity → IsWithin capacity (next s e)
 within_by capacity s e w f store hold = record {

@@ -257,14 +257,14 @@ closed_run t s (e ∷ es) is legal =
 
 -- ---- The whole run
 
--- what the rest of a run tells, from a state that these steps led to
+-- what the rest of a run shows, from a state that these steps led to
 record Tells (t : Terms) (s : PlainList) (before : List Request) (es : List Event) : Type 0 where
   whole : joined (batches es) ++ (run s es).pending ≡ s.pending ++ kept_from t before (before_close (requests es))
   all_received : (run s es).received ≡ s.received + count is_arrival (before_close (requests es))
   all_matched : (run s es).matched ≡ s.matched + count is_accepted (before_close (requests es))
   all_dropped : (run s es).dropped ≡ s.dropped + drops_from t before (before_close (requests es))
 
--- a closed listener's run tells what was there
+-- a closed listener's run shows what was there
 tells_closed : (t : Terms) (s : PlainList) (before : List Request) (es : List Event) → (batches es ≡ []) → run (next s closed) es ≡ next s closed → Tells t s before (closed ∷ es)
 tells_closed t s before es none same = record {
   whole = (λ i. joined (none i) ++ (same i).pending) ∙ sym (append-nil s.pending);

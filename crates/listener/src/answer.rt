@@ -9,7 +9,8 @@ pub enum Fed {
     Passed,
     /// It went into the store.
     Stored,
-    /// It went into the store, and the store became the hold: only in the mode [`Mode::Immediate`](crate::Mode::Immediate).
+    /// It went into the store, and the store became the hold: only in the mode
+    /// [`Mode::Immediate`](crate::Mode::Immediate).
     Held,
     /// The store had no room for it and became the hold; it went into the new store.
     Rotated,
@@ -28,7 +29,8 @@ pub enum Read {
     Nothing(Buffer),
 }
 
-/// How many packets arrived, how many of them the filter accepted, and how many of these found no room.
+/// How many packets arrived, how many of them the filter accepted, and how many of these found no
+/// room.
 #[derive(Clone, Copy, Debug, PartialEq, Eq)]
 pub struct Counts {
     pub received: u64,

@@ -86,7 +86,8 @@ fn append(to: &mut Vec<u8>, more: &[u8])
     to.extend_from_slice(more).unwrap();
 }
 
-/// A buffer of records: the messages that a listener stores or holds, as bytes, one record after the other.
+/// A buffer of records: the messages that a listener stores or holds, as bytes, one record after
+/// the other.
 ///
 /// Contracts see its capacity and the list of its messages. Only [`Buffer::new`] takes memory.
 #[derive(Drop)]
@@ -164,9 +165,9 @@ impl Buffer {
         Records::of(self.bytes.as_slice())
     }
 
-    /// The bytes of its records. Each has its fields as little-endian numbers (seconds, nanoseconds, kept length and
-    /// original length of 4 bytes, place of 8, capture of 4, and 4 zero bytes), its data, and zero bytes up to a
-    /// multiple of 8.
+    /// The bytes of its records. Each has its fields as little-endian numbers (seconds,
+    /// nanoseconds, kept length and original length of 4 bytes, place of 8, capture of 4, and 4
+    /// zero bytes), its data, and zero bytes up to a multiple of 8.
     pub fn bytes(&self) -> &[u8]
         ensures { result.now ≡ records_text self.now.messages }
     {
@@ -180,8 +181,8 @@ impl Buffer {
         size(kept) <= self.capacity - self.bytes.len()
     }
 
-    /// Appends a message with the packet's first bytes, if there is room for it; it may just fill the buffer. Else it
-    /// changes nothing and returns false.
+    /// Appends a message with the packet's first bytes, if there is room for it; it may just fill
+    /// the buffer. Else it changes nothing and returns false.
     ///
     /// `kept` is at most the packet's captured length, and at most 262,144.
     pub fn put(&mut self, capture: u32, place: u64, packet: &PacketRef<'_>, kept: u32) -> bool

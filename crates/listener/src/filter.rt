@@ -6,8 +6,9 @@ ghost use Rattle.listener.specs.Messages.{arrival, kept_by, Keeps};
 use bpfvm::Program;
 use savefile::PacketRef;
 
-/// How many bytes are kept of a packet: the least of the snapshot length, the program's answer and the captured length;
-/// nothing if the program rejects it. The snapshot length is lent, so that it is loaded only for a packet that is accepted.
+/// How many bytes are kept of a packet: the least of the snapshot length, the program's answer and
+/// the captured length; nothing if the program rejects it. The snapshot length is lent, so that it
+/// is loaded only for a packet that is accepted.
 #[inline(always)]
 pub fn kept_of(program: &Program, snap: &u32, packet: &PacketRef<'_>) -> Option<u32>
     ensures rejected { IfNone result ((capture place : ℕ) → kept_by program.now snap.now (arrival capture place packet.now) ≡ None) }

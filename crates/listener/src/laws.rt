@@ -9,8 +9,8 @@ pub fn answers()
     ensures legal { AnswersAreLegal }
 {}
 
-/// An accepted arrival at an Immediate list, of a message that fits the capacity, is one at a Buffered list and then a
-/// flush, as one step.
+/// An accepted arrival at an Immediate list, of a message that fits the capacity, is one at a
+/// Buffered list and then a flush, as one step.
 pub fn immediate()
     ensures { ImmediateIsFlushed }
 {}
@@ -22,7 +22,8 @@ pub fn runs()
     ensures batches { BatchesAppend }
 {}
 
-/// What pends is the hold and then the store; how an event changes them, and that neither grows past the capacity.
+/// What pends is the hold and then the store; how an event changes them, and that neither grows
+/// past the capacity.
 pub fn buffers()
     ensures held { HeldStaysWithin }
     ensures follow { BuffersFollow }
@@ -34,7 +35,8 @@ pub fn fitting()
     ensures { KeptFits }
 {}
 
-/// What an event adds to the counts, and that the dropped are some of the matched, and these some of the received.
+/// What an event adds to the counts, and that the dropped are some of the matched, and these some
+/// of the received.
 pub fn counts()
     ensures follow { CountsFollow }
     ensures ordered { CountsStayOrdered }
@@ -45,14 +47,14 @@ pub fn reads()
     ensures { ReadsCommute }
 {}
 
-/// If each message fits the capacity, what was read in a run and then what pends is what looking back keeps, and the counts
-/// are those of looking back.
+/// If each message fits the capacity, what was read in a run and then what pends is what looking
+/// back keeps, and the counts are those of looking back.
 pub fn looking_back()
     ensures { RunsAreKept }
 {}
 
-/// Looking back by positions gives the same: the positions of earlier steps say what is still in the store, whether the hold
-/// is full, and what is a drop.
+/// Looking back by positions gives the same: the positions of earlier steps say what is still in
+/// the store, whether the hold is full, and what is a drop.
 pub fn positions()
     ensures load { LoadIsByPositions }
     ensures held { HoldIsByPositions }

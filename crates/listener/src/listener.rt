@@ -22,8 +22,9 @@ use std::mem;
 
 /// A listener of a tap: a filter program, and the packets that it accepted, in a store and a hold.
 ///
-/// Contracts see its program, its snapshot length, and its plain list: what pends, oldest first, how many of it are held,
-/// the counts, and whether it is closed. Each call is one step of that list.
+/// Contracts see its program, its snapshot length, and its plain list: what pends, oldest first,
+/// how many of it are held, the counts, and whether it is closed. Each call is one step of that
+/// list.
 #[derive(Drop)]
 pub struct Listener {
     program: Program,
@@ -51,9 +52,9 @@ impl Model for Listener {
 
 /// Tests the numbers that a listener is opened with, and takes no memory.
 ///
-/// [`OpenFault::BadSnap`] comes if and only if the snapshot length is not 1 to 262,144; else [`OpenFault::BadCapacity`]
-/// if and only if the capacity is below the bytes of a record with a snapshot length of data (32, and the data up to a
-/// multiple of 8) or above 1,048,576.
+/// [`OpenFault::BadSnap`] comes if and only if the snapshot length is not 1 to 262,144; else
+/// [`OpenFault::BadCapacity`] if and only if the capacity is below the bytes of a record with a
+/// snapshot length of data (32, and the data up to a multiple of 8) or above 1,048,576.
 pub fn check_range(snap: u32, capacity: usize) -> Result<(), OpenFault>
     ensures in_range { OnOk result (InRange snap capacity) }
     ensures only { IfErr result (RefusesOpen snap capacity) }
@@ -93,10 +94,11 @@ impl Listener {
         Listener::open_as(alloc, program, snap, capacity, Mode::Buffered)
     }
 
-    /// Opens a listener. It takes a filter program, how many bytes of a packet are kept at most, the size in bytes of
-    /// each of the two buffers, and when the store becomes the hold.
+    /// Opens a listener. It takes a filter program, how many bytes of a packet are kept at most,
+    /// the size in bytes of each of the two buffers, and when the store becomes the hold.
     ///
-    /// It returns [`OpenFault::BadSnap`] or [`OpenFault::BadCapacity`] if and only if [`check_range`] does.
+    /// It returns [`OpenFault::BadSnap`] or [`OpenFault::BadCapacity`] if and only if
+    /// [`check_range`] does.
     pub fn open_as(
         alloc: Global,
         program: Program,
@@ -145,8 +147,9 @@ impl Listener {
 
     /// A packet arrives, from a capture and a place there.
     ///
-    /// If the program accepts it, the least of the snapshot length, the program's answer and the captured length is
-    /// kept of it. It takes no memory, and copies these bytes once if it stores them.
+    /// If the program accepts it, the least of the snapshot length, the program's answer and the
+    /// captured length is kept of it. It takes no memory, and copies these bytes once if it stores
+    /// them.
     pub fn arrive(&mut self, capture: u32, place: u64, packet: &PacketRef<'_>) -> Fed
         requires { self.old.list.received < 2 ^ 64 - 1 }
         ensures { TakesStep self.old (arrived (seen_by self.old (arrival capture place packet.now)) result) self.new }
@@ -178,7 +181,8 @@ impl Listener {
         Fed::Rotated
     }
 
-    /// The bytes of the record that a packet takes in a buffer, or would take; nothing if the program rejects it.
+    /// The bytes of the record that a packet takes in a buffer, or would take; nothing if the
+    /// program rejects it.
     ///
     /// The program is asked once more, and nothing changes.
     pub fn record_size(&self, packet: &PacketRef<'_>) -> Option<usize>
@@ -190,8 +194,8 @@ impl Listener {
         Some(size(kept))
     }
 
-    /// Makes a nonempty store the hold if the hold is empty, and returns whether it did: what the read timeout of bpf(4)
-    /// does.
+    /// Makes a nonempty store the hold if the hold is empty, and returns whether it did: what the
+    /// read timeout of bpf(4) does.
     pub fn flush(&mut self) -> bool
         ensures { TakesStep self.old (flushed result) self.new }
     {
@@ -202,8 +206,8 @@ impl Listener {
         true
     }
 
-    /// Takes the whole hold and puts the given empty buffer, of the listener's capacity, in its place. If there is nothing to
-    /// read, that buffer is given back.
+    /// Takes the whole hold and puts the given empty buffer, of the listener's capacity, in its
+    /// place. If there is nothing to read, that buffer is given back.
     pub fn read(&mut self, empty: Buffer) -> Read
         requires { empty ≡ filled self.old.terms.capacity [] }
         ensures full { (buffer : _) → result ≡ Read.Full buffer →

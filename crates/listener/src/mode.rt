@@ -5,7 +5,7 @@
 pub enum Mode {
     /// When a packet finds no room in the store, and at a flush.
     Buffered,
-    /// Also directly after each packet that is stored while the hold is empty, so that it can be read at once. This
-    /// mode is this project's own, and not BIOCIMMEDIATE of bpf(4).
+    /// Also directly after each packet that is stored while the hold is empty, so that it can be
+    /// read at once. This mode is this project's own, and not BIOCIMMEDIATE of bpf(4).
     Immediate,
 }

@@ -59,14 +59,14 @@ count-asked t n (p ∷ ps) =
     let one = flushes-none (is_due t.flush_every n) in
     let more = count-asked t (n + 1) ps in omega (arith, e, one, more)
 
--- behind a playlist no feeder was asked for more than its packets
+-- after a playlist no feeder was asked for more than its packets
 pub few-asked : (bound : ℕ) (playlist : List Arrival) (starts : List Line) → length playlist < bound → (k : ℕ) (d : Line) → k < length (map (fed_all playlist) starts)
     → count is_arrival (get_or (map (fed_all playlist) starts) k d).asks < bound
 few-asked bound playlist [] below k d inside = absurd (omega (arith, inside))
 few-asked bound playlist (l ∷ ls) below zero d inside = let e = count-asked l.asking 0 playlist in omega (arith, e, below)
 few-asked bound playlist (l ∷ ls) below (suc k) d inside = few-asked bound playlist ls below k d (omega (arith, inside))
 
--- the feeders behind one packet more
+-- the feeders after one more packet
 pub all-fed : (playlist : List Arrival) (a : Arrival) (starts : List Line) → map (fed_with (length playlist) a) (map (fed_all playlist) starts) ≡ map (fed_all (playlist ++ a ∷ [])) starts
 all-fed playlist a [] = refl
 all-fed playlist a (l ∷ ls) =
@@ -113,7 +113,7 @@ not-flushed t n a fs gs answer grew due =
     ap asks grew ∙ asks-append fs (call.Arrive (kept_by t.program t.snap a) answer ∷ [])
     ∙ ap (λ (b : Bool). asks fs ++ Arrive (kept_by t.program t.snap a) ∷ (if b then Flush ∷ [] else [])) (sym due)
 
--- an arrival, and a flush behind it
+-- an arrival, and a flush after it
 pub flushed-more : (t : Asking) (n : ℕ) (a : Arrival) (fs gs hs : List Feed) (answer : Fed) (full : Bool) (f : Feed)
     → gs ≡ fs ++ call.Arrive (kept_by t.program t.snap a) answer ∷ [] → hs ≡ gs ++ f ∷ [] → FlushAnswers full f
     → is_due t.flush_every n ≡ true → asks hs ≡ asks fs ++ asked_at t n a
@@ -136,7 +136,7 @@ same-line every ring pair pair' profile profile' program program' snap snap' rs 
     ∙ ap (λ x. line pair profile x snap' every ring rs') c ∙ ap (λ x. line pair profile program x every ring rs') d
     ∙ ap (λ x. line pair profile program snap every ring x) e
 
--- those at the index and behind it are as they were
+-- those at the index and after it are as they were
 pub rest-here : (f : Line → Line) (ls : List Line) (i : ℕ) (d : Line) → i < length ls → get_or ls i d ≡ get_or (map f (take i ls) ++ drop i ls) i d
 rest-here f [] i d inside = absurd (omega (arith, inside))
 rest-here f (l ∷ ls) zero d inside = refl

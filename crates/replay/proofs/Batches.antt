@@ -22,7 +22,7 @@ batches_nothing ts = batches-append ts (Nothing ∷ []) ∙ append-nil (batches_
 pub batches_ended : (ts : List Take) → batches_of (ts ++ Ended ∷ []) ≡ batches_of ts
 batches_ended ts = batches-append ts (Ended ∷ []) ∙ append-nil (batches_of ts)
 
--- a batch that is pushed goes behind the others
+-- a batch that is pushed goes after the others
 pub pushes_batch : (bs : List Filled) (b : Filled) (ts : List Take) → messages_of bs ≡ batches_of ts → messages_of (bs ++ b ∷ []) ≡ batches_of (ts ++ Full b.messages ∷ [])
 pushes_batch bs b ts so_far =
     map-append (λ (x : Filled). x.messages) bs (b ∷ []) ∙ ap (λ xs. xs ++ b.messages ∷ []) so_far ∙ sym (batches-append ts (Full b.messages ∷ []))
@@ -38,7 +38,7 @@ joined-append : (xs ys : List (List Message)) → joined (xs ++ ys) ≡ joined x
 joined-append [] ys = refl
 joined-append (x ∷ xs) ys = ap (λ zs. x ++ zs) (joined-append xs ys) ∙ sym (append_assoc x (joined xs) (joined ys))
 
--- the messages of one buffer more stand behind the others
+-- the messages of one buffer more come after the others
 pub joins_buffer : (bs : List Filled) (b : Filled) → joined (messages_of (bs ++ b ∷ [])) ≡ joined (messages_of bs) ++ b.messages
 joins_buffer bs b =
     ap joined (map-append (λ (x : Filled). x.messages) bs (b ∷ [])) ∙ joined-append (messages_of bs) (b.messages ∷ [])

@@ -21,7 +21,7 @@ arrivals-more capture place (q ∷ ps) p =
     ap (λ xs. arrival capture place q ∷ xs) (arrivals-more capture (place + 1) ps p
     ∙ ap (λ k. arrivals_from capture (place + 1) ps ++ arrival capture k p ∷ []) (omega arith))
 
--- a packet that arrives behind those of its capture
+-- a packet that arrives after those of its capture
 pub arrives-behind : (playlist : List Arrival) (capture place : ℕ) (ps : List Packet) (p : Packet) → length ps ≡ place
     → (playlist ++ arrivals_from capture 0 ps) ++ arrival capture place p ∷ [] ≡ playlist ++ arrivals_from capture 0 (ps ++ p ∷ [])
 arrives-behind playlist capture place ps p here =

@@ -1,4 +1,4 @@
--- Interfaces from what was asked for to what is told of them.
+-- Interfaces from what was asked for to what is promised of them.
 use Rattle.std.proofs.Common.{ℕ, List, [], ◌∷◌, length, ◌∙◌, subst, Option}
 use Rattle.std.specs.List.{AllZip}
 use Rattle.std.specs.declared.alloc.Global.{Global}
@@ -26,7 +26,7 @@ still-paired (x ∷ xs) (l ∷ ls) [] a b = absurd b
 still-paired (x ∷ xs) (l ∷ ls) (r ∷ rs) a b = (b.0.pairs ∙ a.0, still-paired xs ls rs a.1 b.1)
 
 module _ {S W : Type 0} (left : S → Option (List ℕ)) (broken : S → ℕ) (taken : W → Option (List ℕ)) (failures : W → ℕ) where
-  -- what is told of one that ran is told of what was asked for
+  -- what is promised of one that ran is promised of what was asked for
   told-of-asked : (i : Interface S W) (l : Prepared S W) (r : Running S W) (t : InterfaceReport S W)
       → IsPreparedFor i l → IsRunningOf l r → IsReportOf left broken taken failures r t → IsReplayed left broken taken failures i t
   told-of-asked i l r t prepared running told = record {

@@ -6,7 +6,7 @@ use Rattle.replay.specs.TaskStates.{parts_line}
 use Rattle.replay.specs.declared.states.task.TaskParts.{TaskParts}
 use Rattle.replay.specs.Lines.{IsFresh, Line, fed_all, with_asks}
 
--- they are as behind a playlist of no packets
+-- they are as after a playlist of no packets
 pub fresh-fed : (ls : List Line) → All IsFresh ls → ls ≡ map (fed_all []) ls
 fresh-fed [] h = refl
 fresh-fed (l ∷ ls) h =

@@ -1,4 +1,4 @@
--- Captures that are read one behind the other.
+-- Captures that are read one after the other.
 use Rattle.std.proofs.Common.{◌≡◌, ◌+◌, ℕ, List, [], ◌∷◌, ◌++◌, length, refl, ap, sym, ◌∙◌, arith, subst, unwrap_or, Option, Some, None, inl, inr}
 use Rattle.std.proofs.lemmas.List.{append-nil, append_assoc}
 use Rattle.listener.specs.Messages.{Arrival}
@@ -43,7 +43,7 @@ module _ {S : Type 0} (left : S → Option (List ℕ)) (broken : S → ℕ) wher
   one-more all sources n s t rest playlist packets None so ends = one-whole all sources n s t rest playlist packets so ends
   one-more all sources n s t rest playlist packets (Some end) so ends = one-ending all sources n s t rest playlist packets end so ends
 
-  -- a capture behind the end came back as it is
+  -- a capture after the end came back as it is
   pub one-unread : (all sources : List S) (n m : ℕ) (s : S) (rest : List S) (playlist : List Arrival) (end : InterfaceEnd)
       → PlaysSoFar all sources n (s ∷ rest) playlist (Some end) → PlaysSoFar all (sources ++ s ∷ []) m rest playlist (Some end)
   one-unread all sources n m s rest playlist end so =

@@ -34,7 +34,7 @@ popped-or-left (y ∷ []) [] rest e = let first : y.messages ≡ rest = cc in in
 popped-or-left (y ∷ []) (z ∷ zs) rest e = absurd cc
 popped-or-left (y ∷ z ∷ zs) known rest e = absurd cc
 
--- where nothing is written behind the rest, all is written in order
+-- where nothing is written after the rest, all is written in order
 rest-last : (x k hold rest all r q : List Message) → ((x ++ k) ++ hold) ++ rest ≡ all
     → ((r ≡ []) × (q ≡ rest)) ⊎ ((r ≡ rest) × (q ≡ []) × (k ≡ []) × (hold ≡ [])) → (((x ++ r) ++ k) ++ hold) ++ q ≡ all
 rest-last x k hold rest all r q whole (inl (a, b)) =

@@ -42,7 +42,7 @@ module _ {W : Type 0} (taken : W → Option (List ℕ)) (failures : W → ℕ) (
       let b = grows ps qs t ([], sym (append-nil t)) in
       let l = ap length b.1 in omega (arith, l, length-append t b.0)
 
-  -- the packet behind the first n, among more packets
+  -- the packet after the first n, among more packets
   still-short : Grows → (ps qs : List Packet) (n : ℕ) (text : List ℕ) → n ≤ length ps
       → length text < length (encoded o.order o.unit o.snap (take (n + 1) ps)) → length text < length (encoded o.order o.unit o.snap (take (n + 1) (ps ++ qs)))
   still-short grows ps qs n text some short = elim (cases_lt n (length ps)) [
@@ -68,7 +68,7 @@ module _ {W : Type 0} (taken : W → Option (List ℕ)) (failures : W → ℕ) (
     short = still-short grows ps qs n text b.some b.short;
   }
 
-  -- behind all packets but the last
+  -- after all packets but the last
   breaks-at-last : (ps : List Packet) (p : Packet) (text : List ℕ) → IsBeginning text (encoded o.order o.unit o.snap (ps ++ p ∷ []))
       → length (encoded o.order o.unit o.snap ps) ≤ length text → length text < length (encoded o.order o.unit o.snap (ps ++ p ∷ []))
       → BreaksBehind o.order o.unit o.snap (ps ++ p ∷ []) (length ps) text
@@ -102,7 +102,7 @@ module _ {W : Type 0} (taken : W → Option (List ℕ)) (failures : W → ℕ) (
     );
   }
 
-  -- behind a fault nothing more is written
+  -- after a fault nothing more is written
   pub stays-broken : (messages more : List Message) (w : Written W) → Grows → w.works ≡ false
       → Writes taken failures o messages w → Writes taken failures o (messages ++ more) w
   stays-broken messages more w grows broken t =
@@ -158,7 +158,7 @@ module _ {W : Type 0} (taken : W → Option (List ℕ)) (failures : W → ℕ) (
         broke = λ e. let bad : true ≡ false = sym works ∙ e in absurd cc;
       }
 
-  -- so many packets take more bytes than can be counted
+  -- this many packets take more bytes than can be counted
   pub count-below : (messages : List Message) (w : Written W) (new : Writer W) (m : Message) → w.works ≡ true → Writes taken failures o messages w
       → ((packets : List Packet) → 24 + 16 * length packets ≤ length (encoded o.order o.unit o.snap packets))
       → HasWritten taken (taken o.sink) o.order o.unit o.snap (map as_written messages ++ as_written m ∷ []) new

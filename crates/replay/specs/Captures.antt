@@ -15,7 +15,7 @@ abbrev pub arrivals_from : ℕ → ℕ → List Packet → List Arrival
 arrivals_from capture place [] = []
 arrivals_from capture place (p ∷ ps) = arrival capture place p ∷ arrivals_from capture (place + 1) ps
 
--- Why a capture ended before its end, behind these packets: its header is refused; a record's fault stands behind them; its
+-- Why a capture ended before its end, after these packets: its header is refused; a record's fault comes after them; its
 -- source failed, and they begin what it holds; or memory was refused, and it gave nothing.
 abbrev pub IsStopped : Option (List ℕ) → Type 0 → List Packet → Fault → Type 0
 IsStopped start source_failed packets why =
@@ -38,13 +38,13 @@ abbrev pub ComesBack : {R : Type 0} → (R → Option (List ℕ)) → (R → ℕ
 ComesBack left failures s t capture end =
     ((bytes : List ℕ) × Consumes (left s) (left t) bytes) × ((end ≡ Some (Capture capture fault.Device)) ⊎ (failures t ≡ failures s))
 
--- A capture was read, of which these packets arrived, and so it ended, of so many arrivals at the interface.
+-- A capture was read, these packets of it arrived, and so it ended; `arrived` is the number of all arrivals at the interface.
 abbrev pub GivesPackets : {R : Type 0} → (R → Option (List ℕ)) → (R → ℕ) → R → R → ℕ → ℕ → List Packet → Option InterfaceEnd → Type 0
 GivesPackets left failures s t capture arrived packets end =
     EndsSo (left s) (failures t ≢ failures s) capture arrived packets end × ComesBack left failures s t capture end
 
 -- A list of captures was read, of which the first has this number: so the playlist arrived, of `total` packets in all, and so it
--- ended. Each capture was read whole, or it ended the playlist, and no capture behind it was read: their sources are as they were.
+-- ended. Each capture was read whole, or it ended the playlist, and no capture after it was read: their sources are as they were.
 abbrev pub GivesPlaylist : {R : Type 0} → (R → Option (List ℕ)) → (R → ℕ) → ℕ → ℕ → List R → List R → List Arrival → InterfaceEnd → Type 0
 GivesPlaylist left failures total capture [] [] playlist end = (playlist ≡ []) × (end ≡ Clean)
 GivesPlaylist left failures total capture [] (t ∷ ts) playlist end = ⊥

@@ -39,11 +39,11 @@ IsFresh l = l.asks ≡ []
 abbrev pub with_asks : Line → List Request → Line
 with_asks l rs = record { pair = l.pair; profile = l.profile; asking = l.asking; ring = l.ring; asks = rs }
 
--- the feeder behind arrival n
+-- the feeder after arrival n
 abbrev pub fed_with : ℕ → Arrival → Line → Line
 fed_with n a l = with_asks l (l.asks ++ asked_at l.asking n a)
 
--- the feeder behind a playlist, before which nothing was asked
+-- the feeder after a playlist, before which nothing was asked
 abbrev pub fed_all : List Arrival → Line → Line
 fed_all playlist l = with_asks l (asked l.asking playlist)
 

@@ -1,4 +1,4 @@
--- What is told of a replay.
+-- What is promised of a replay.
 use Rattle.std.specs.Prelude.{◌≡◌, ℕ, ◌+◌, List, length, Option}
 use Rattle.std.specs.List.{AllZip}
 use Rattle.listener.specs.Messages.{Arrival}
@@ -14,7 +14,7 @@ use Rattle.replay_types.specs.declared.task.Interface.{Interface}
 use Rattle.replay_types.specs.declared.task.Task.{Task}
 
 -- A task's feeder was asked for the playlist and the flushes that are due; its calls and the drain's reads make the history that
--- the report tells. They are those of the report's past, which a settled pair alone gives, and which has the task's capacity and
+-- the report gives. They are those of the report's past, which only a settled pair gives, and which has the task's capacity and
 -- mode. Where the task ends Clean, the whole playlist was received, and what matched was written or dropped.
 pub record IsServed {W : Type 0} (taken : W → Option (List ℕ)) (failures : W → ℕ) (playlist : List Arrival) (task : Task W) (r : ListenerReport W) : Type 0 where
   pub profile : r.past.profile ≡ profile_of task.capacity task.mode

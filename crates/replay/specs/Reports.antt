@@ -1,4 +1,4 @@
--- What is told of a task, of its feeder's and its drain's lists of calls.
+-- What is promised of a task, of its feeder's and its drain's lists of calls.
 use Rattle.std.specs.Prelude.{◌≡◌, ◌≢◌, ℕ, ◌+◌, ◌^◌, ◌<◌, ◌≤◌, ◌⊎◌, false, List, [], ◌∷◌, length, map, take, drop, Option}
 use Rattle.std.specs.Io.KnownBytes.{Appends}
 use Rattle.listener.specs.declared.message.Message.{Message}
@@ -41,7 +41,7 @@ pub record BreaksBehind (order : Order) (unit : TimeUnit) (snap : ℕ) (packets 
   pub whole : (n ≡ 0) ⊎ (length (encoded order unit snap (take n packets)) ≤ length text)
   pub short : length text < length (encoded order unit snap (take (n + 1) packets))
 
--- n packets were handed to a writer, and this is their text; or it broke off behind the first n of them.
+-- n packets were handed to a writer, and this is their text; or it broke off after the first n of them.
 abbrev pub WroteSoFar : Order → TimeUnit → ℕ → List Packet → ℕ → List ℕ → Type 0
 WroteSoFar order unit snap packets n text =
     ((n ≡ length packets) × (text ≡ encoded order unit snap packets)) ⊎ BreaksBehind order unit snap packets n text

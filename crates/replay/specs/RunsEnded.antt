@@ -1,4 +1,4 @@
--- What is told of interfaces whose threads ran.
+-- What is promised of interfaces whose threads ran.
 use Rattle.std.specs.Prelude.{◌≡◌, ℕ, List, length, map, Option}
 use Rattle.std.specs.List.{AllZip}
 use Rattle.std.specs.declared.alloc.Global.{Global}

@@ -16,7 +16,7 @@ as_written m = packet m.sec (min m.nanos 999999999) m.len m.bytes
 abbrev pub IsTimely : ℕ → Type 0
 IsTimely nanos = nanos < 1000000000
 
--- The messages were written: all while no fault came; else a beginning, behind which the sink failed or the text became too long.
+-- The messages were written: all while no fault came; else a beginning, after which the sink failed or the text became too long.
 pub record Writes {W : Type 0} (taken : W → Option (List ℕ)) (failures : W → ℕ) (o : OutputFile W) (messages : List Message) (w : Written W) : Type 0 where
   pub whole : w.works ≡ true → (w.count ≡ length messages)
       × HasWritten taken (taken o.sink) o.order o.unit o.snap (map as_written messages) w.writer

@@ -5,11 +5,12 @@ use std::thread;
 use std::thread::Parker;
 use std::time::Duration;
 
-/// How often a thread that finds nothing to do lets others run before it parks: what it waits for mostly comes soon.
+/// How often a thread that finds nothing to do lets others run before it parks: what it waits for
+/// mostly comes soon.
 const TURNS: u32 = 32;
 
-/// How long it parks at first, and at most, in milliseconds. It is woken before, so only this bounds what a wake-up costs that is
-/// lost, as that by a thread which was never started.
+/// How long it parks at first, and at most, in milliseconds. It is woken before, so only this
+/// bounds what a wake-up costs that is lost, as that by a thread which was never started.
 const FIRST_MILLIS: u64 = 1;
 
 const MAX_MILLIS: u64 = 64;
@@ -30,7 +31,7 @@ impl Backoff {
         }
     }
 
-    /// Whether the next wait is the first that parks.
+    /// Whether the next wait is the first one to park.
     pub(crate) fn is_out(&self) -> bool {
         self.turns == TURNS && self.millis == FIRST_MILLIS
     }

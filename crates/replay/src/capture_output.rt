@@ -80,7 +80,7 @@ impl<W: Sink> Written<W> {
         }
     }
 
-    /// Lets the sink hand on what it has gathered.
+    /// Asks the sink to hand on what it has gathered.
     pub(crate) fn flush(&mut self)
         ensures { (output : OutputFile W) (messages : List Message) → Writes W.taken W.failures output messages self.old →
             Writes W.taken W.failures output messages self.new }

@@ -1,19 +1,23 @@
 //! What a replay calls at each of its steps.
 
-/// Is called at each step of a replay, by the thread that makes the step: it may watch a replay, and hold a thread back.
+/// Is called at each step of a replay, by the thread that makes the step: it may watch a replay,
+/// and hold a thread back.
 ///
-/// Interfaces and the listeners of an interface are numbered from 0, as in what was handed to the replay.
+/// Interfaces and the listeners of an interface are numbered from 0, as in what was handed to the
+/// replay.
 pub trait Gate {
     /// Before arrival `n`, from 0, of an interface is given to its listeners.
     fn before_arrive(&self, interface: u32, n: u64);
 
-    /// After arrival `n` of an interface was given to all its listeners, and those due were flushed.
+    /// After arrival `n` of an interface was given to all its listeners, and those due were
+    /// flushed.
     fn after_arrive(&self, interface: u32, n: u64);
 
     /// Before a listener is read.
     fn before_read(&self, interface: u32, listener: u32);
 
-    /// After a listener was read, with the number of packets that were read: 0 where there was nothing to read.
+    /// After a listener was read, with the number of packets that were read: 0 if there was
+    /// nothing to read.
     fn after_read(&self, interface: u32, listener: u32, packets: u32);
 }
 

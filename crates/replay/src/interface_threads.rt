@@ -106,7 +106,8 @@ impl<'s, E: 's, G: Gate + Sync + 's, R: Threads + Wait + Sync + 's> Starter<'s, 
         })
     }
 
-    /// Starts the threads of all interfaces, and lets them go. Where one is refused, the others end without having done anything.
+    /// Starts the threads of all interfaces, and lets them go. If one is refused, the others end
+    /// without having done anything.
     pub(crate) fn launch_all<S: Source + Send + Drop + 's, W: Sink + Send + Drop + 's>(
         &self,
         links: &'s [Vec<TaskLink>],

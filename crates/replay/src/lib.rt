@@ -1,4 +1,5 @@
-//! Replays captures to listeners in threads: packets arrive at each listener, and what it keeps is written as a savefile.
+//! Replays captures to listeners in threads: packets arrive at each listener, and what it keeps is
+//! written as a savefile.
 #![tactic(auto)]
 
 mod backoff;

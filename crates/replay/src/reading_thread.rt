@@ -55,7 +55,8 @@ pub(crate) enum ReaderStop {
     Foreign,
 }
 
-/// A reading thread hands back what it read of this drain, and pushed into this ring; nothing where a thread was refused.
+/// A reading thread hands back what it read of this drain, and pushed into this ring; nothing where
+/// a thread was refused.
 #[derive(Drop)]
 pub(crate) struct ReadsOut {
     pub(crate) drain: Snapshot<Drain>,
@@ -185,7 +186,7 @@ impl<G: Gate> Reading<'_, G> {
     }
 }
 
-/// Reads all that it can, and then closes the drain. Where a thread was refused, it does nothing.
+/// Reads all that it can, and then closes the drain. If a thread was refused, it does nothing.
 pub(crate) fn read_out<G: Gate, R: Wait>(
     rt: &R,
     barrier: &StartBarrier,

@@ -1,4 +1,5 @@
-//! The thread that reads the captures of an interface: it gives each packet to all feeders, flushes those that are due, and ends them.
+//! The thread that reads the captures of an interface: it gives each packet to all feeders, flushes
+//! those that are due, and ends them.
 
 ghost use Rattle.std.specs.Prelude.{◌≡◌, ◌≢◌, ℕ, ◌-◌, ◌<◌, ◌≤◌, ◌^◌, List, ◌∷◌, ◌++◌, [], All, IfSome, Option, length, map, vec_capacity};
 ghost use Rattle.listener.specs.LookingBack.{count, is_arrival};
@@ -27,7 +28,8 @@ use std::thread::Promise;
 /// The most packets that arrive at an interface.
 const MAX_ARRIVALS: u64 = u64::MAX - 1;
 
-/// The feeders of an interface, beside the links of their tasks, and how many packets arrived there.
+/// The feeders of an interface, beside the links of their tasks, and how many packets arrived
+/// there.
 #[derive(Drop)]
 pub(crate) struct Player<'a> {
     pub(crate) interface: u32,
@@ -36,7 +38,8 @@ pub(crate) struct Player<'a> {
     pub(crate) arrived: u64,
 }
 
-/// A packet that arrives: its number among the arrivals of the interface, its capture, and its place there.
+/// A packet that arrives: its number among the arrivals of the interface, its capture, and its
+/// place there.
 #[derive(Clone, Copy)]
 pub(crate) struct PlacedArrival<'a> {
     pub(crate) n: u64,
@@ -64,7 +67,8 @@ fn wake_reader_if(link: &TaskLink, is_hold_made: bool) {
     }
 }
 
-/// Gives a packet to a feeder, flushes it if that is due, and wakes its reader where there is a hold to read.
+/// Gives a packet to a feeder, flushes it if that is due, and wakes its reader if there is a
+/// hold to read.
 fn give(slot: &mut FeederSlot, link: &TaskLink, placed: &PlacedArrival<'_>)
     requires pair { slot_pair slot.old ≡ link.now }
     requires n { placed.now.n < 2 ^ 64 - 2 }
@@ -114,9 +118,11 @@ impl Player<'_> {
         self.arrived += 1;
     }
 
-    /// Gives the packets of a capture to the feeders, one after the other. If that ends the interface, it returns how.
+    /// Gives the packets of a capture to the feeders, one after the other. If that ends the
+    /// interface, it returns how.
     ///
-    /// It stands by itself in the program, so that what is read and asked for each packet stays in registers.
+    /// It is a function of its own in the program, so that what is read and asked for each packet
+    /// stays in registers.
     #[inline(never)]
     fn give_packets<S: Source, G: Gate>(
         &mut self,
@@ -146,8 +152,8 @@ impl Player<'_> {
         Some(InterfaceEnd::CountFull)
     }
 
-    /// Reads a capture, and gives its packets to the feeders. Its source comes back; and how the interface ended, where this
-    /// ended it.
+    /// Reads a capture, and gives its packets to the feeders. Its source comes back; and how the
+    /// interface ended, if this ended it.
     fn give_capture<S: Source, G: Gate>(
         &mut self,
         alloc: Global,
@@ -171,8 +177,8 @@ impl Player<'_> {
         }
     }
 
-    /// Reads the captures in order, until one ends the interface: the result says how. The sources come back, those after it
-    /// as they were.
+    /// Reads the captures in order, until one ends the interface: the result says how. The sources
+    /// come back, those after it as they were.
     pub(crate) fn give_captures<S: Source + Drop, G: Gate>(
         &mut self,
         alloc: Global,
@@ -227,7 +233,8 @@ pub(crate) struct PlayEnd<R> {
     pub(crate) end: InterfaceEnd,
 }
 
-/// A replaying thread hands back these feeders ended, after the packets of these captures; nothing if a thread was refused.
+/// A replaying thread hands back these feeders ended, after the packets of these captures; nothing
+/// if a thread was refused.
 #[derive(Drop)]
 pub(crate) struct PlaysOut<R> {
     pub(crate) slots: Snapshot<Vec<FeederSlot>>,
@@ -270,7 +277,8 @@ fn end_all(player: Player<'_>, mut ends: Vec<EndedFeeder>) -> Vec<EndedFeeder>
     ends
 }
 
-/// Gives the packets of all captures to the feeders, and ends these. Where a thread was refused, it does nothing.
+/// Gives the packets of all captures to the feeders, and ends these. If a thread was refused, it
+/// does nothing.
 pub(crate) fn play_out<S: Source + Drop, G: Gate, R: Wait>(
     rt: &R,
     shared: &Shared<'_, G>,

@@ -33,14 +33,16 @@ struct Left {
     rest: usize,
 }
 
-/// Whether so much that is left can be written: the rest comes last, so what was read and the hold can't come after it.
+/// Whether so much that is left can be written: the rest comes last, so what was read and the hold
+/// can't come after it.
 fn is_in_order(left: &Left, hold: &Buffer) -> bool
     ensures { result ≡ true → left.now.rest ≡ 0 → (left.now.read ≡ 0) × (hold.now.messages ≡ []) }
 {
     left.rest != 0 || (left.read == 0 && hold.is_empty())
 }
 
-/// What is left in the rings of what was read and of the rest, where the end of the first was handed over and it can be written.
+/// What is left in the rings of what was read and of the rest, where the end of the first was
+/// handed over and it can be written.
 fn left_in(
     full: &mut Consumer<Buffer>,
     finished: Option<Finished<Buffer>>,
@@ -80,8 +82,9 @@ fn write_left<W: Sink>(written: &mut Written<W>, ring: &mut Consumer<Buffer>, le
     }
 }
 
-/// How a task ended, by why its reading stopped and whether its savefile works, of which this many bytes were sent. A
-/// buffer of another capacity comes before a fault of the savefile, and that before an end that was not handed over.
+/// How a task ended, by why its reading stopped and whether its savefile works, of which this many
+/// bytes were sent. A buffer of another capacity comes before a fault of the savefile, and that
+/// before an end that was not handed over.
 fn end_of(stop: ReaderStop, works: bool, sent: u64) -> TaskEnd
     ensures clean { result ≡ TaskEnd.Clean → (stop ≡ ReaderStop.Ended) × (works ≡ true) }
     ensures broke { (n : _) → result ≡ TaskEnd.Write n → (works ≡ false) × (n ≡ sent) }
@@ -124,8 +127,9 @@ fn report<W: Sink>(
     }
 }
 
-/// Settles the two ends. What the writer thread left is written: buffers in the ring of what was read, the hold, and the rest. Where
-/// no thread broke off, it has left nothing. An end that was not handed over comes before all that [`end_of`] returns.
+/// Settles the two ends. What the writer thread left is written: buffers in the ring of what was
+/// read, the hold, and the rest. If no thread broke off, it has left nothing. An end that was
+/// not handed over comes before all that [`end_of`] returns.
 pub(crate) fn settled<W: Sink + Drop>(
     link: TaskLink,
     ending: EndedFeeder,

@@ -17,7 +17,8 @@ impl StartBarrier {
         }
     }
 
-    /// Holds the threads back that are started from now on. Who starts them stores `true` here once all were started.
+    /// Holds the threads back that are started from now on. Who starts them stores `true` here once
+    /// all were started.
     pub(crate) fn begin<R: Wait>(&self, rt: &R) -> MutexGuard<'_, bool> {
         self.all_started.lock(rt)
     }

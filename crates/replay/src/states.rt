@@ -8,8 +8,8 @@
 //!                            task_threads
 //! ```
 //!
-//! All is made before any thread is started (`Prepared`). Threads borrow the links of their tasks, so the links are apart. The
-//! threads own the rest while they run, and hand it back as they end.
+//! All is made before any thread is started (`Prepared`). Threads borrow the links of their tasks,
+//! so the links are apart. The threads own the rest while they run, and hand it back as they end.
 
 mod feeder;
 mod interface;

@@ -6,8 +6,8 @@ use handover::Link;
 use std::marker::Model;
 use std::thread::Parker;
 
-/// What the threads of a task share, by a `&`: the link of its pair, and where its reading thread and its writer park.
-/// Contracts see which pair it is.
+/// What the threads of a task share, by a `&`: the link of its pair, and where its reading thread
+/// and its writer park. Contracts see which pair it is.
 #[derive(Drop)]
 pub(crate) struct TaskLink {
     pair: Link,

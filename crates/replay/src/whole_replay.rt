@@ -85,28 +85,34 @@ fn replay_prepared<
     Ok(reports)
 }
 
-/// Replays the captures of each interface to its listeners, in threads, and writes what each listener keeps as a savefile.
+/// Replays the captures of each interface to its listeners, in threads, and writes what each
+/// listener keeps as a savefile.
 ///
-/// One thread for each interface reads its captures in order, gives each packet to all its listeners, and flushes those that are
-/// due. Two threads for each listener read its buffers and write its savefile. The call returns a report for each interface, in
-/// order, with the sources, and in it one for each listener, in order, with the sinks. The sources that were not read come back as
-/// they were.
+/// One thread for each interface reads its captures in order, gives each packet to all its
+/// listeners, and flushes those that are due. Two threads for each listener read its buffers and
+/// write its savefile. The call returns a report for each interface, in order, with the sources,
+/// and in it one for each listener, in order, with the sinks. The sources that were not read come
+/// back as they were.
 ///
-/// What is promised, whatever the order of the threads. *Of an interface*: the packets that arrive are those of its captures,
-/// one capture after the other, each with its capture's number and its place there, from 0; the first capture with a fault
-/// ends them, after its packets before the fault, and the end names it. *Of a listener*: the report's `past` is that of a
-/// pair that was settled, and was made with the task's capacity and mode. The feeder of this pair was asked for each of these
-/// packets and for the flushes that are due, and its calls with the drain's reads make one legal history of the tap's list,
-/// whose counts are the report's. Its sink took exactly `sent` bytes. Where it ends [`Clean`](crate::TaskEnd::Clean), all
-/// packets were received, and the sink took the text of all that looking back keeps of that history; after
-/// [`Write`](crate::TaskEnd::Write) it took a beginning of that text, and the sink failed or the text would have 2^64 bytes.
-/// Which packets find no room depends on the threads; where the end is Clean, each that matched is written or dropped.
+/// What is promised, whatever the order of the threads. *Of an interface*: the packets that arrive
+/// are those of its captures, one capture after the other, each with its capture's number and its
+/// place there, from 0; the first capture with a fault ends them, after its packets before the
+/// fault, and the end names it. *Of a listener*: the report's `past` is that of a pair that was
+/// settled, and was made with the task's capacity and mode. The feeder of this pair was asked for
+/// each of these packets and for the flushes that are due, and its calls with the drain's reads
+/// make one legal history of the tap's list, whose counts are the report's. Its sink took exactly
+/// `sent` bytes. If it ends [`Clean`](crate::TaskEnd::Clean), all packets were received, and the
+/// sink took the text of all that looking back keeps of that history; after
+/// [`Write`](crate::TaskEnd::Write) it took a beginning of that text, and the sink failed or the
+/// text would have 2^64 bytes. Which packets find no room depends on the threads; if the end is
+/// Clean, each that matched is written or dropped.
 ///
-/// Before anything is read, written or made the numbers are tested, and the first fault is answered: [`RunFault::TooMany`], then
-/// by interface and task [`RunFault::Open`]. [`RunFault::NoStart`] comes only where none stands: memory or a thread was refused,
-/// and nothing was read or written, and the gate was not called (tested, not proved). What the call grows it grows before the threads' work
-/// (tried by hand, not proved), but for the half mebibyte with which each capture is read; where that is refused it is the
-/// capture's fault.
+/// Before anything is read, written or made the numbers are tested, and the first fault is
+/// answered: [`RunFault::TooMany`], then by interface and task [`RunFault::Open`].
+/// [`RunFault::NoStart`] comes only if none of these applies: memory or a thread was refused, and
+/// nothing was read or written, and the gate was not called (tested, not proved). What the call
+/// grows it grows before the threads' work (tried by hand, not proved), but for the half mebibyte
+/// with which each capture is read; if that is refused it is the capture's fault.
 pub fn run<
     S: Source + Send + Drop,
     W: Sink + Send + Drop,

@@ -43,7 +43,8 @@ pub(crate) struct WriteEnd<W> {
     pub(crate) rest: Consumer<Buffer>,
 }
 
-/// A writer thread hands back what it wrote into this savefile, out of these rings; nothing where a thread was refused.
+/// A writer thread hands back what it wrote into this savefile, out of these rings; nothing if a
+/// thread was refused.
 #[derive(Drop)]
 pub(crate) struct WritesOut<W> {
     pub(crate) output: Snapshot<OutputFile<W>>,
@@ -55,7 +56,7 @@ impl<W: Sink> Promise<Option<WriteEnd<W>>> for WritesOut<W> {
     ghost kept_by = { λ p r. IfSome r (HasWrittenOut W.taken W.failures p.output.value p.full.value p.rest.value) };
 }
 
-/// Gives an empty buffer back. Where nobody takes it, it is let go.
+/// Gives an empty buffer back. If nobody takes it, it is let go.
 fn give_back(empty: &mut Producer<Buffer>, buffer: Buffer) {
     let _ = empty.push(buffer);
 }
@@ -71,8 +72,8 @@ fn wait<W: Sink, R: Wait>(rt: &R, link: &TaskLink, written: &mut Written<W>, bac
     backoff.wait(rt, &link.writer);
 }
 
-/// Writes what comes through the ring of what is read, until its other end is dropped and nothing is in it, or a fault came. The
-/// buffers go back, empty.
+/// Writes what comes through the ring of what is read, until its other end is dropped and nothing
+/// is in it, or a fault came. The buffers go back, empty.
 fn write_read<W: Sink, R: Wait>(
     rt: &R,
     link: &TaskLink,
@@ -112,7 +113,7 @@ fn write_read<W: Sink, R: Wait>(
     }
 }
 
-/// Writes the rest, which comes once the feeder has ended, where no fault came.
+/// Writes the rest, which comes once the feeder has ended, if no fault came.
 fn write_rest<W: Sink, R: Wait>(
     rt: &R,
     link: &TaskLink,
@@ -137,8 +138,8 @@ fn write_rest<W: Sink, R: Wait>(
     }
 }
 
-/// Writes what is read, and last the rest. The sink hands on what it has gathered before the thread parks, and in the end. Where a
-/// thread was refused, it does nothing.
+/// Writes what is read, and last the rest. The sink hands on what it has gathered before the thread
+/// parks, and in the end. If a thread was refused, it does nothing.
 pub(crate) fn write_out<W: Sink + Drop, R: Wait>(
     rt: &R,
     barrier: &StartBarrier,

@@ -15,7 +15,7 @@ first-of-one interfaces i interface NoStart few there refused before = absurd re
 first-of-one interfaces i interface (Open n k fault) few there refused before =
     (few, interface, subst (λ m. slice_get interfaces m ≡ Some interface) (sym refused.0) there, (refl, refused.1, refused.2, refused.3, refused.4), subst (λ m. All InterfaceIsRight (take m interfaces)) (sym refused.0) before)
 
--- no other fault is told
+-- no task is refused with `NoStart`
 pub first-started : {W : Type 0} (i : ℕ) (tasks : List (Task W)) (fault : RunFault) → RefusesTasks i tasks fault → fault ≡ NoStart → ⊥
 first-started i tasks TooMany refused e = absurd refused
 first-started i tasks NoStart refused e = absurd refused

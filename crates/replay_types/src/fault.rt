@@ -10,16 +10,17 @@ use std::fmt;
 use std::fmt::{Display, Formatter};
 use thiserror::Error;
 
-/// Why a replay gives no reports: the first that applies, in this order. Interfaces and their tasks are counted from 0. It
-/// prints as its name, its numbers, and the fault inside it.
+/// Why a replay gives no reports: the first of these faults that applies. Interfaces and their
+/// tasks are counted from 0. It prints as its name, its numbers, and the fault inside it.
 #[derive(Clone, Copy, Debug, PartialEq, Eq, Error)]
 pub enum RunFault {
     /// There are over 16 interfaces, or one has over 64 tasks or over 65,536 captures.
     TooMany,
-    /// Of this interface this task is not opened: its snapshot length, its capacity, or its number of spare buffers
-    /// ([`OpenFault::BadCapacity`] too) is out of range.
+    /// Of this interface this task is not opened: its snapshot length, its capacity, or its number
+    /// of spare buffers ([`OpenFault::BadCapacity`] too) is out of range.
     Open(u32, u32, OpenFault),
-    /// Memory or a thread was refused. The threads that were started already have ended; they read and wrote nothing.
+    /// Memory or a thread was refused. The threads that were started already have ended; they read
+    /// and wrote nothing.
     NoStart,
 }
 

@@ -6,11 +6,13 @@ use savefile::Fault;
 /// How the writing of a task ended.
 #[derive(Clone, Copy, Debug, PartialEq, Eq)]
 pub enum TaskEnd {
-    /// All that the listener kept was written, and no write of the sink failed. Of its flushes nothing is said.
+    /// All that the listener kept was written, and no write of the sink failed. Of its flushes
+    /// nothing is said.
     Clean,
     /// The sink failed, or the savefile would have 2^64 bytes or more, after this many bytes.
     Write(u64),
-    /// A ring between the threads did not hand over its end, or handed back a buffer of another capacity.
+    /// A ring between the threads did not hand over its end, or handed back a buffer of another
+    /// capacity.
     Unfinished,
 }
 
@@ -38,8 +40,9 @@ pub struct ListenerReport<W> {
 pub enum InterfaceEnd {
     /// All captures were read to their end.
     Clean,
-    /// This capture has this fault, after all packets of the captures before it and its own before the fault; with
-    /// [`Fault::Device`] after a prefix of its own, and with [`Fault::NoMemory`] after none of its own.
+    /// This capture has this fault, after all packets of the captures before it and its own before
+    /// the fault; with [`Fault::Device`] after a prefix of its own, and with [`Fault::NoMemory`]
+    /// after none of its own.
     Capture(u32, Fault),
     /// 2^64 - 2 packets arrived, the most that are counted.
     CountFull,

@@ -9,7 +9,8 @@ use savefile::{Order, Unit};
 pub struct Task<W> {
     /// The filter: a packet is accepted if its answer is not 0.
     pub program: Program,
-    /// At most this many bytes of a packet are kept, 1 to 262,144; the written header has this number too.
+    /// At most this many bytes of a packet are kept, 1 to 262,144; the written header has this
+    /// number too.
     pub snap: u32,
     /// How many bytes of records each of the listener's buffers has room for.
     pub capacity: usize,

@@ -48,7 +48,7 @@ kept_alike program tree snap some stands p real = kept_alike_if program tree sna
 
 -- ---- The headline, for one listener
 
--- what holds of the program's own steps is told of the filter's
+-- what holds of the program's own steps holds of the filter's
 told : (Says : List Request → Type 0) (filter : Filter) (program : List Insn) (snap l : ℕ) (steps : List Step) (playlist : List PlacedPacket) → 0 < snap → AllPackets playlist →
     ProgramOf filter snap program → Says (own (kept_by program snap) l steps playlist) →
     (keeps : Arrival → Option Message) × FiltersAs filter snap keeps × Says (own keeps l steps playlist)
@@ -63,7 +63,7 @@ told Says (Text text) program snap l steps playlist some real made says = (
   subst Says (own_alike (kept_by program snap) (kept_by_tree made.0 snap) l steps playlist (kept_alike program made.0 snap some made.2) real) says,
 )
 
--- what is told of a listener at the end is told of one that was opened and went through its own steps
+-- what holds of a listener at the end holds of one that was opened and went through its own steps
 ended_at : {B : Type 0} (R : Watch → B → Type 0) (traced : Bool) (specs : List Spec) (ws done : List Watch) (ys : List B) (steps : List Step) (playlist : List PlacedPacket) →
     AllZip (Opened traced) specs ws → done ≡ played steps playlist ws → AllZip R done ys → (l : ℕ) (spec : Spec) → slice_get specs l ≡ Some spec →
     (w : Watch) × Opened traced spec w × (y : B) × (slice_get ys l ≡ Some y) × R (goes l steps playlist w) y
@@ -105,7 +105,7 @@ ended_many : {B : Type 0} (R : Watch → B → Type 0) (traced : Bool) (specs : 
 ended_many R traced specs ws done ys steps playlist opened is tells =
     zip_length R done ys tells ∙ ap length is ∙ length_played steps playlist ws ∙ zip_length (Opened traced) specs ws opened
 
--- what the reports of a replay's end tell
+-- what the reports of a replay's end say
 pub replays_by : (legal_law : AnswersAreLegal) (kept_law : RunsAreKept) (fit_law : KeptFits) (traced : Bool) (captures : List (List ℕ)) (specs : List Spec) (steps : List Step) (playlist : List PlacedPacket)
     (record_fault : Option (ℕ × Misread)) (done : List Watch) → ComesTo traced captures specs steps playlist record_fault done →
     (reports : List Report) → AllZip Tells done reports → Replays captures specs steps playlist record_fault reports
@@ -115,7 +115,7 @@ replays_by legal_law kept_law fit_law traced captures specs steps playlist recor
   each = headline_at legal_law kept_law fit_law traced specs c.began done steps playlist c.opened c.ends c.packets reports tells;
 }
 
--- what the answers tell, where they were followed
+-- what the answers say, where they were followed
 pub traces_by : (legal_law : AnswersAreLegal) (captures : List (List ℕ)) (specs : List Spec) (steps : List Step) (playlist : List PlacedPacket)
     (record_fault : Option (ℕ × Misread)) (done : List Watch) → ComesTo true captures specs steps playlist record_fault done →
     (all : List (List Answered)) → AllZip IsFollowed done all → Traces captures specs steps playlist record_fault all

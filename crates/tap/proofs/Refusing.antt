@@ -22,7 +22,7 @@ refuses_text : (l snap : ℕ) (text : String Global) (fault : Misread) → fault
 refuses_text l snap text misread.NoMemory some why = absurd (some refl)
 refuses_text l snap text other some why = (refl, why)
 
--- the same, where want of memory is told apart
+-- the same, with a case of its own if memory ran out
 pub misread_refuses : (l snap : ℕ) (text : String Global) (fault : Misread) (f : Fault) → IsRefusalOf (string_bytes text) fault →
     (f ≡ faults.NoMemory) ⊎ ((fault ≢ misread.NoMemory) × (f ≡ Expression l fault)) → (f ≡ faults.NoMemory) ⊎ RefusesFilter l (Text text) snap f
 misread_refuses l snap text fault f why (inl none) = inl none

@@ -13,13 +13,14 @@ use std::fmt::{Display, Formatter};
 use tap_steps::PlaylistFault;
 use thiserror::Error;
 
-/// Why a replay gives no report: the first that applies, in this order, and of `Expression`, `Compile` and `Open` the first
-/// listener's. Captures, listeners and steps are counted from 0. It prints as its name, its number, and the fault inside it.
+/// Why a replay gives no report: the first of these faults that applies, and of `Expression`,
+/// `Compile` and `Open` the first listener's. Captures, listeners and steps are counted from 0. It
+/// prints as its name, its number, and the fault inside it.
 #[derive(Clone, Copy, Debug, PartialEq, Eq, Error)]
 pub enum Fault {
     /// There are over 64 listeners, or over 65,536 captures.
     TooMany,
-    /// This step is the first that names a listener that does not exist.
+    /// This step is the first one to name a listener that does not exist.
     NoListener(usize),
     /// This capture is the first whose header is refused.
     Capture(u32, savefile::Fault),

@@ -69,7 +69,8 @@ fn open_one(
     }
 }
 
-/// All listeners, in order, and the expression of each, if its filter is one. `traced` says that their answers are followed.
+/// All listeners, in order, and the expression of each, if its filter is one. `traced` says that
+/// their answers are followed.
 pub fn open_all(
     alloc: Global,
     specs: &[Spec],

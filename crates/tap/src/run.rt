@@ -57,21 +57,22 @@ fn play_all(
 
 /// Replays captures to listeners, step by step, and reports what each listener got.
 ///
-/// For every list of captures, accepted expression, snapshot length and list of steps, what a listener has read followed
-/// by what its buffers hold is exactly the packets that its expression accepts before its close, cut, with capture and
-/// place, in order of arrival, each once, without those that found no room; its received, matched and dropped counts are
-/// exact.
+/// For every list of captures, accepted expression, snapshot length and list of steps, what a
+/// listener has read followed by what its buffers hold is exactly the packets that its expression
+/// accepts before its close, cut, with capture and place, in order of arrival, each once, without
+/// those that found no room; its received, matched and dropped counts are exact.
 ///
-/// The reports are in the order of `specs`. If a filter is a program, it accepts a packet if it does not answer 0, and the
-/// answer cuts the packet too. The packets are those of the captures in order. The first capture that ends with a record
-/// fault gives its packets before that fault, and no later capture gives any. Its number and the fault are the second part
-/// of the result.
+/// The reports are in the order of `specs`. If a filter is a program, it accepts a packet if it
+/// does not answer 0, and the answer cuts the packet too. The packets are those of the captures in
+/// order. The first capture that ends with a record fault gives its packets before that fault, and
+/// no later capture gives any. Its number and the fault are the second part of the result.
 ///
-/// The faults are looked for in this order, and the first that applies is returned: [`Fault::TooMany`] if there are
-/// over [`MAX_LISTENERS`] listeners or over [`MAX_CAPTURES`] captures; [`Fault::NoListener`] with the first step that
-/// names a listener that does not exist; [`Fault::Capture`] with the first capture whose header is refused; then listener
-/// by listener [`Fault::Expression`], [`Fault::Compile`] and [`Fault::Open`]. [`Fault::NoMemory`] can come at any point.
-/// A fault gives no report.
+/// The faults are looked for in this order, and the first one found is returned:
+/// [`Fault::TooMany`] if there are over [`MAX_LISTENERS`] listeners or over [`MAX_CAPTURES`]
+/// captures; [`Fault::NoListener`] with the first step that names a listener that does not exist;
+/// [`Fault::Capture`] with the first capture whose header is refused; then listener by listener
+/// [`Fault::Expression`], [`Fault::Compile`] and [`Fault::Open`]. [`Fault::NoMemory`] can come at
+/// any point. A fault gives no report.
 pub fn replay(
     alloc: Global,
     captures: &[&[u8]],
@@ -80,7 +81,7 @@ pub fn replay(
 ) -> Result<(Vec<Report>, Option<(u32, savefile::Fault)>), Fault>
     // The headline.
     ensures tells { IfOk result (λ r. (playlist : List PlacedPacket) × Replays (map (λ c. c.now) captures.now) specs.now steps.now playlist r.1 r.0.items) }
-    // Reports mean that no fault applies, and each fault is the first that applies.
+    // If there are reports, no fault applies; if there is a fault, none before it applies.
     ensures stands { OnOk result (NoneStands (map (λ c. c.now) captures.now) specs.now steps.now) }
     ensures first { IfErr result (IsFirst (map (λ c. c.now) captures.now) specs.now steps.now) }
 {
@@ -96,11 +97,12 @@ pub fn replay(
     Ok((reports, playlist.record_fault))
 }
 
-/// Replays captures as [`replay`] does, with the same faults. It also returns the packets that arrived, each listener's
-/// expression, its answer to each of its steps, and its state before each.
+/// Replays captures as [`replay`] does, with the same faults. It also returns the packets that
+/// arrived, each listener's expression, its answer to each of its steps, and its state before each.
 ///
-/// Each step has one right answer, that of the plain list, and this is the one returned. The answers take memory for each
-/// step, so [`Fault::NoMemory`] can come although [`replay`] gives reports or another fault.
+/// Each step has one right answer, that of the plain list, and this is the one returned. The
+/// answers take memory for each step, so [`Fault::NoMemory`] can come although [`replay`] gives
+/// reports or another fault.
 pub fn trace(
     alloc: Global,
     captures: &[&[u8]],
@@ -113,7 +115,7 @@ pub fn trace(
     ensures answers { IfOk result (λ r. Traces (map (λ c. c.now) captures.now) specs.now steps.now r.playlist.items r.record_fault (map (λ a. a.items) r.answers.items)) }
     // The expressions, each of which its listener's filter reads as.
     ensures expressions { IfOk result (λ r. AreExpressionsOf specs.now r.expressions.items) }
-    // Reports mean that no fault applies, and each fault is the first that applies.
+    // If there are reports, no fault applies; if there is a fault, none before it applies.
     ensures stands { OnOk result (NoneStands (map (λ c. c.now) captures.now) specs.now steps.now) }
     ensures first { IfErr result (IsFirst (map (λ c. c.now) captures.now) specs.now steps.now) }
 {

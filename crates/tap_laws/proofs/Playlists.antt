@@ -36,14 +36,14 @@ reads-text (Some bytes) text header ps end told w =
 abbrev OfRecord : Fault → Type 0
 OfRecord why = ((t : List ℕ) → RefusesHeader t why → ⊥) × (why ≡ fault.Device → ⊥) × (why ≡ fault.NoMemory → ⊥)
 
--- a capture stopped at a torn or bad record behind these packets
+-- a capture stopped at a torn or bad record after these packets
 stopped-reads : (left : Option (List ℕ)) (source_failed : Type 0) (text : List ℕ) (ps : List Packet) (why : Fault) → OfRecord why → left ≡ Some text → IsStopped left source_failed ps why → IsCapture text ps (Some why)
 stopped-reads left source_failed text ps why (header, device, memory) told (inl (refused, none)) = absurd (header refused.text refused.refused)
 stopped-reads left source_failed text ps why (header, device, memory) told (inr (inl (head, read))) = reads-text left text head ps (Some why) told read
 stopped-reads left source_failed text ps why (header, device, memory) told (inr (inr (inl (is, broken, more)))) = absurd (device is)
 stopped-reads left source_failed text ps why (header, device, memory) told (inr (inr (inr (is, none)))) = absurd (memory is)
 
--- such an end is told with the capture's number
+-- such an end is reported with the capture's number
 ends-at : (k : ℕ) (why : Fault) (record_fault : Option (ℕ × Fault)) → EndsAs (Capture k why) record_fault → OfRecord why × (record_fault ≡ Some (k, why))
 ends-at k (fault.TornRecord place) record_fault e = (((λ t r. r), (λ is. cc), (λ is. cc)), e)
 ends-at k (fault.BadFraction place) record_fault e = (((λ t r. r), (λ is. cc), (λ is. cc)), e)

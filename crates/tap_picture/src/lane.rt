@@ -7,11 +7,13 @@ use std::io;
 use std::io::Write;
 use tap_steps::{Answer, PlacedPacket, Step};
 
-/// The bars' own lengths, in which a height is a number of bytes. From the top: a mark of what became of the step, the hold,
-/// and the store with room above it for a record that exceeds the capacity.
+/// The bars' own lengths, in which a height is a number of bytes. From the top: a mark of what
+/// became of the step, the hold, and the store with room above it for a record that exceeds the
+/// capacity.
 #[derive(Clone, Copy)]
 pub struct Scale {
-    /// The bytes that are drawn of a buffer: its capacity, or less if little of it is ever filled, but not nothing.
+    /// The bytes that are drawn of a buffer: its capacity, or less if little of it is ever filled,
+    /// but not nothing.
     pub drawn: u64,
     mark: u64,
 }
@@ -91,7 +93,8 @@ fn words_of(step: Step) -> (&'static str, Option<u32>) {
     }
 }
 
-/// The title of a step: its number as a line of SCRIPT, from 1, its words and its packet, and what it found.
+/// The title of a step: its number as a line of SCRIPT, from 1, its words and its packet, and what
+/// it found.
 fn write_title<O: Write>(column: &Column<'_>, out: &mut O) -> io::Result<()> {
     let line = column.index.wrapping_add(1);
     let (word, listener) = words_of(column.step);

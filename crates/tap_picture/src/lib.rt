@@ -1,4 +1,5 @@
-//! A replay of steps, drawn: for each listener what its store and its hold have, step by step, as plain SVG.
+//! A replay of steps, drawn: for each listener what its store and its hold have, step by step, as
+//! plain SVG.
 #![tactic(auto)]
 
 mod columns;

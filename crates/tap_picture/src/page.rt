@@ -159,7 +159,8 @@ fn room_for_filter(l: u32, spec: &Spec, drawn: u64, characters: u64) -> io::Resu
     Ok(characters.saturating_sub(rest.0).max(LEAST_SHOWN))
 }
 
-/// Writes what a listener was asked for, on one line. A filter that is too long for it is cut, and the whole of it is the line's title.
+/// Writes what a listener was asked for, on one line. A filter that is too long for it is cut, and
+/// the whole of it is the line's title.
 fn write_asked<O: Write>(
     l: u32,
     spec: &Spec,
@@ -215,12 +216,14 @@ fn write_lane<O: Write>(
     writeln!(out, "</g>")
 }
 
-/// Writes a picture of a replay as SVG: for each listener a lane over the steps, with what each step found in the store and in
-/// the hold, and a mark of what became of it. `trace` is what [`tap::trace`] returns for these listeners and steps.
+/// Writes a picture of a replay as SVG: for each listener a lane over the steps, with what each
+/// step found in the store and in the hold, and a mark of what became of it. `trace` is what
+/// [`tap::trace`] returns for these listeners and steps.
 ///
-/// In a lane the height of a bar is a number of bytes (`viewBox`), so listeners of different capacities have scales of their
-/// own; if little of a buffer is ever filled, only its lower part is drawn. Each step has a `title` with its line of SCRIPT, its
-/// packet, and both loads. With at most 60 steps the place of each packet is printed below it. The picture has a `title` and a
+/// In a lane the height of a bar is a number of bytes (`viewBox`), so listeners of different
+/// capacities have scales of their own; if little of a buffer is ever filled, only its lower part
+/// is drawn. Each step has a `title` with its line of SCRIPT, its packet, and both loads. With at
+/// most 60 steps the place of each packet is printed below it. The picture has a `title` and a
 /// `desc` that say what it shows. An error is that of `out`.
 pub fn write_picture<O: Write>(
     specs: &[Spec],

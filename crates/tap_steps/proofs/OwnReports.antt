@@ -1,4 +1,4 @@
--- What listeners came to is told of their own steps.
+-- What listeners reached, said of their own steps.
 use Rattle.std.proofs.Common.{◌≡◌, ℕ, ◌<◌, ◌≤◌, Bool, true, false, cond, List, [], ◌∷◌, ◌++◌, Option, Some, length, ◌==◌, refl, ap, sym, ◌∙◌, subst, zero, suc, map, option_map}
 use Rattle.bpfvm.specs.declared.insn.Insn.{Insn}
 use Rattle.listener.specs.declared.message.Message.{Message}

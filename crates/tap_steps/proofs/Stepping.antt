@@ -47,7 +47,7 @@ step_told law old new bs before after told e r is none shut bytes many taken clo
     ap (watch new bs) (adds ∙ told_alike before told (answered old.list e) (λ followed some. same ∙ told_as old.list e shut bytes many taken closed loaded in_hold (sized followed some)))
     ∙ step_without law old new bs before e r is none takes
 
--- the answers behind others
+-- the answers after others
 answers_join : (before : Option (List Answered)) (a : Answered) (later : List Answered) →
     option_map (λ l. l ++ later) (with_answer a before) ≡ option_map (λ l. l ++ a ∷ later) before
 answers_join None a later = refl

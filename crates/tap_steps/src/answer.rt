@@ -23,8 +23,8 @@ pub struct Answered {
     pub load: usize,
     /// The number of messages in the hold before the step.
     pub in_hold: usize,
-    /// The bytes of the record that an arrival takes, or would take if there were room; 0 if the filter rejects it, and of
-    /// other steps.
+    /// The bytes of the record that an arrival takes, or would take if there were room; 0 if the
+    /// filter rejects it, and of other steps.
     pub size: usize,
     pub answer: Answer,
 }

@@ -9,7 +9,8 @@ use std::fmt;
 use std::fmt::{Display, Formatter};
 use thiserror::Error;
 
-/// Why captures give no playlist. Captures are counted from 0. It prints as its name, the number and the fault of the capture.
+/// Why captures give no playlist. Captures are counted from 0. It prints as its name, the number
+/// and the fault of the capture.
 #[derive(Clone, Copy, Debug, PartialEq, Eq, Error)]
 pub enum PlaylistFault {
     /// This capture is the first whose header is refused.
@@ -19,7 +20,7 @@ pub enum PlaylistFault {
 }
 
 impl PlaylistFault {
-    /// Its name alone.
+    /// Its name, without a number or the fault of a capture.
     pub fn name(self) -> &'static str
         ensures { result.now ≡ playlist_fault_name self }
     {

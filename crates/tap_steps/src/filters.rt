@@ -16,8 +16,8 @@ pub struct Spec {
     pub filter: Filter,
     /// The most bytes that are kept of a packet, 1 to 262,144.
     pub snap: u32,
-    /// The bytes of records that each of the two buffers has room for: at least those of one record with a snapshot
-    /// length of data (32, and the data up to a multiple of 8), at most 1,048,576.
+    /// The bytes of records that each of the two buffers has room for: at least those of one record
+    /// with a snapshot length of data (32, and the data up to a multiple of 8), at most 1,048,576.
     pub capacity: usize,
     /// When the store becomes the hold.
     pub mode: Mode,

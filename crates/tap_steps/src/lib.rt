@@ -1,8 +1,9 @@
 //! Steps, played over opened listeners and the packets of captures.
 //!
-//! [`read_playlist`] reads the packets of captures in order, [`play`] plays steps over them, and [`report_all`] and
-//! [`trace_all`] report what each listener got. `tap` opens the listeners: nothing here knows what an expression means,
-//! so this crate is proved beside the compiler and need not wait for it.
+//! [`read_playlist`] reads the packets of captures in order, [`play`] plays steps over them, and
+//! [`report_all`] and [`trace_all`] report what each listener got. `tap` opens the listeners:
+//! nothing here knows what an expression means, so this crate is proved beside the compiler and
+//! need not wait for it.
 #![tactic(auto)]
 
 mod answer;

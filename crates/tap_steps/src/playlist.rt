@@ -27,7 +27,8 @@ pub struct Playlist {
 }
 
 impl Playlist {
-    /// Reads the next capture. After one with a record fault only the header is read: it gives no packets.
+    /// Reads the next capture. After one with a record fault only the header is read: it gives no
+    /// packets.
     fn read_next(&mut self, alloc: Global, n: u32, text: &[u8]) -> Result<(), PlaylistFault>
         ensures packets { OnOk result (AllPackets self.old.arrivals.items → AllPackets self.new.arrivals.items) }
         ensures more { OnOk result ((texts : List (List ℕ)) → length texts ≡ n → IsPlaylist 0 texts self.old.arrivals.items self.old.record_fault →
@@ -111,7 +112,8 @@ pub const MAX_CAPTURES: usize = 65_536;
 // Clauses and definitions name the constant: it is this number.
 const _: () = prove!(MAX_CAPTURES == 65_536);
 
-/// Reads all captures. Those after one with a record fault give no packets, but their headers count.
+/// Reads all captures. Those after one with a record fault give no packets, but their headers
+/// count.
 pub fn read_playlist(alloc: Global, captures: &[&[u8]]) -> Result<Playlist, PlaylistFault>
     requires { length captures.now ≤ 65536 }
     ensures ok { IfOk result (λ p. IsPlaylist 0 (map (λ c. c.now) captures.now) p.arrivals.items p.record_fault) }

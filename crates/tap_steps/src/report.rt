@@ -25,8 +25,8 @@ pub struct Report {
 pub struct Trace {
     /// A report for each listener.
     pub reports: Vec<Report>,
-    /// For each listener its answers to its own steps, in order. These are each arrival that took a packet, and the
-    /// flushes, reads and closes that name the listener.
+    /// For each listener its answers to its own steps, in order. These are each arrival that took a
+    /// packet, and the flushes, reads and closes that name the listener.
     pub answers: Vec<Vec<Answered>>,
     /// For each listener the expression that its filter reads as. A program has none.
     pub expressions: Vec<Option<Expr>>,

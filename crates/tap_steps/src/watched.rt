@@ -103,7 +103,8 @@ impl Watched {
         }
     }
 
-    /// The bytes of the record that a packet takes, or would take. Nothing is asked if answers are not followed.
+    /// The bytes of the record that a packet takes, or would take. Nothing is asked if answers are
+    /// not followed.
     fn followed_size(&self, packet: &PacketRef<'_>) -> usize
         ensures { (followed : List Answered) → self.now.answers ≡ Some followed → (capture place : ℕ) →
             result ≡ size_kept (seen_by self.now.listener (arrival capture place packet.now)) }

@@ -9,7 +9,7 @@ use Rattle.tap_text.specs.Laws.{FlushReasonsAgree, ReadReasonsAgree, makes_hold,
 use Rattle.tap_text.specs.Reasons.{flush_end, read_end, state_before}
 use Rattle.tap_text.specs.declared.reasons.ListenerState.{ListenerState}
 
--- a flush comes to nothing where the listener is closed, holds something, or stores nothing
+-- a flush does nothing where the listener is closed, holds something, or stores nothing
 idle-flush : (before : ListenerState) → (before.closed ≡ true) ⊎ (0 < before.in_hold) ⊎ (before.load ≡ 0) → makes_hold (flush_end before) ≡ false
 idle-flush before why = by_closed before.closed refl why
   where

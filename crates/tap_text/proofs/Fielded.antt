@@ -9,7 +9,7 @@ use Rattle.line_text.proofs.Cuts.{NoSpace, not-lacking, cut-one}
 no-fields : (line snap capacity expression : List ℕ) → All NoSpace line → AreFields line snap capacity expression → ⊥
 no-fields line snap capacity expression lacks f = not-lacking space snap f.rest (All-same NoSpace (snap ++ space ∷ f.rest) line (sym f.first) lacks)
 
--- a rest without a space is no capacity with an expression behind it
+-- a rest without a space is no capacity with an expression after it
 no-second : (rest capacity expression other : List ℕ) → rest ≡ capacity ++ space ∷ expression → rest ≡ other → All NoSpace other → ⊥
 no-second rest capacity expression other cut is lacks = not-lacking space capacity expression (All-same NoSpace (capacity ++ space ∷ expression) other (sym cut ∙ is) lacks)
 

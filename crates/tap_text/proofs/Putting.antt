@@ -1,4 +1,4 @@
--- What is put behind a line that was emptied.
+-- What is put after a line that was emptied.
 use Rattle.std.proofs.Common.{◌≡◌, ℕ, List, [], ◌++◌, Result, Ok, Err, OnOk, ap, append_assoc, ◌∙◌}
 
 pub in_place : {A E : Type 0} (r : Result A E) (empty new text whole : List ℕ) → empty ≡ [] → OnOk r (new ≡ empty ++ text) → text ≡ whole → OnOk r (new ≡ whole)
@@ -10,7 +10,7 @@ pub in_place_twice : {A E : Type 0} (r : Result A E) (empty first new text more 
 in_place_twice (Ok x) empty first new text more whole none begun put is = put ∙ ap (λ (t : List ℕ). t ++ more) (begun ∙ ap (λ (t : List ℕ). t ++ text) none) ∙ is
 in_place_twice (Err e) empty first new text more whole none begun put is = tt
 
--- the same behind what a line has
+-- the same after what a line has
 pub behind : {A E : Type 0} (r : Result A E) (old new text whole : List ℕ) → OnOk r (new ≡ old ++ text) → text ≡ whole → OnOk r (new ≡ old ++ whole)
 behind (Ok x) old new text whole put is = put ∙ ap (λ (t : List ℕ). old ++ t) is
 behind (Err e) old new text whole put is = tt

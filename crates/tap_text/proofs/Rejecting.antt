@@ -20,7 +20,7 @@ next_told form n l inside x a later old new end is seen cut first ends =
     ends ∙ ap (λ (t : List ℕ). old ++ t) is ∙ ap (λ (t : List ℕ). t ++ answer_end form) first
     ∙ sym (ap (first_line form n l x.capacity x.held_since) (sym (ap (λ (y : Cursor). y.answers) seen) ∙ cut))
 
--- the line of an answer to a packet: the reason, and what stands behind it
+-- the line of an answer to a packet: the reason, and what comes after it
 arrived : (form : LineForm) (n l : ℕ) (why behind old mid new : List ℕ) → old ≡ answer_head form n l ++ why → mid ≡ old ++ behind →
     new ≡ mid ++ answer_end form → new ≡ answer_line form n l (why ++ behind)
 arrived form n l why behind old mid new first more ends =

@@ -27,7 +27,7 @@ read-word = letters (codes "read") (omega arith, (omega arith, (omega arith, (om
 close-word : All NoSpace (codes "close")
 close-word = letters (codes "close") (omega arith, (omega arith, (omega arith, (omega arith, (omega arith, tt)))))
 
--- a line without a space has no number behind a word
+-- a line without a space has no number after a word
 no-own : (line word : List ℕ) (l : ℕ) → All NoSpace line → IsWordOf line word l → ⊥
 no-own line word l lacks is = not-lacking space word is.0 (All-same NoSpace (word ++ space ∷ is.0) line (sym is.1) lacks)
 
@@ -45,11 +45,11 @@ module _ (line word digits : List ℕ) (cut : line ≡ word ++ space ∷ digits)
       let one = cut-one space word digits w is.0 none none' (sym cut ∙ is.1) in
       (one.0, subst (λ (t : List ℕ). IsNumber 4294967295 t l) (sym one.1) is.2)
 
-  -- a line that is cut behind this word
+  -- a line that is cut after this word
   word-of : (w : List ℕ) (l : ℕ) → word ≡ w → IsNumber 4294967295 digits l → IsWordOf line w l
   word-of w l same number = (digits, subst (λ (t : List ℕ). line ≡ t ++ space ∷ digits) same cut, number)
 
-  -- with no number behind the word, there is no step
+  -- with no number after the word, there is no step
   pub NoStep-number : ((l : ℕ) → IsNumber 4294967295 digits l → ⊥) → NoStep line
   NoStep-number bad Arrive is = other is
   NoStep-number bad (Flush l) is = bad l (same-cut (codes "flush") l flush-word is).1

@@ -262,8 +262,8 @@ fn put_twice(line: &mut String, expr: &Expr) -> Result<(), AllocError> {
     write!(line, "{} {}", Canonical(expr), Canonical(expr))
 }
 
-/// A line with room for each answer of these listeners. What decides on a packet is part of an expression, so twice the expression's
-/// own text has room for it, with any parentheses.
+/// A line with room for each answer of these listeners. What decides on a packet is part of an
+/// expression, so twice the expression's own text has room for it, with any parentheses.
 fn room_for(alloc: Global, all: &[AnswerCursor<'_>]) -> Result<String, AllocError> {
     let mut line = String::with_capacity(alloc, LINE_ROOM)?;
     for one in all {
@@ -478,7 +478,8 @@ fn write_own<O: Write>(
     Ok(())
 }
 
-/// Writes a step, an arrival, and all answers to it, and goes past these. If no packet is left, there are none.
+/// Writes a step, an arrival, and all answers to it, and goes past these. If no packet is left,
+/// there are none.
 fn write_arrive<O: Write>(
     head: StepHead,
     packets: &[PlacedPacket],
@@ -532,12 +533,14 @@ fn packets_after(step: Step, packets: &[PlacedPacket]) -> &[PlacedPacket]
     }
 }
 
-/// Writes a line for each step, and below it a line for each listener that it reaches: what it answered, and why. Steps are counted
-/// from 1, as the lines of SCRIPT. `all` are the answers of [`answer_cursors`], for a trace of these steps and this playlist. `buffer` is
-/// that of [`line_for`], which should have room for all of them: that it takes no more memory is not proved.
+/// Writes a line for each step, and below it a line for each listener that it reaches: what it
+/// answered, and why. Steps are counted from 1, as the lines of SCRIPT. `all` are the answers of
+/// [`answer_cursors`], for a trace of these steps and this playlist. `buffer` is that of
+/// [`line_for`], which should have room for all of them: that it takes no more memory is not
+/// proved.
 ///
-/// In JSON each line is an object that has its step's number; that of an answer to an arrival also has the packet's capture and place, and
-/// what decided if an expression rejects it.
+/// In JSON each line is an object that has its step's number; that for an answer to an arrival also
+/// has the packet's capture and place, and what decided if an expression rejects it.
 ///
 /// If it fails, `out` took a prefix of the text and no more.
 pub fn write_answers<O: Write>(

@@ -1,4 +1,4 @@
-//! The room for the line of an answer.
+//! The room for an answer's line.
 
 /// A line that is put together, and what is in one of its strings.
 #[derive(Drop)]

@@ -4,7 +4,8 @@ ghost use Rattle.tap_text.specs.Laws.{NoneIsBad, FirstBadIsOne, FlushReasonsAgre
 ghost use Rattle.tap_text.specs.Listeners.{IsListenerLine};
 ghost use Rattle.tap_text.specs.Script.{IsStepLine};
 
-/// A file whose lines all have their form has no bad line: so it is read, or its first bad line is reported, and never both.
+/// A file whose lines all have their form has no bad line: so it is read, or its first bad line is
+/// reported, and never both.
 pub fn none_is_bad()
     ensures listeners { NoneIsBad IsListenerLine }
     ensures script { NoneIsBad IsStepLine }
@@ -16,8 +17,8 @@ pub fn first_bad_is_one()
     ensures script { FirstBadIsOne IsStepLine }
 {}
 
-/// The reasons of a flush and of a read follow from the listener's state before it. If the answer is right, they agree with it:
-/// the store became the hold, or the hold was taken, or not.
+/// The reasons of a flush and of a read follow from the listener's state before it. If the answer
+/// is right, they agree with it: the store became the hold, or the hold was taken, or not.
 pub fn reasons_agree()
     ensures flushes { FlushReasonsAgree }
     ensures reads { ReadReasonsAgree }

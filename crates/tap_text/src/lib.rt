@@ -1,7 +1,10 @@
-//! The tap's texts: what the files LISTENERS and SCRIPT ask for, and what is printed of a replay, as text and as JSON Lines.
+//! The tap's texts: what the files LISTENERS and SCRIPT ask for, and what is printed of a replay,
+//! as text and as JSON Lines.
 //!
-//! [`read_plan`](plan::read_plan) reads the two files. [`print_reports_in`](report::print_reports_in) prints what each listener got, and
-//! [`write_answers`](answers::write_answers) a line for each step, with what each listener answered and why.
+//! [`read_plan`](plan::read_plan) reads the two files.
+//! [`print_reports_in`](report::print_reports_in) prints what each listener got, and
+//! [`write_answers`](answers::write_answers) a line for each step, with what each listener answered
+//! and why.
 #![tactic(auto)]
 
 pub mod answers;

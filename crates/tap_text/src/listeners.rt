@@ -47,16 +47,18 @@ fn spec_of(alloc: Global, line: &[u8]) -> Result<Option<Spec>, AllocError>
     }))
 }
 
-/// How many listeners are kept at most: one more than a replay takes, so that too many can be reported.
+/// How many listeners are kept at most: one more than a replay takes, so that too many can be
+/// reported.
 pub const MAX_KEPT: usize = MAX_LISTENERS + 1;
 
 const _: () = prove!(MAX_KEPT == 65);
 
 /// Reads the file LISTENERS, a listener on each line: `SNAP CAPACITY EXPRESSION`.
 ///
-/// CAPACITY may have an `i` after its digits, for the mode Immediate. If EXPRESSION is empty, the space before it may be missing.
-/// The listeners are those of the lines, in order, but at most [`MAX_KEPT`], 65: further lines are checked, and not kept.
-/// [`LineFault::Listeners`] names the first line, from 1, that lacks this form.
+/// CAPACITY may have an `i` after its digits, for the mode Immediate. If EXPRESSION is empty, the
+/// space before it may be missing. The listeners are those of the lines, in order, but at most
+/// [`MAX_KEPT`], 65: further lines are checked, and not kept. [`LineFault::Listeners`] names the
+/// first line, from 1, that lacks this form.
 pub fn read_listeners(alloc: Global, text: &[u8]) -> Result<Vec<Spec>, LineFault>
     ensures ok { IfOk result (λ specs. AreFirstOf text.now specs.items) }
     ensures fault { IfErr result (λ fault. IsRefusedListeners text.now fault) }

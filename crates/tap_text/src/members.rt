@@ -8,7 +8,8 @@ use listener::Fed;
 use std::fmt;
 use std::fmt::{Display, Formatter};
 
-/// The bytes that are stored, those of the record that arrives, and those that the store has room for.
+/// The bytes that are stored, those of the record that arrives, and those that the store has room
+/// for.
 #[derive(Clone, Copy)]
 struct SumMembers {
     before: ListenerState,

@@ -33,7 +33,8 @@ impl Display for PartMember {
     }
 }
 
-/// Puts the object of a message in this part of the l-th listener's report in place of what the line has.
+/// Puts the object of a message in this part of the l-th listener's report in place of what the
+/// line has.
 pub(crate) fn put_message_object(
     line: &mut Line,
     l: usize,

@@ -19,8 +19,9 @@ pub struct StepsPlan {
     pub steps: Vec<Step>,
 }
 
-/// Reads LISTENERS and SCRIPT. A bad line of LISTENERS is reported before one of SCRIPT. At most 65 listeners are kept, one more than
-/// a replay takes, so that [`play_plan`] finds that there are too many.
+/// Reads LISTENERS and SCRIPT. A bad line of LISTENERS is reported before one of SCRIPT. At most 65
+/// listeners are kept, one more than a replay takes, so that [`play_plan`] finds that there are too
+/// many.
 ///
 /// [`play_plan`]: crate::steps::play_plan
 pub fn read_plan(alloc: Global, listeners: &[u8], script: &[u8]) -> Result<StepsPlan, LineFault>

@@ -23,7 +23,8 @@ pub struct ListenerState {
 }
 
 impl ListenerState {
-    /// The state of a listener of this capacity before it answered so; its hold was filled last at this step.
+    /// The state of a listener of this capacity before it answered so; its hold was filled last at
+    /// this step.
     pub fn before(answered: &Answered, held_since: usize, capacity: usize) -> ListenerState
         ensures { result ≡ state_before answered.now held_since capacity }
     {

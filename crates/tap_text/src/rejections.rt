@@ -16,7 +16,8 @@ use listener::Fed;
 use std::alloc::AllocError;
 use tap_steps::{Answer, PlacedPacket};
 
-/// Appends, after a colon, what an expression answers to a packet, and the primitive or relation that decides.
+/// Appends, after a colon, what an expression answers to a packet, and the primitive or relation
+/// that decides.
 fn put_decision_of(
     line: &mut String,
     expr: &Expr,
@@ -105,7 +106,8 @@ fn put_cause(line: &mut String, cause: Option<AbortCause>) -> Result<(), AllocEr
     }
 }
 
-/// Appends the primitive or relation that decides, and why it aborted, as members. `text` may have any text.
+/// Appends the primitive or relation that decides, and why it aborted, as members. `text` may have
+/// any text.
 fn put_asked(line: &mut String, text: &mut String, asked: &AskedPart<'_>) -> Result<(), AllocError>
     ensures { OnOk result (string_bytes line.new ≡ string_bytes line.old ++ question_members (question_of asked.now)) }
 {
@@ -116,7 +118,8 @@ fn put_asked(line: &mut String, text: &mut String, asked: &AskedPart<'_>) -> Res
     put_cause(line, asked.cause)
 }
 
-/// Appends what an expression answers to a packet, and the primitive or relation that decides, as members.
+/// Appends what an expression answers to a packet, and the primitive or relation that decides, as
+/// members.
 fn put_decision_members(
     buffer: &mut LineBuffer,
     expr: &Expr,
@@ -153,7 +156,7 @@ fn put_rejection_members(
     }
 }
 
-/// Appends the packet of an answer, and why an expression rejected it, if one did, as members.
+/// Appends the packet that is answered, and why an expression rejected it, if one did, as members.
 fn put_arrival_members(
     buffer: &mut LineBuffer,
     placed: &PlacedPacket,
@@ -166,7 +169,8 @@ fn put_arrival_members(
     put_rejection_members(buffer, placed, expr, answer)
 }
 
-/// Appends to the answer to a packet why an expression rejected it, if one did, and before that in JSON the packet's capture and place.
+/// Appends to the answer to a packet why an expression rejected it, if one did, and before that in
+/// JSON the packet's capture and place.
 pub fn put_rejection(
     form: LineForm,
     buffer: &mut LineBuffer,

@@ -171,10 +171,12 @@ fn write_report<O: Write>(
     write_part(form, l, ReportPart::Held, report.held.as_slice(), line, out)
 }
 
-/// Writes the reports of all listeners, in order, numbered from 0: a listener's counts, its batches, numbered from 0, with a line
-/// for each message, and what it holds. If that fails, `out` took a prefix of the text and no more. It takes no memory.
+/// Writes the reports of all listeners, in order, numbered from 0: a listener's counts, its
+/// batches, numbered from 0, with a line for each message, and what it holds. If that fails, `out`
+/// took a prefix of the text and no more. It takes no memory.
 ///
-/// In JSON each line is an object that names its listener. That of a message has `"batch":B` or `"held":true`.
+/// In JSON each line is an object that names its listener. That of a message has `"batch":B` or
+/// `"held":true`.
 pub fn write_reports<O: Write>(form: LineForm, reports: &[Report], out: &mut O) -> io::Result<()>
     ensures { Takes (O.contents out.old) (O.contents out.new) result (reports_in form reports.now) }
 {

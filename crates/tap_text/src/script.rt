@@ -41,7 +41,8 @@ fn step_of(line: &[u8]) -> Option<Step>
 
 /// Reads the file SCRIPT, a step on each line: `arrive`, `flush L`, `read L` or `close L`.
 ///
-/// The steps are those of the lines, in order. [`LineFault::Script`] names the first line, from 1, that lacks this form.
+/// The steps are those of the lines, in order. [`LineFault::Script`] names the first line, from 1,
+/// that lacks this form.
 pub fn read_script(alloc: Global, text: &[u8]) -> Result<Vec<Step>, LineFault>
     ensures ok { IfOk result (λ steps. IsFileOf IsStepLine text.now steps.items) }
     ensures fault { IfErr result (λ fault. IsRefusedScript text.now fault) }

@@ -1,4 +1,5 @@
-//! Tests of `listener` and `handover`: buffers of records, listeners beside their plain list, and pairs in one thread and in two.
+//! Tests of `listener` and `handover`: buffers of records, listeners beside their plain list, and
+//! pairs in one thread and in two.
 #![tactic(auto)]
 
 #[cfg(test)]

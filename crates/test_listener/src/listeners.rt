@@ -34,7 +34,8 @@ fn put_read(alloc: Global, listener: &mut Listener, out: &mut String) -> Result<
     Ok(())
 }
 
-/// Adds what a listener answers to one step of a script: `a` is an arrival of 60 bytes, `f` a flush, `r` a read and `c` a close.
+/// Adds what a listener answers to one step of a script: `a` is an arrival of 60 bytes, `f` a
+/// flush, `r` a read and `c` a close.
 fn put_answer(
     alloc: Global,
     listener: &mut Listener,
@@ -177,7 +178,8 @@ fn put(
     buffer.put(capture, place, packet, kept)
 }
 
-/// Puts a packet of the data of `RECORD`, of a capture's first interface, and says whether it found room.
+/// Puts a packet of the data of `RECORD`, of a capture's first interface, and says whether it found
+/// room.
 fn put_three(rt: &impl Abort, buffer: &mut Buffer, place: u64, kept: u32) -> bool {
     let packet = PacketRef {
         sec: 2,
@@ -242,7 +244,8 @@ fn greatest(rt: &(impl Abort + AllocGlobal), data: &[u8]) -> Result<Buffer, Open
     Ok(buffer)
 }
 
-/// The one record of a buffer, and the message made of it, show the greatest fields and these bytes.
+/// The one record of a buffer, and the message made of it, show the greatest fields and these
+/// bytes.
 fn each_shows(
     rt: &(impl Abort + AllocGlobal),
     buffer: &Buffer,
@@ -267,7 +270,8 @@ fn records_show_what_was_put(rt: HostRuntime) -> Result<(), Fail> {
     Ok(())
 }
 
-/// A record with this much data takes this much of a buffer of that capacity, or finds no room in it.
+/// A record with this much data takes this much of a buffer of that capacity, or finds no room in
+/// it.
 fn takes(
     rt: &(impl Abort + AllocGlobal),
     packet: &PacketRef<'_>,
@@ -417,8 +421,9 @@ fn six_arrive(rt: &impl Abort, listener: &mut Listener) {
     }
 }
 
-// By hand: with `rt try --test --fail-alloc N` this prints NoMemory for N of 1 and 2, the two buffers of the listener, and
-// of 3, the buffer that is given; for every other N it passes, since nothing else takes memory.
+// By hand: with `rt try --test --fail-alloc N` this prints NoMemory for N of 1 and 2, the two
+// buffers of the listener, and of 3, the buffer that is given; for every other N it passes, since
+// nothing else takes memory.
 #[test]
 fn only_opening_takes_memory(rt: HostRuntime) -> Result<(), Fail> {
     let mut listener = made(&rt, Listener::open(rt.alloc(), keeping(64)?, 32, 128));

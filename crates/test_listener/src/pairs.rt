@@ -70,7 +70,8 @@ fn put_read(alloc: Global, link: &Link, drain: &mut Drain, out: &mut String) -> 
     Ok(())
 }
 
-/// The steps of a script while both ends are open: `a` is an arrival, `f` a flush and `r` a read. Returns the next place.
+/// The steps of a script while both ends are open: `a` is an arrival, `f` a flush and `r` a read.
+/// Returns the next place.
 fn together(
     alloc: Global,
     link: &Link,
@@ -165,8 +166,8 @@ fn left_of_ended(
     Ok((settle(link, feeder, drain), rest))
 }
 
-/// What a pair of snapshot length 32 and capacity 64 answers to a script, then, once its feeder has ended, to this many reads,
-/// and what is left of it.
+/// What a pair of snapshot length 32 and capacity 64 answers to a script, then, once its feeder has
+/// ended, to this many reads, and what is left of it.
 fn ended(
     rt: &(impl Abort + AllocGlobal),
     mode: Mode,
@@ -360,9 +361,9 @@ fn arrive(link: &Link, feeder: &mut Feeder, place: u64) -> Option<Fed>
     Some(feeder.arrive(link, 0, place, &packet()))
 }
 
-// By hand: with `rt try --test --fail-alloc N` this prints NoMemory for N of 1 to 5, what the pair takes (two buffers, the row of
-// slots that the table is given, its words and its slot), and of 6, the buffer that is given; for every other N it passes,
-// since nothing else takes memory.
+// By hand: with `rt try --test --fail-alloc N` this prints NoMemory for N of 1 to 5, what the pair
+// takes (two buffers, the row of slots that the table is given, its words and its slot), and of 6,
+// the buffer that is given; for every other N it passes, since nothing else takes memory.
 #[test]
 fn only_the_pair_takes_memory(rt: HostRuntime) -> Result<(), Fail> {
     let Ok((link, mut feeder, mut drain)) = pair(rt.alloc(), keeping(64)?, 32, 64) else {

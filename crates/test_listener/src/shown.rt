@@ -21,7 +21,8 @@ pub(crate) const BYTES: [u8; 60] = [
     50, 51, 52, 53, 54, 55, 56, 57, 58, 59,
 ];
 
-/// Adds the places of a buffer's messages, and `?` after one that lacks the first 32 of these bytes.
+/// Adds the places of a buffer's messages, and `?` after one that lacks the first 32 of these
+/// bytes.
 pub(crate) fn put_places(buffer: &Buffer, out: &mut String) -> Result<(), AllocError> {
     for record in buffer.records() {
         write!(out, " {}", record.place)?;

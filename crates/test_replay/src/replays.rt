@@ -63,7 +63,8 @@ fn capture(alloc: Global, sec: u8, frames: &[[u8; 38]]) -> Result<Vec<u8>, Alloc
     Ok(text)
 }
 
-/// What is written of frames with their seconds, at a snapshot length below 65,536, or at 262,144 as 0.
+/// What is written of frames with their seconds, at a snapshot length below 65,536, or at 262,144
+/// as 0.
 fn written(
     alloc: Global,
     snap: u16,
@@ -113,7 +114,8 @@ fn source_of(bytes: Vec<u8>) -> Counted<Tape> {
     })
 }
 
-/// Frames as they are captured from this second on. The device ends at a byte of the capture, or fails there.
+/// Frames as they are captured from this second on. The device ends at a byte of the capture, or
+/// fails there.
 #[derive(Clone, Copy)]
 struct Recorded<'a> {
     sec: u8,
@@ -204,7 +206,8 @@ fn keeping_all() -> Result<Program, bpfvm::Invalid> {
     Program::new(&[insn(6, 0, 0, 262_144)])
 }
 
-/// A task that is flushed after each arrival, with two buffers that go round, and a little-endian savefile with microseconds.
+/// A task that is flushed after each arrival, with two buffers that go round, and a little-endian
+/// savefile with microseconds.
 fn task<W: Drop>(program: Program, snap: u32, capacity: usize, sink: W) -> Task<W> {
     Task {
         program,
@@ -219,7 +222,7 @@ fn task<W: Drop>(program: Program, snap: u32, capacity: usize, sink: W) -> Task<
     }
 }
 
-/// The item at a place, where there is one.
+/// The item at a place, if there is one.
 fn at<'a, T>(rt: &(impl Abort + AllocGlobal), items: &'a [T], place: usize) -> &'a T {
     items.get(place).expect(rt, "an item")
 }

@@ -1,4 +1,5 @@
-//! The callers that the pages of `line_text`, `cli_text`, `tap_steps`, `tap_text`, `cli_steps` and `tap_picture` show, crates/NAME/README.md.
+//! The callers that the pages of `line_text`, `cli_text`, `tap_steps`, `tap_text`, `cli_steps` and
+//! `tap_picture` show, crates/NAME/README.md.
 
 use crate::same::same;
 use cli_steps::steps::steps;
@@ -153,7 +154,7 @@ fn a_refusal_is_reported(rt: HostRuntime) {
     same(&rt, err.as_slice(), fault.as_slice());
 }
 
-/// The picture of a replay of one capture to one listener, where there is one.
+/// The picture of a replay of one capture to one listener, if there is one.
 fn picture_of(rt: &(impl Abort + AllocGlobal), capture: &[u8]) -> Option<Vec<u8>> {
     let specs = [Spec {
         filter: Filter::Text(String::from_str(rt.alloc(), "tcp").expect(rt, "memory")),

@@ -8,7 +8,7 @@ use tap_text::plan::{StepsPlan, read_plan};
 use test_fixtures::captures::{HEADER, bytes_of};
 use test_fixtures::devices::UnflushedWriter;
 
-/// What `steps` prints is a device fault where it is not sent on, and was taken.
+/// What `steps` prints is a device fault if it is not sent on, and was taken.
 fn is_a_fault(rt: &(impl Abort + AllocGlobal), plan: &StepsPlan, header: &[u8], detail: Detail) {
     let taken = Vec::new(rt.alloc());
     let mut out = UnflushedWriter { taken };

@@ -9,7 +9,8 @@ use cli_text::Status;
 use std::process::Abort;
 use test_fixtures::captures::{ARP_RECORD, HEADER, IP_RECORD, concat};
 
-/// What is printed of the packets of `in.pcap`, which nobody reads: the second one does not fit beside the first.
+/// What is printed of the packets of `in.pcap`, which nobody reads: the second one does not fit
+/// beside the first.
 const REPORT: &[u8] = b"listener 0 received 2 matched 2 dropped 0\nheld\n\
     capture 0 place 0 time 1.000000000 len 14 kept 14\ncapture 0 place 1 time 2.000000000 len 14 kept 14\n";
 
@@ -23,7 +24,8 @@ fn file_of<R: Abort + AllocGlobal>(
     MemoryFile { path, bytes }
 }
 
-/// LISTENERS of one listener, a SCRIPT of two arrivals, one with a bad line, a capture of an ARP frame and an IPv4 frame, and one of none.
+/// LISTENERS of one listener, a SCRIPT of two arrivals, one with a bad line, a capture of an ARP
+/// frame and an IPv4 frame, and one of none.
 fn files_of<R: Abort + AllocGlobal>(rt: &R) -> MemoryFiles<'static> {
     let whole = concat(rt.alloc(), &[HEADER, ARP_RECORD, IP_RECORD]).expect(rt, "memory");
     let none = concat(rt.alloc(), &[HEADER]).expect(rt, "memory");

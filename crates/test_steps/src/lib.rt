@@ -1,5 +1,5 @@
-//! Tests of `tap`, `cli_steps` and `tap_picture` that the program does not show: what replays answer, an output that sends nothing
-//! on, and the callers of the pages.
+//! Tests of `tap`, `cli_steps` and `tap_picture` that the program does not show: what replays
+//! answer, an output that sends nothing on, and the callers of the pages.
 #![tactic(auto)]
 
 #[cfg(test)]

@@ -96,7 +96,7 @@ fn has_fates(rt: &(impl Abort + AllocGlobal), trace: &Trace, want: &[Fed]) {
     same(rt, fates(rt, trace, 0).as_slice(), want);
 }
 
-/// The item at a place, where there is one.
+/// The item at a place, if there is one.
 fn at<'a, T>(rt: &(impl Abort + AllocGlobal), items: &'a [T], place: usize) -> &'a T {
     items.get(place).expect(rt, "an item")
 }
@@ -214,7 +214,8 @@ fn replayed_at_32(
     replayed(rt, text.as_slice(), spec, steps).expect(rt, "a trace")
 }
 
-/// The answers to the steps of the first listener, each with its load and its number of held messages.
+/// The answers to the steps of the first listener, each with its load and its number of held
+/// messages.
 fn answers(rt: &(impl Abort + AllocGlobal), trace: &Trace) -> Vec<(usize, usize, Answer)> {
     let mut answers = Vec::new(rt.alloc());
     for answered in at(rt, trace.answers.as_slice(), 0) {
@@ -355,8 +356,8 @@ fn replay_many(
     replay(rt.alloc(), texts.as_slice(), specs.as_slice(), &[step])
 }
 
-/// This many listeners and captures are taken: what is refused is what is checked next, a step that names no listener,
-/// and then the first header.
+/// This many listeners and captures are taken: what is refused is what is checked next, a step that
+/// names no listener, and then the first header.
 fn are_taken(rt: &(impl Abort + AllocGlobal), listeners: u32, captures: usize) {
     let answer = replay_many(rt, listeners, captures, &HEADER, Step::Read(listeners));
     is_refused(rt, answer, Fault::NoListener(0));

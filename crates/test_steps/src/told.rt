@@ -1,4 +1,4 @@
-//! `Outcome::told` of `steps_told` is an error if standard error fails, and only then.
+//! The outcome of `steps_told` says that reporting failed if standard error fails, and only then.
 
 use crate::same::same;
 use cli_steps::steps::steps_told;
@@ -17,7 +17,8 @@ static PLAYED: [Played; 5] = [
     ("32 64", "read 1", TCP, "bpftap: NoListener 0\n"),
 ];
 
-/// Whether all was reported on a standard error with this much room, which took what it has room for.
+/// Whether all was reported on a standard error with this much room, which took what it has room
+/// for.
 fn is_told(rt: &(impl Abort + AllocGlobal), played: Played, room: usize) -> bool {
     let (listeners, script, packets, reported) = played;
     let (listeners, script) = (listeners.as_bytes(), script.as_bytes());

@@ -1,4 +1,5 @@
-//! Tests of `cli_run` that the program does not show: devices that break and are counted, and ends that no capture brings about.
+//! Tests of `cli_run` that the program does not show: devices that break and are counted, and ends
+//! that no capture brings about.
 #![tactic(auto)]
 
 #[cfg(test)]

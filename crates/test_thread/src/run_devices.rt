@@ -64,7 +64,8 @@ fn counting_devices<'a>(
     captures
 }
 
-/// The fault that a call over counting devices returns, and how often they were called and how many sinks were made.
+/// The fault that a call over counting devices returns, and how often they were called and how many
+/// sinks were made.
 fn call_touched<R: Abort + AllocGlobal + Threads + Wait + Sync>(
     rt: &R,
     listeners: &[u8],
@@ -120,7 +121,8 @@ fn no_device_is_touched_where_a_run_is_refused(rt: HostRuntime) {
     }
 }
 
-/// One interface of these sources, each of which gives five bytes a call and breaks at its end where it says so.
+/// One interface of these sources, each of which gives five bytes a call and breaks at its end
+/// where it says so.
 fn in_pieces<'a>(
     rt: &(impl Abort + AllocGlobal),
     sources: &[(&'a [u8], bool)],
@@ -210,7 +212,8 @@ fn told(rt: &impl Abort, broken: &BrokenRun, line: &str, status: u8) {
 /// More than any test writes.
 const AMPLE: usize = 1 << 20;
 
-/// How many bytes of the second source can be read, how many packets arrive, and how many bytes are written.
+/// How many bytes of the second source can be read, how many packets arrive, and how many bytes are
+/// written.
 static SOURCES: [(usize, usize, usize); 4] = [(81, 2, 132), (77, 1, 78), (23, 1, 78), (0, 1, 78)];
 
 #[test]
@@ -224,8 +227,8 @@ fn a_broken_source_is_reported_after_its_packets(rt: HostRuntime) {
     }
 }
 
-/// A source that breaks after what it has of its capture, between two whole ones: this many packets arrive, and this many bytes
-/// are written.
+/// A source that breaks after what it has of its capture, between two whole ones: this many packets
+/// arrive, and this many bytes are written.
 fn breaks_behind(
     rt: &(impl Abort + AllocGlobal + Threads + Wait + Sync),
     whole: &[u8],
@@ -262,7 +265,8 @@ static ROOMS: [(usize, usize); 8] = [
     (185, 2),
 ];
 
-/// A sink with this much room takes this many packets of a text and the bytes that it has room for, and the other one takes all.
+/// A sink with this much room takes this many packets of a text and the bytes that it has room for,
+/// and the other one takes all.
 fn breaks_at(
     rt: &(impl Abort + AllocGlobal + Threads + Wait + Sync),
     text: &[u8],

@@ -1,4 +1,5 @@
-//! `bpftap run`: when a packet can be read, and what is printed of ends that no capture brings about.
+//! `bpftap run`: when a packet can be read, and what is printed of ends that no capture brings
+//! about.
 
 use crate::same::same;
 use bpfvm::read_listing;
@@ -64,7 +65,8 @@ impl Write for ByteCounter<'_> {
     }
 }
 
-/// One interface of one source, which gives a capture of one packet and does not end before that is written.
+/// One interface of one source, which gives a capture of one packet and does not end before that is
+/// written.
 fn one_patient<'a, T: Abort + AllocGlobal>(
     rt: &'a T,
     text: &'a [u8],
@@ -83,7 +85,8 @@ fn one_patient<'a, T: Abort + AllocGlobal>(
     captures
 }
 
-/// Replays a packet whose capture does not end before the packet is written, and answers the exit status.
+/// Replays a packet whose capture does not end before the packet is written, and answers the exit
+/// status.
 fn status_of(
     rt: &(impl Abort + AllocGlobal + Clock + Threads + Wait + Sync),
     listeners: &[u8],

@@ -70,7 +70,8 @@ fn filled(
     sink
 }
 
-/// The report of a listener whose capture went into a buffer, in front of an OUT that takes this many bytes.
+/// The report of a listener whose capture went into a buffer, in front of an OUT that takes this
+/// many bytes.
 fn reported(
     rt: &(impl Abort + AllocGlobal),
     room: usize,

@@ -1,4 +1,5 @@
-//! `Outcome::told` of `run_told` and of `refuse` is an error if standard error fails, and only then.
+//! The outcomes of `run_told` and of `refuse` say that reporting failed if standard error fails,
+//! and only then.
 
 use crate::same::same;
 use cli_run::run::{refuse, run_told};
@@ -55,7 +56,8 @@ fn interface_of<'a>(
     interfaces
 }
 
-/// Whether `run_told` reported all on a standard error with this much room, which took what it has room for.
+/// Whether `run_told` reported all on a standard error with this much room, which took what it has
+/// room for.
 fn is_told<R: Abort + AllocGlobal + Threads + Wait + Sync>(
     rt: &R,
     replayed: Replayed,

@@ -8,9 +8,9 @@ use handover::{FeedEnd, Feeder};
 use listener::Buffer;
 use rtrb::Producer;
 
-/// Where packets go into one listener, after how many arrivals it is flushed, and where its rest goes once it has ended: what it
-/// still has in its store.
-// The feeder stands first, so that a packet which it rejects takes one address of both.
+/// Where packets go into one listener, after how many arrivals it is flushed, and where its rest
+/// goes once it has ended: what it still has in its store.
+// The feeder comes first, so that a packet which it rejects takes one address of both.
 #[derive(Drop)]
 pub(crate) struct FeederSlot {
     pub(crate) feeder: Feeder,

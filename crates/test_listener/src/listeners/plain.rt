@@ -160,7 +160,7 @@ impl Random {
     }
 }
 
-/// What is kept of a packet: nothing where that has no bytes.
+/// What is kept of a packet: nothing if that has no bytes.
 fn cut(bytes: &[u8], place: u64, len: usize) -> Option<KeptMessage> {
     let last = *bytes.get(..len)?.last()?;
     Some(KeptMessage { place, len, last })

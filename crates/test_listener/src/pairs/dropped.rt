@@ -1,4 +1,5 @@
-//! An end goes on after its other one was dropped. No contract says so, since such a pair is never settled.
+//! An end goes on after its other one was dropped. No contract says so, since such a pair is never
+//! settled.
 
 use super::{feeds_on, reads_on, together};
 use crate::same::same;

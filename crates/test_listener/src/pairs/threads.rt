@@ -150,7 +150,8 @@ fn read_once(link: &Link, drain: &mut Drain, spare: Buffer, places: &mut Vec<u64
     }
 }
 
-/// Reads this often, but not past the end, and closes. Returns the places that were read, and whether the end was reached.
+/// Reads this often, but not past the end, and closes. Returns the places that were read, and
+/// whether the end was reached.
 fn read_all(
     link: &Link,
     mut drain: Drain,
@@ -225,7 +226,8 @@ fn play(
     })
 }
 
-/// Checks that nothing is taken after the close, and that the counts are those of what was answered.
+/// Checks that nothing is taken after the close, and that the counts are those of what was
+/// answered.
 fn are_counted(rt: &impl Abort, fates: &Fates, counts: Counts, plan: PairPlan) {
     assert!(rt; !fates.opened);
     assert!(rt; fates.closed >= plan.late);
@@ -234,8 +236,8 @@ fn are_counted(rt: &impl Abort, fates: &Fates, counts: Counts, plan: PairPlan) {
     same(rt, counts.dropped, fates.dropped);
 }
 
-/// Plays a plan, and checks that the packets that were stored are those that were read and those that are left, in order.
-/// Returns these, and whether a read reached the end.
+/// Plays a plan, and checks that the packets that were stored are those that were read and those
+/// that are left, in order. Returns these, and whether a read reached the end.
 fn run(
     rt: &(impl Abort + AllocGlobal + Threads + Sync),
     plan: PairPlan,
@@ -276,8 +278,8 @@ fn a_close_in_the_middle_ends_the_arrivals(rt: HostRuntime) -> Result<(), Fail> 
     Ok(())
 }
 
-/// How many different lists of packets are kept in 500 runs of one plan, each second one slow. Runs that differ in what they
-/// keep differ in the order in which the two threads' steps came.
+/// How many different lists of packets are kept in 500 runs of one plan, each second one slow. Runs
+/// that differ in what they keep differ in the order in which the two threads' steps came.
 fn orders_met(rt: &(impl Abort + AllocGlobal + Threads + Sync), mode: Mode) -> Result<usize, Fail> {
     let mut lists: Vec<Vec<u64>> = Vec::new(rt.alloc());
     for round in 0..500u64 {

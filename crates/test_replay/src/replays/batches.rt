@@ -24,7 +24,8 @@ impl Write for Weighed<'_> {
     }
 }
 
-/// Counts the batches that are reported and their packets, and those of which something was written before.
+/// Counts the batches that are reported and their packets, and those of which something was written
+/// before.
 #[derive(Drop)]
 struct Batches<'a, R> {
     rt: &'a R,
@@ -47,7 +48,8 @@ impl<R: Clock> Gate for Batches<'_, R> {
         }
         self.told.fetch_add(1, SeqCst);
         self.packets.fetch_add(packets as u64, SeqCst);
-        // Time for the writer thread, had it the batch already. Of an empty savefile 24 bytes are written.
+        // Time for the writer thread, had it the batch already. Of an empty savefile 24 bytes are
+        // written.
         thread::sleep(self.rt, Duration::from_millis(50));
         if self.bytes.load(SeqCst) > 24 {
             self.late.fetch_add(1, SeqCst);
@@ -55,7 +57,8 @@ impl<R: Clock> Gate for Batches<'_, R> {
     }
 }
 
-/// An interface of three packets, and a task that is flushed after the third: its store becomes the hold then, and not before.
+/// An interface of three packets, and a task that is flushed after the third: its store becomes the
+/// hold then, and not before.
 fn three_at_once(
     alloc: Global,
     bytes: &AtomicU64,
@@ -69,7 +72,8 @@ fn three_at_once(
     })
 }
 
-/// One batch of three packets was reported, and nothing of it was written before; in the end all is.
+/// One batch of three packets was reported, and nothing of it was written before; in the end all
+/// is.
 fn told_at_once<R>(rt: &impl Abort, gate: &Batches<'_, R>) {
     same(
         rt,

@@ -78,7 +78,8 @@ fn has_all(rt: &impl Abort, file: &(Vec<u8>, u64), bytes: &[u8]) {
 
 #[test]
 fn the_example_of_the_page(rt: HostRuntime) -> Result<(), Fail> {
-    // Ethernet frames of 14 bytes of IPv4 and of ARP; a listing that accepts IPv4, and one that accepts everything
+    // Ethernet frames of 14 bytes of IPv4 and of ARP; a listing that accepts IPv4, and one that
+    // accepts everything
     let capture = [
         0xd4, 0xc3, 0xb2, 0xa1, 2, 0, 4, 0, 0, 0, 0, 0, 0, 0, 0, 0, 96, 0, 0, 0, 1, 0, 0, 0, //
         1, 0, 0, 0, 0, 0, 0, 0, 14, 0, 0, 0, 14, 0, 0, 0, //

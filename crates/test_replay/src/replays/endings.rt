@@ -89,7 +89,8 @@ fn varied_task(alloc: Global, capacity: usize, round: u64) -> Result<Task<PaperS
     Ok(one)
 }
 
-/// An interface of one capture and 1 to 4 tasks, each with buffers of one to four records: another one for each round.
+/// An interface of one capture and 1 to 4 tasks, each with buffers of one to four records: another
+/// one for each round.
 fn varied(
     alloc: Global,
     packets: u8,
@@ -230,7 +231,8 @@ fn failing_behind_one(at_byte: usize) -> [Recorded<'static>; 3] {
     [in_full(1, &ONE), failing, in_full(9, &TWO)]
 }
 
-/// Checks that this many packets before the byte at which a device fails are written, and no packet after it.
+/// Checks that this many packets before the byte at which a device fails are written, and no packet
+/// after it.
 fn writes_before(
     rt: &(impl Abort + AllocGlobal + Threads + Wait + Sync),
     at_byte: usize,
@@ -322,7 +324,8 @@ fn filled(
     same(rt, one.sink.inner.bytes.as_slice(), sent);
 }
 
-/// Replays T, U and T to a task whose sink has this much room, and checks how many packets are reported as written.
+/// Replays T, U and T to a task whose sink has this much room, and checks how many packets are
+/// reported as written.
 fn breaks_off(
     rt: &(impl Abort + AllocGlobal + Threads + Wait + Sync),
     room: usize,

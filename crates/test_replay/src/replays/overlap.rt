@@ -13,8 +13,8 @@ const ACCEPTED: [[u64; 3]; 2] = [[0, 1, 1], [0, 1, 2]];
 /// How many turns of a millisecond something is waited for.
 const MAX_TURNS: u32 = 20_000;
 
-/// Holds each arrival until the listeners that count have read all that they accepted before it, and each listener's first
-/// read until arrival 1 is held.
+/// Holds each arrival until the listeners that count have read all that they accepted before it,
+/// and each listener's first read until arrival 1 is held.
 #[derive(Drop)]
 struct Lockstep<'a, R> {
     rt: &'a R,
@@ -108,8 +108,8 @@ fn example_tasks(alloc: Global, mode: Mode, room: usize) -> Result<Vec<Task<Pape
     Ok(tasks)
 }
 
-/// The interface of the example: T and U arrive, and then T, at a listener for TCP, whose sink has this much room, and one for
-/// all. Where they are Immediate, nothing is flushed.
+/// The interface of the example: T and U arrive, and then T, at a listener for TCP, whose sink has
+/// this much room, and one for all. If they are Immediate, nothing is flushed.
 fn example(
     alloc: Global,
     mode: Mode,

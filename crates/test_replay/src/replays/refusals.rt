@@ -57,7 +57,8 @@ fn task_of(calls: &AtomicU64, numbers: (u32, usize, usize)) -> Result<Task<CallC
     Ok(one)
 }
 
-/// An interface with this many captures, and a task for each snapshot length, capacity and number of spare buffers.
+/// An interface with this many captures, and a task for each snapshot length, capacity and number
+/// of spare buffers.
 fn interface<'a>(
     alloc: Global,
     calls: &'a AtomicU64,
@@ -164,7 +165,8 @@ fn too_many_captures_are_refused(rt: HostRuntime) -> Result<(), Fail> {
     Ok(())
 }
 
-/// The first of 65,536 captures ended an interface, and each of its 64 tasks is clean and wrote its header.
+/// The first of 65,536 captures ended an interface, and each of its 64 tasks is clean and wrote its
+/// header.
 fn ends_at_the_first_capture(
     rt: &impl Abort,
     report: &InterfaceReport<CallCounter<'_>, CallCounter<'_>>,

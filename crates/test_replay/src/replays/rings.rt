@@ -13,10 +13,12 @@ const MAX_TURNS: u32 = 20_000;
 /// How many buffers go round.
 const SPARES: usize = 16;
 
-/// How many packets arrive where the first write fails: enough that some come after it on a busy machine.
+/// How many packets arrive if the first write fails: enough that some come after it on a busy
+/// machine.
 const CROWD: usize = 1_000;
 
-/// Takes everything, but holds each write after the header until as many batches were read as buffers go round.
+/// Takes everything, but holds each write after the header until as many batches were read as
+/// buffers go round.
 #[derive(Drop)]
 struct Patient<'a, R> {
     rt: &'a R,
@@ -48,7 +50,8 @@ impl<R: Clock> Write for Patient<'_, R> {
     }
 }
 
-/// Gives each packet time to be read until as many batches were read as buffers go round, and counts the batches.
+/// Gives each packet time to be read until as many batches were read as buffers go round, and
+/// counts the batches.
 #[derive(Drop)]
 struct Paced<'a, R> {
     rt: &'a R,
@@ -111,7 +114,8 @@ fn as_many_batches_are_read_ahead_as_buffers_go_round(rt: HostRuntime) -> Result
         writes: 0,
         first: 0,
     });
-    // Room for one packet in each buffer. On a busy machine many packets find no room, so there are many more than buffers.
+    // Room for one packet in each buffer. On a busy machine many packets find no room, so there are
+    // many more than buffers.
     let mut one = task(keeping_all()?, 64, 96, sink);
     one.spares = SPARES;
     let reports = run(&rt, alloc, crowded(alloc, 5_000, one)?, &gate)?;
@@ -122,7 +126,8 @@ fn as_many_batches_are_read_ahead_as_buffers_go_round(rt: HostRuntime) -> Result
     Ok(())
 }
 
-/// The sink took only the header, and the pair was closed: an arrival that finds it so is not received.
+/// The sink took only the header, and the pair was closed: an arrival that finds it so is not
+/// received.
 fn was_closed(rt: &impl Abort, one: &ListenerReport<PaperSink>) {
     same(rt, (one.end, one.written), (TaskEnd::Write(24), 0));
     assert!(rt; one.received < CROWD as u64);

@@ -59,7 +59,8 @@ fn narrow_task(alloc: Global, mode: Mode, flush_every: u32) -> Result<Task<Paper
     Ok(one)
 }
 
-/// An interface with a capture of this many TCP frames, and a listener in each mode that keeps 20 bytes of each, one in a buffer.
+/// An interface with a capture of this many TCP frames, and a listener in each mode that keeps 20
+/// bytes of each, one in a buffer.
 fn narrow(
     alloc: Global,
     packets: u8,

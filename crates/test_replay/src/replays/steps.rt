@@ -52,8 +52,8 @@ impl Told {
     }
 }
 
-/// Counts each step, and holds each arrival, once it is given and what is due was flushed, until it is read. A step that is
-/// reported twice, or with another number, or out of turn, counts as odd.
+/// Counts each step, and holds each arrival, once it is given and what is due was flushed, until it
+/// is read. A step that is reported twice, or with another number, or out of turn, counts as odd.
 #[derive(Drop)]
 struct Watch<'a, R> {
     rt: &'a R,
@@ -176,7 +176,8 @@ fn end_clean(
     }
 }
 
-/// This many arrivals of an interface were reported, and for each listener this many packets, each begun and ended.
+/// This many arrivals of an interface were reported, and for each listener this many packets, each
+/// begun and ended.
 fn was_told(rt: &impl Abort, told: &Told, arrivals: u64, packets: [u64; 2]) {
     let ends = (told.began.load(SeqCst), told.arrived.load(SeqCst));
     same(rt, ends, (arrivals, arrivals));

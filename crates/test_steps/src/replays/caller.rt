@@ -39,7 +39,7 @@ fn eight(rt: &(impl Abort + AllocGlobal)) -> Vec<u8> {
 #[test]
 fn a_slow_reader_loses_packets(rt: HostRuntime) {
     let text = eight(&rt);
-    // A record has 72 bytes, so the store has room for one. Of the first burst two are lost, of the second three, since
-    // its first packet finds the store full.
+    // A record has 72 bytes, so the store has room for one. Of the first burst two are lost, of the
+    // second three, since its first packet finds the store full.
     same(&rt, lost(rt.alloc(), text.as_slice(), 2), Ok(5));
 }

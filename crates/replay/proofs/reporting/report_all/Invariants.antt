@@ -4,7 +4,7 @@ use Rattle.replay.specs.RunsEnded.{HasItsPairs, IsReportOf}
 use Rattle.replay.proofs.Lists.{Completes}
 use Rattle.replay.proofs.reporting.report_all.Given as goal
 
--- the interfaces that are told of, and those that are left beside their links
+-- the interfaces that are reported, and those that are left beside their links
 abbrev pub invariant-loop-one : goal.invariant-loop-one
 invariant-loop-one g l =
     (goal.iterator-loop-one g).can_next l.one-iterator × (goal.iterator-loop-one g).is_finite l.one-iterator

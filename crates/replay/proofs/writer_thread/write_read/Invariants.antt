@@ -7,7 +7,7 @@ use Rattle.replay.specs.Writing.{Writes}
 use Rattle.replay.specs.declared.capture_output.OutputFile.{OutputFile}
 use Rattle.replay.proofs.writer_thread.write_read.Given as goal
 
--- what was popped is written behind what was written before
+-- what was popped is written after what was written before
 abbrev pub invariant-loop : goal.invariant-loop
 invariant-loop g l =
     SameConsumer l.fn.full l.full
