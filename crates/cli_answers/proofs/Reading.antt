@@ -27,7 +27,7 @@ still-works a b start result tells is before = elim (cases_eq a b) [
   | inr differs ↦ let clash : ◌≡◌ {A = Result Bool Fault} (Ok true) (Err Device) = sym is ∙ tells differs in absurd cc
 ]
 
--- and a reading that went well tells so
+-- and a reading that went well says so
 pub works-on : {A : Type 0} (read : Result A Fault) (x : A) (a b : ℕ) → read ≡ Ok x → a ≡ b → (read ≡ Err Device) ↔ (a ≢ b)
 works-on {A} read x a b is same = (λ broke. let clash : ◌≡◌ {A = Result A Fault} (Ok x) (Err Device) = sym is ∙ broke in absurd cc, λ differs. absurd (differs same))
 

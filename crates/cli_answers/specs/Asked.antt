@@ -81,10 +81,10 @@ abbrev pub IsCaptureAt : {R : Type 0} → (R → Option (List ℕ)) → (R → �
 IsCaptureAt left failures place text path capture = (left capture ≡ Some (text_at text (place path.now))) × (failures capture ≡ 0)
 
 -- why the captures at these paths are not opened: memory was refused, or a device failed
-abbrev pub IsUnopened : Bool → Unasked → Type 0
-IsUnopened failed (unasked.File path error) = IsRefusedMemory error ⊎ (failed ≡ true)
-IsUnopened failed (unasked.Paths paths.NoMemory) = ⊤
-IsUnopened failed other = ⊥
+abbrev pub IsUnopened : Bool → List (Bor (List ℕ)) → Unasked → Type 0
+IsUnopened failed inputs (unasked.File path error) = Any (λ input. input.now ≡ path.now) inputs × (IsRefusedMemory error ⊎ (failed ≡ true))
+IsUnopened failed inputs (unasked.Paths paths.NoMemory) = ⊤
+IsUnopened failed inputs other = ⊥
 
 -- ---- Both
 
@@ -103,7 +103,7 @@ IsPrintReason place printed failed listing inputs other = ⊥
 -- Why nothing is asked: there is no filter, standard output goes to a file that is read, or a capture is not opened.
 abbrev pub IsUnasked : Places → Texts → Option (List ℕ) → Bool → Option (List ℕ) → Option (List ℕ) → List (Bor (List ℕ)) → Unasked → Type 0
 IsUnasked place text printed failed listing expr inputs reason =
-    IsUngiven place text failed listing expr reason ⊎ IsPrintReason place printed failed listing inputs reason ⊎ IsUnopened failed reason
+    IsUngiven place text failed listing expr reason ⊎ IsPrintReason place printed failed listing inputs reason ⊎ IsUnopened failed inputs reason
 
 -- ---- The exit status
 

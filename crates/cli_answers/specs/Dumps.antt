@@ -34,7 +34,7 @@ unfoldable pub row_text : ℕ → List ℕ → List ℕ
 row_text at bytes =
     9 ∷ offset_text at ++ (digits_text true bytes ++ replicate (40 - length (digits_text true bytes)) 32) ++ codes "  " ++ flat_map shown bytes ++ 10 ∷ []
 
--- so many lines of 16 bytes, from this offset on
+-- this many lines of 16 bytes, from this offset on
 unfoldable pub rows_text : ℕ → ℕ → List ℕ → List ℕ
 rows_text zero at bytes = []
 rows_text (suc rows) at bytes = row_text at (take 16 bytes) ++ rows_text rows (at + 16) (drop 16 bytes)

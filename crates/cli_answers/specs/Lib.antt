@@ -10,3 +10,4 @@ pub mod Seeking
 pub mod Captures
 pub mod Dumps
 pub mod Telling
+pub mod Costs

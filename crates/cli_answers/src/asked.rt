@@ -1,4 +1,5 @@
-//! What a command asks of captures: its filter, and the captures, over files that contracts can know.
+//! What a command asks of captures: its filter, and the captures, over files that contracts can
+//! know.
 
 ghost use Rattle.std.specs.Prelude.{◌≡◌, [], true, Some, None, IfOk, IfErr, IfSome, OnOk, option_copied};
 ghost use Rattle.cli_files.specs.declared.paths.Opening.TheVariants.{First};
@@ -36,6 +37,7 @@ pub struct Asked<I> {
 }
 
 /// The program of the listing at a path.
+#[inline(never)]
 fn filter_of_listing<'p, F: FileStore<'p>>(
     alloc: Global,
     files: &mut F,
@@ -43,6 +45,7 @@ fn filter_of_listing<'p, F: FileStore<'p>>(
 ) -> Result<AskedFilter, Unasked<'p>>
     ensures kept { Keeps (F.place files.old) (F.place files.new) (F.text files.old) (F.text files.new) (F.pending files.old) (F.pending files.new) }
     ensures printed { F.printed files.new ≡ F.printed files.old }
+    ensures opened { F.opened files.new ≡ F.opened files.old }
     ensures given { F.known ≡ true → IfOk result (IsAskedFor (F.place files.old) (F.text files.old) (Some path.entry.now) None) }
     ensures refused { F.known ≡ true → IfErr result (IsUngiven (F.place files.old) (F.text files.old) (F.failed files.new) (Some path.entry.now) None) }
 {
@@ -56,7 +59,8 @@ fn filter_of_listing<'p, F: FileStore<'p>>(
     }
 }
 
-/// The filter of the listing's file, or of the expression; without either that of the empty expression.
+/// The filter of the listing's file, or of the expression; without either that of the empty
+/// expression.
 pub fn read_asked<'p, F: FileStore<'p>>(
     alloc: Global,
     files: &mut F,
@@ -65,6 +69,7 @@ pub fn read_asked<'p, F: FileStore<'p>>(
 ) -> Result<AskedFilter, Unasked<'p>>
     ensures kept { Keeps (F.place files.old) (F.place files.new) (F.text files.old) (F.text files.new) (F.pending files.old) (F.pending files.new) }
     ensures printed { F.printed files.new ≡ F.printed files.old }
+    ensures opened { F.opened files.new ≡ F.opened files.old }
     ensures given { F.known ≡ true → IfOk result (IsAskedFor (F.place files.old) (F.text files.old) (option_copied listing.entry) (option_copied expr.entry)) }
     ensures refused { F.known ≡ true → IfErr result (IsUngiven (F.place files.old) (F.text files.old) (F.failed files.new) (option_copied listing.entry) (option_copied expr.entry)) }
 {
@@ -100,8 +105,8 @@ fn check_listing<'p, F: FileStore<'p>>(
     }
 }
 
-/// Checks that standard output goes to no file that is read: neither the listing nor a capture. A path that leads to no file is left to who
-/// opens it.
+/// Checks that standard output goes to no file that is read: neither the listing nor a capture. A
+/// path that leads to no file is left to who opens it.
 pub fn check_read<'p, F: FileStore<'p>>(
     files: &mut F,
     listing: Option<&'p str>,
@@ -119,7 +124,8 @@ pub fn check_read<'p, F: FileStore<'p>>(
     }
 }
 
-/// Accepts the filter, compares the paths, and opens the captures late, in this order. Nothing is printed.
+/// Accepts the filter, compares the paths, and opens the captures late, in this order. Nothing is
+/// printed.
 pub fn ask<'p, F: FileStore<'p>>(
     alloc: Global,
     files: &mut F,

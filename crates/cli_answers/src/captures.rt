@@ -5,9 +5,31 @@ ghost use Rattle.cli_answers.specs.Captures.{LooksIn, SeeksIn, goes_on, goes_on_
 
 use crate::printing::Unprinted;
 use crate::seek::{PacketTest, Sought, find_first};
+use cli_report::FailureProbe;
 use cli_walk::{Stop, Visited, Visitor, Walk, visit_captures};
 use savefile::{Fault, Source};
 use std::alloc::Global;
+
+/// What printing a line for each packet came to.
+#[derive(Debug, Drop)]
+pub struct LinesEnd<C> {
+    /// What was counted, if all was printed.
+    pub counts: C,
+    /// The capture that ended the reading, if one did, and what was noted of it.
+    pub read: Result<(), Stop>,
+    pub noted: Option<FailureProbe<()>>,
+    /// Whether all was printed.
+    pub printed: Result<(), Unprinted>,
+}
+
+/// What looking for a packet that passes a test came to.
+#[derive(Debug, Drop)]
+pub struct SoughtEnd {
+    /// Whether there is one; or the capture that ended the reading.
+    pub found: Result<bool, Stop>,
+    /// What was noted of that capture.
+    pub noted: Option<FailureProbe<()>>,
+}
 
 /// Whether the next capture is read after one that was read and printed so.
 pub fn goes_on(read: Result<(), Fault>, printed: &Result<(), Unprinted>) -> Result<bool, Fault>
@@ -61,7 +83,8 @@ impl<R: Source, T: PacketTest> Visitor<R, (), ()> for Search<'_, T> {
 /// What looking for a packet in several captures came to.
 #[derive(Debug, Drop)]
 pub struct SoughtCaptures<R> {
-    /// The sources of the captures, in order. Those after the last one that was read are as they were.
+    /// The sources of the captures, in order. Those after the last one that was read are as they
+    /// were.
     pub sources: Vec<R>,
     /// Whether a capture has such a packet; or the capture that could not be read so far.
     pub found: Result<bool, Stop>,
@@ -79,9 +102,10 @@ fn is_found(end: Result<bool, Stop>) -> Result<bool, Stop>
 
 /// Looks for the first packet that passes a test, capture by capture. It prints nothing.
 ///
-/// `found` is `Ok(true)` at that packet, and then no further capture is read; `Ok(false)` if no capture has such a packet; or the first
-/// capture that could not be read to its end, if none before it has one. If memory is refused for the sources, it is [`Fault::NoMemory`] of
-/// capture 0, and none is read.
+/// `found` is `Ok(true)` at that packet, and then no further capture is read; `Ok(false)` if no
+/// capture has such a packet; or the first capture that could not be read to its end, if none
+/// before it has one. If memory is refused for the sources, it is [`Fault::NoMemory`] of capture 0,
+/// and none is read.
 pub fn find_in_captures<R: Source + Drop, T: PacketTest>(
     alloc: Global,
     captures: Vec<R>,

@@ -11,7 +11,8 @@ use cli_watch::frames::FrameCounts;
 use filter_meaning::Verdict;
 use std::io::Write;
 
-/// How many packets a filter was asked, and how many of these it answered Yes, No and Abort; and into how many frames no filter looks.
+/// How many packets a filter was asked, and how many of these it answered Yes, No and Abort; and
+/// into how many frames no filter looks.
 #[derive(Clone, Copy, Debug, PartialEq, Eq)]
 pub struct VerdictCounts {
     pub packets: u64,
@@ -77,7 +78,8 @@ impl VerdictCounts {
     }
 }
 
-/// Prints the counts, and all that the writer has gathered; the line that it is put together in may have any text.
+/// Prints the counts, and all that the writer has gathered; the line that it is put together in may
+/// have any text.
 pub fn print_counts<O: Write>(
     counts: VerdictCounts,
     form: PacketForm,

@@ -113,7 +113,8 @@ fn is_marked(looks: &[Look], at: usize) -> bool
     false
 }
 
-/// How many of the bytes from an offset on end with the last one that a test looked at; 0 if it looked at none of them.
+/// How many of the bytes from an offset on end with the last one that a test looked at; 0 if it
+/// looked at none of them.
 fn marked_until(looks: &[Look], at: usize, count: usize) -> usize
     ensures { looks.now ≡ [] → result ≡ 0 }
 {
@@ -126,7 +127,8 @@ fn marked_until(looks: &[Look], at: usize, count: usize) -> usize
     until
 }
 
-/// Appends carets under the bytes that a test looked at, if it looked at any of this line, whose offset is so wide.
+/// Appends carets under the bytes that a test looked at, if it looked at any of this line, whose
+/// offset is so wide.
 fn put_marks(
     text: &mut String,
     looks: &[Look],

@@ -37,17 +37,17 @@ impl PacketForm {
     }
 }
 
-/// A line that is put together, and what is in one of its strings.
+/// The line of a packet that is put together, and what is in one of its strings.
 #[derive(Drop)]
-pub struct LineBuffer {
+pub struct PacketLine {
     pub line: String,
     pub text: String,
 }
 
-impl LineBuffer {
+impl PacketLine {
     /// An empty line.
-    pub fn new(alloc: Global) -> LineBuffer {
-        LineBuffer {
+    pub fn new(alloc: Global) -> PacketLine {
+        PacketLine {
             line: String::new(alloc),
             text: String::new(alloc),
         }

@@ -3,14 +3,20 @@
 ghost use Rattle.std.specs.Prelude.{◌≡◌, false};
 
 use cli_report::failures::hint_input;
-use cli_report::probe::ProbedInput;
 use cli_report::stream::give_hint;
 use cli_report::{FailureProbe, HintSink};
 use cli_text::report::EscapedPath;
 use cli_walk::Stop;
 use savefile::Fault;
 
-/// Hints on the capture of this number, which was not read to its end, by what was noted of it; if there are several, below its path.
+/// Whether the path of one of several captures comes first, or that of the only one: the line of a
+/// failed device has the path itself, and no file is at fault if memory is refused.
+fn names_path(paths: &[&str], fault: Fault) -> bool {
+    paths.len() > 1 || (fault != Fault::Device && fault != Fault::NoMemory)
+}
+
+/// Hints on the capture of this number, which was not read to its end, by what was noted of it,
+/// below its path.
 pub fn hint_capture<R, E: HintSink>(
     paths: &[&str],
     number: usize,
@@ -20,26 +26,12 @@ pub fn hint_capture<R, E: HintSink>(
 )
     ensures quiet { E.takes_hints err.old ≡ false → err.new ≡ err.old }
 {
-    if paths.len() > 1 {
+    if names_path(paths, fault) {
         if let Some(path) = paths.get(number) {
             give_hint(format_args!("{}:", EscapedPath(*path)), err);
         }
     }
     hint_input(noted, fault, err);
-}
-
-/// Hints on the capture that ended the reading of several; `sources` are those of the captures at these paths.
-pub fn hint_stop<R, E: HintSink>(
-    paths: &[&str],
-    stop: Stop,
-    sources: &[ProbedInput<R>],
-    err: &mut E,
-)
-    ensures quiet { E.takes_hints err.old ≡ false → err.new ≡ err.old }
-{
-    if let Some(source) = sources.get(stop.number) {
-        hint_capture(paths, stop.number, stop.fault, &source.inner, err);
-    }
 }
 
 /// Hints on the capture that ended the reading of several, if one did, by what was noted of it.

@@ -40,7 +40,8 @@ fn put_lengths(line: &mut String, wire: u32, bytes: &[u8]) -> Result<(), AllocEr
     write!(line, "\"length\":{wire},\"captured\":{captured},")
 }
 
-/// Puts where a packet is, its time and its lengths in place of what the line has: the head of an object.
+/// Puts where a packet is, its time and its lengths in place of what the line has: the head of an
+/// object.
 pub fn put_packet(
     line: &mut String,
     capture: usize,
@@ -77,7 +78,8 @@ fn put_cause(line: &mut String, cause: Option<AbortCause>) -> Result<(), AllocEr
     }
 }
 
-/// Appends the primitive or relation that decides, and why it aborted. `text` may have any text, as below.
+/// Appends the primitive or relation that decides, and why it aborted. `text` may have any text, as
+/// below.
 fn put_asked(line: &mut String, text: &mut String, asked: &AskedPart<'_>) -> Result<(), AllocError>
     ensures { OnOk result (string_bytes line.new ≡ string_bytes line.old ++ question_json (question_of asked.now)) }
 {
@@ -162,7 +164,8 @@ fn put_end(
     Ok(verdict)
 }
 
-/// Appends what a filter answers to a packet, and why: the last members of an object. `text` may have any text.
+/// Appends what a filter answers to a packet, and why: the last members of an object. `text` may
+/// have any text.
 pub fn put_answer(
     line: &mut String,
     text: &mut String,

@@ -4,6 +4,7 @@
 pub mod ahead;
 pub mod asked;
 pub mod captures;
+pub mod cost;
 pub mod counts;
 pub mod dump;
 pub mod filter;
@@ -12,7 +13,6 @@ pub mod hints;
 pub mod json;
 pub mod line;
 pub mod opened;
-pub mod plan;
 pub mod printing;
 pub mod report;
 pub mod run_end;

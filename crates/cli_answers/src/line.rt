@@ -70,7 +70,8 @@ fn put_meaning(line: &mut String, expr: &Expr, packet: &PacketRef<'_>) -> Result
     Ok(put_decision(line, expr, packet.bytes, packet.len)?)
 }
 
-/// Appends the number that a program answers, the place where its run ended, and the instruction there.
+/// Appends the number that a program answers, the place where its run ended, and the instruction
+/// there.
 #[tactic(auto, unfolding(crate::specs::Printed::end_text))]
 fn put_number(line: &mut String, number: u32, place: usize, insn: &Insn) -> Result<(), NoMemory>
     ensures { OnOk result (string_bytes line.new ≡ string_bytes line.old ++ end_text number place insn.now) }

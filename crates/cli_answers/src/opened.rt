@@ -20,7 +20,7 @@ pub fn open_captures<'p, F: FileStore<'p>>(
 ) -> Result<Vec<F::Input>, Unasked<'p>>
     ensures kept { Keeps (F.place files.old) (F.place files.new) (F.text files.old) (F.text files.new) (F.pending files.old) (F.pending files.new) }
     ensures captures { F.known ≡ true → IfOk result (λ captures. AllZip (IsCaptureAt F.Input.left F.Input.failures (F.place files.old) (F.text files.old)) paths.now captures.items) }
-    ensures refused { F.known ≡ true → IfErr result (IsUnopened (F.failed files.new)) }
+    ensures refused { F.known ≡ true → IfErr result (IsUnopened (F.failed files.new) paths.now) }
 {
     let Ok(mut captures) = Vec::with_capacity(alloc, paths.len()) else {
         return Err(Unasked::Paths(PathFault::NoMemory));

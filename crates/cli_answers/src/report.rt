@@ -34,8 +34,8 @@ pub fn report_printed<E: FaultSink>(printed: &Result<(), Unprinted>, err: &mut E
     }
 }
 
-/// The fault of the capture of this number, of those at these paths: that a device failed names its path; any other fault has the
-/// number of the capture if there are several.
+/// The fault of the capture of this number, of those at these paths: that a device failed names its
+/// path; any other fault has the number of the capture if there are several.
 fn fault_of<'a>(paths: &[&'a str], number: usize, fault: Fault) -> Report<'a> {
     match paths.get(number) {
         Some(path) if fault == Fault::Device => device(Subject::File(*path)),
@@ -44,8 +44,9 @@ fn fault_of<'a>(paths: &[&'a str], number: usize, fault: Fault) -> Report<'a> {
     }
 }
 
-/// Reports the fault of the capture of this number, of those at these paths: a failed device by its path; any other fault by its name, after
-/// the capture's number if there are several captures, and then its path below that. It answers the exit status.
+/// Reports the fault of the capture of this number, of those at these paths: a failed device by its
+/// path; any other fault by its name, after the capture's number if there are several captures, and
+/// then its path below that. It answers the exit status.
 pub fn report_capture<E: HintSink>(
     paths: &[&str],
     number: usize,
@@ -71,8 +72,8 @@ pub fn report_stop<E: HintSink>(read: Result<(), Stop>, paths: &[&str], err: &mu
     }
 }
 
-/// Reports what was not printed of several captures and then the one that ended the reading, if there are these, and answers the greatest
-/// exit status that applies.
+/// Reports what was not printed of several captures and then the one that ended the reading, if
+/// there are these, and answers the greatest exit status that applies.
 pub fn report_captures<E: HintSink>(
     printed: &Result<(), Unprinted>,
     read: Result<(), Stop>,

@@ -7,7 +7,8 @@ use bpfvm::{Insn, Program, code, run_to_end};
 use filter_meaning::Verdict;
 use savefile::PacketRef;
 
-/// What an answer of a program counts as whose run ended with this instruction: a run that no return ended is an Abort.
+/// What an answer of a program counts as whose run ended with this instruction: a run that no
+/// return ended is an Abort.
 pub fn ended_as(insn: &Insn, answer: u32) -> Verdict
     ensures { result ≡ ended_as insn.now answer }
 {

@@ -24,7 +24,8 @@ pub trait PacketTest {
         ensures { result ≡ passed self.now packet.now };
 }
 
-/// A packet passes if the filter accepts it: its expression answers Yes, or its program returns a number other than 0.
+/// A packet passes if the filter accepts it: its expression answers Yes, or its program returns a
+/// number other than 0.
 impl PacketTest for AskedFilter {
     ghost passed = { λ filter p. accepts filter p };
 
@@ -49,9 +50,10 @@ pub struct Sought<R> {
 
 /// Looks for the first packet of a capture that passes a test. It prints nothing.
 ///
-/// `found` is `Ok(true)` at that packet, and then no further one is read; `Ok(false)` if the capture ends without one; or the fault
-/// that comes before one: the header's, that of a torn or bad record, or [`Fault::Device`], exactly if the source failed. With
-/// [`Fault::NoMemory`] the source is as it was.
+/// `found` is `Ok(true)` at that packet, and then no further one is read; `Ok(false)` if the
+/// capture ends without one; or the fault that comes before one: the header's, that of a torn or
+/// bad record, or [`Fault::Device`], exactly if the source failed. With [`Fault::NoMemory`] the
+/// source is as it was.
 pub fn find_first<R: Source, T: PacketTest>(alloc: Global, from: R, test: &T) -> Sought<R>
     // Whether there is such a packet.
     ensures seeks { Seeks R.left from (T.passed test.now) result }

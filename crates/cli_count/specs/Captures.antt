@@ -1,6 +1,7 @@
 -- Several captures whose packets are counted, or in which one is looked for, in order up to the first fault.
 use Rattle.std.specs.Prelude.{◌≡◌, ℕ, ◌||◌, Bool, true, false, List, Option, Some, None, Result, Ok, Err, slice_get}
 use Rattle.std.specs.Borrow.{Bor}
+use Rattle.bpfvm.specs.declared.fault.NoMemory.{NoMemory}
 use Rattle.savefile.specs.declared.fault.Fault.{Fault}
 use Rattle.savefile.specs.declared.packet.Packet.{Packet}
 use Rattle.line_text.specs.declared.form.LineForm.{LineForm}
@@ -10,13 +11,14 @@ use Rattle.cli_walk.specs.declared.walk.Visited.{Visited}
 use Rattle.cli_walk.specs.Walking.{Walked, visited}
 use Rattle.cli_answers.specs.declared.counts.VerdictCounts.{VerdictCounts}
 use Rattle.cli_answers.specs.declared.printing.Unprinted.{Unprinted}
+use Rattle.cli_answers.specs.declared.printing.Unprinted.TheVariants as unprinted
 use Rattle.cli_answers.specs.declared.seek.Sought.{Sought}
 use Rattle.cli_answers.specs.Captures.{goes_on, read_of}
-use Rattle.cli_answers.specs.Counts.{no_counts, plus}
+use Rattle.cli_answers.specs.Counts.{no_counts, plus, sum_of}
 use Rattle.cli_answers.specs.Seeking.{Seeks}
 use Rattle.cli_count.specs.declared.captures.CountTotals.{CountTotals}
 use Rattle.cli_count.specs.declared.captures.CountedCaptures.{CountedCaptures}
-use Rattle.cli_count.specs.declared.count.Counted.{Counted}
+use Rattle.cli_count.specs.declared.count.CountEnd.{CountEnd}
 use Rattle.cli_count.specs.declared.filter.CountedFilter.{CountedFilter}
 use Rattle.cli_count.specs.declared.list.ListTotals.{ListTotals}
 use Rattle.cli_count.specs.declared.list.ListedCaptures.{ListedCaptures}
@@ -32,26 +34,36 @@ Shows None old new (Err unprinted) = ⊥
 -- ---- Counts
 
 -- the counts are printed of the capture at a path whose header was read, if they are asked for
-abbrev pub shown_counts : Bool → LineForm → Option (Bor (List ℕ)) → Bool → VerdictCounts → Option (List ℕ)
-shown_counts true form (Some path) true counts = Some (count_line form path.now counts)
-shown_counts asked form path opened counts = None
+abbrev pub shown_counts : Bool → LineForm → Option (Bor (List ℕ)) → Bool → VerdictCounts → Option ℕ → Option (List ℕ)
+shown_counts true form (Some path) true counts taken = Some (count_line form path.now counts taken)
+shown_counts asked form path opened counts taken = None
+
+-- the counts of a capture were printed so, or memory was refused to count instructions
+abbrev pub ShowsCounts : {A : Type 0} → Bool → LineForm → Option (Bor (List ℕ)) → Bool → VerdictCounts → Result (Option ℕ) NoMemory → Option (List ℕ) → Option (List ℕ) → Result A Unprinted → Type 0
+ShowsCounts asked form path opened counts (Ok taken) old new printed = Shows (shown_counts asked form path opened counts taken) old new printed
+ShowsCounts asked form path opened counts (Err refused) old new printed = (printed ≡ Err unprinted.NoMemory) × (new ≡ old)
+
+-- the instructions that were counted, if they were
+abbrev pub taken_or_none : Result (Option ℕ) NoMemory → ℕ
+taken_or_none (Ok (Some n)) = n
+taken_or_none other = 0
 
 -- no capture was read so far
 abbrev pub no_totals : CountTotals
-no_totals = record { opened = false; counts = no_counts; printed = Ok tt }
+no_totals = record { opened = false; counts = no_counts; instructions = 0; printed = Ok tt }
 
 -- The packets of the capture of this number were counted, and added to those so far; and what is asked for was printed after its path.
-abbrev pub CountsNext : {R : Type 0} → (R → Option (List ℕ)) → Bool → LineForm → List (Bor (List ℕ)) → CountedFilter → ℕ → CountTotals → Option (List ℕ) → R → Visited R → CountTotals → Option (List ℕ) → Type 0
-CountsNext {R = R} left asked form paths f n t old from v t' new =
-    (c : Counted R) × Counts left from f c × (v ≡ visited c.source (goes_on c.read t'.printed))
-    × Shows (shown_counts asked form (slice_get paths n) c.opened c.counts) old new t'.printed
-    × (t'.opened ≡ (t.opened || c.opened)) × (t'.counts ≡ plus t.counts c.counts)
+abbrev pub CountsNext : {R : Type 0} → (R → Option (List ℕ)) → Bool → LineForm → List (Bor (List ℕ)) → CountedFilter → Bool → ℕ → CountTotals → Option (List ℕ) → R → Visited R → CountTotals → Option (List ℕ) → Type 0
+CountsNext {R = R} left asked form paths f measured n t old from v t' new =
+    (c : CountEnd R) × Counts left from f measured c × (v ≡ visited c.source (goes_on c.read t'.printed))
+    × ShowsCounts asked form (slice_get paths n) c.opened c.counts c.taken old new t'.printed
+    × (t'.opened ≡ (t.opened || c.opened)) × (t'.counts ≡ plus t.counts c.counts) × (t'.instructions ≡ sum_of t.instructions (taken_or_none c.taken))
 
 -- The packets of these captures were counted, one capture after the other, until a fault ended one, or the printing failed.
-abbrev pub CountsIn : {R O : Type 0} → (R → Option (List ℕ)) → (R → ℕ) → (O → Option (List ℕ)) → Bool → LineForm → List (Bor (List ℕ)) → CountedFilter → List R → O → O → CountedCaptures R → Type 0
-CountsIn left failures contents asked form paths f captures old new end =
+abbrev pub CountsIn : {R O : Type 0} → (R → Option (List ℕ)) → (R → ℕ) → (O → Option (List ℕ)) → Bool → LineForm → List (Bor (List ℕ)) → CountedFilter → Bool → List R → O → O → CountedCaptures R → Type 0
+CountsIn left failures contents asked form paths f measured captures old new end =
     (ended : Result Bool Stop) × (end.read ≡ read_of ended)
-    × Walked left failures (λ n t o from v t' o'. CountsNext left asked form paths f n t (contents o) from v t' (contents o')) captures end.sources.items no_totals old end.totals new ended
+    × Walked left failures (λ n t o from v t' o'. CountsNext left asked form paths f measured n t (contents o) from v t' (contents o')) captures end.sources.items no_totals old end.totals new ended
 
 -- ---- Paths
 

@@ -5,6 +5,7 @@ ghost use Rattle.cli_store.specs.Files.{Keeps};
 
 use crate::captures::{CountJob, CountTotals, CountedCaptures, count_captures};
 use crate::filter::CountedFilter;
+use crate::line::print_sum_object;
 use crate::list::{ListJob, ListedCaptures, list_captures};
 use crate::report::{report_counts, report_listed};
 use cli_answers::PacketForm;
@@ -38,9 +39,15 @@ struct Job<'w, 'a, I> {
     captures: Vec<I>,
 }
 
-/// Whether it is reported into how many frames the expression does not look: where counts are printed.
+/// Whether it is reported into how many frames the expression does not look: if counts are
+/// printed.
 fn counts_frames(words: &CountWords<'_>) -> bool {
     words.shown == CountShown::Counts && words.expr.is_some_and(is_asked)
+}
+
+/// Whether instructions are counted: in JSON alone, since counting them takes time.
+fn counts_instructions(words: &CountWords<'_>) -> bool {
+    words.json && words.shown == CountShown::Counts
 }
 
 /// Accepts the filter, compares the paths, and opens the captures late, in this order.
@@ -67,20 +74,34 @@ fn prepare<'w, 'p, F: FileStore<'p>>(
     }
 }
 
-/// Prints the sum of the counts of several captures, if a header was read, and all that the writer has gathered.
+/// Prints the sum of the counts of several captures, if a header was read, and all that the writer
+/// has gathered.
 fn finish_counts<O: Write>(
     alloc: Global,
     words: &CountWords<'_>,
+    has_program: bool,
     totals: CountTotals,
     out: &mut O,
 ) -> Result<(), Unprinted> {
     totals.printed?;
     let is_summed = words.inputs.len() > 1 && words.shown == CountShown::Counts;
-    if totals.opened && is_summed {
-        let form = PacketForm::asked(words.json);
-        return print_counts(totals.counts, form, &mut String::new(alloc), out);
+    if !totals.opened || !is_summed {
+        return Ok(out.flush()?);
     }
-    Ok(out.flush()?)
+    if words.json {
+        let taken = if has_program {
+            Some(totals.instructions)
+        } else {
+            None
+        };
+        return print_sum_object(alloc, totals.counts, taken, out);
+    }
+    print_counts(
+        totals.counts,
+        PacketForm::Text,
+        &mut String::new(alloc),
+        out,
+    )
 }
 
 /// Counts the packets, prints the counts if they are asked for, and reports how that ended.
@@ -102,6 +123,7 @@ fn count_all<'p, F: FileStore<'p>, O: Write, E: HintSink>(
     let counting = CountJob {
         alloc,
         filter: &filter,
+        is_measured: counts_instructions(words),
         paths,
         is_shown: words.shown == CountShown::Counts,
         form: LineForm::asked(words.json),
@@ -113,7 +135,7 @@ fn count_all<'p, F: FileStore<'p>, O: Write, E: HintSink>(
     } = count_captures(&counting, captures, out);
     let noted = close_captures(files, sources, read);
     let (accepted, frames) = (totals.counts.yes, totals.counts.frames());
-    let printed = finish_counts(alloc, words, totals, out);
+    let printed = finish_counts(alloc, words, filter.has_program(), totals, out);
     let status = report_counts(&printed, read, accepted, words.bounds, paths, err);
     hint_ended(paths, read, &noted, err);
     if counts_frames(words) {
@@ -159,8 +181,9 @@ fn list_all<'p, F: FileStore<'p>, O: Write, E: HintSink>(
     status
 }
 
-/// `bpftap explain` with `-c`, `-l`, or a bound, whatever the files are: the filter is accepted and the paths are compared before a capture is
-/// opened, and no capture is the file that is printed to. No file changes.
+/// `bpftap explain` with `-c`, `-l`, or a bound, whatever the files are: the filter is accepted and
+/// the paths are compared before a capture is opened, and no capture is the file that is printed
+/// to. No file changes.
 pub fn count_and_report<'p, F: FileStore<'p>, O: Write, E: HintSink>(
     alloc: Global,
     files: &mut F,

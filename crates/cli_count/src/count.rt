@@ -1,39 +1,54 @@
 //! How many packets of a capture a filter accepts: the function under `bpftap explain -c`.
 
-ghost use Rattle.std.specs.Prelude.{◌≡◌, ◌≢◌, ◌↔◌, ℕ, List, [], Option, Err};
+ghost use Rattle.std.specs.Prelude.{◌≡◌, ◌≢◌, ◌↔◌, ◌++◌, ◌∷◌, ℕ, List, [], true, Option, Some, Ok, Err};
 ghost use Rattle.std.specs.Io.KnownBytes.{Consumes};
 ghost use Rattle.savefile.specs.declared.header.Header.{Header};
+ghost use Rattle.savefile.specs.declared.packet.Packet.{Packet as Frame};
 ghost use Rattle.savefile.specs.Reader.{HasGiven};
 ghost use Rattle.cli_answers.specs.Counts.{no_counts};
-ghost use Rattle.cli_count.specs.Counting.{Counts, CountsTo};
+ghost use Rattle.cli_count.specs.Counting.{Counts, CountsTo, IsTaken, measured};
 
 use crate::filter::CountedFilter;
+use bpfvm::{NoMemory, Program};
+use cli_answers::AskedFilter;
+use cli_answers::cost::instructions_of;
 use cli_answers::counts::VerdictCounts;
 use cli_watch::frames::is_unseen;
 use filter_meaning::Verdict;
-use savefile::{Fault, Reader, Source};
+use savefile::{Fault, PacketRef, Reader, Source};
 use std::alloc::Global;
 
 /// How many packets of a capture a filter accepts.
 #[derive(Debug, Drop)]
-pub struct Counted<R> {
+pub struct CountEnd<R> {
     pub source: R,
     /// Whether the header was read.
     pub opened: bool,
     /// Of all packets, or of those before the fault.
     pub counts: VerdictCounts,
+    /// How many instructions the program took for these packets, if that was asked for and there is
+    /// one; or that memory was refused to count them.
+    pub taken: Result<Option<u64>, NoMemory>,
     /// The fault that ended the capture, if one did.
     pub read: Result<(), Fault>,
 }
 
-/// Counts what a filter answers to the packets of a capture. It takes the memory of a reader, however long the capture is.
+/// Counts what a filter answers to the packets of a capture, and if that is asked for how many
+/// instructions its program takes for them. It takes the memory of a reader and of a run, however long the
+/// capture is.
 ///
-/// `read` has the fault: that of the header, and then no packet was read; with [`Fault::NoMemory`] the source is as it was too; that of the
-/// first torn or bad record, by its place; [`Fault::Device`] if and only if the source failed; or [`Fault::CountFull`] after 2^64 - 1
+/// `read` has the fault: that of the header, and then no packet was read; with [`Fault::NoMemory`]
+/// the source is as it was too; that of the first torn or bad record, by its place;
+/// [`Fault::Device`] if and only if the source failed; or [`Fault::CountFull`] after 2^64 - 1
 /// packets.
-pub fn count_packets<R: Source>(alloc: Global, from: R, filter: &CountedFilter) -> Counted<R>
+pub fn count_packets<R: Source>(
+    alloc: Global,
+    from: R,
+    filter: &CountedFilter,
+    is_measured: bool,
+) -> CountEnd<R>
     // What was counted, and how the reading ended.
-    ensures counts { Counts R.left from filter.now result }
+    ensures counts { Counts R.left from filter.now is_measured result }
 
     // The next bytes of the source are taken, and its fault is reported exactly if it failed.
     ensures gave { (given : List ℕ) × Consumes (R.left from) (R.left result.source) given }
@@ -43,46 +58,152 @@ pub fn count_packets<R: Source>(alloc: Global, from: R, filter: &CountedFilter) 
     let mut reader = match Reader::open(alloc, from) {
         Ok(reader) => reader,
         Err((source, fault)) => {
-            return Counted {
+            return CountEnd {
                 source,
                 opened: false,
                 counts,
+                taken: Ok(None),
                 read: Err(fault),
             };
         }
     };
-    let read = count_all(&mut reader, filter, &mut counts);
-    Counted {
+    let Answered { taken, read } = count_all(alloc, &mut reader, filter, is_measured, &mut counts);
+    CountEnd {
         source: reader.close(),
         opened: true,
         counts,
+        taken,
         read,
     }
 }
 
-/// Counts what a filter answers to all packets of a capture.
+/// The instructions that a program took so far, if they were counted, and those for one packet
+/// more.
+fn taken_after(
+    alloc: Global,
+    program: &Program,
+    packet: &PacketRef<'_>,
+    before: Option<u64>,
+) -> Result<Option<u64>, NoMemory>
+    ensures { (packets : List Frame) → IsTaken (Some program.now) packets (Ok before) → IsTaken (Some program.now) (packets ++ packet.now ∷ []) result }
+{
+    let Some(before) = before else {
+        return Ok(None);
+    };
+    match instructions_of(alloc, program, packet) {
+        Ok(instructions) => Ok(Some(before.saturating_add(instructions))),
+        Err(NoMemory) => Err(NoMemory),
+    }
+}
+
+/// The instructions that a program took so far, and those for one packet more.
+fn taken_by(
+    alloc: Global,
+    program: &Program,
+    packet: &PacketRef<'_>,
+    before: Result<Option<u64>, NoMemory>,
+) -> Result<Option<u64>, NoMemory>
+    ensures { (packets : List Frame) → IsTaken (Some program.now) packets before → IsTaken (Some program.now) (packets ++ packet.now ∷ []) result }
+{
+    match before {
+        Ok(before) => taken_after(alloc, program, packet, before),
+        Err(NoMemory) => Err(NoMemory),
+    }
+}
+
+/// The instructions that a filter's own program took so far, and those for one packet more, if it
+/// has one.
+fn taken_asked(
+    alloc: Global,
+    filter: &AskedFilter,
+    packet: &PacketRef<'_>,
+    before: Result<Option<u64>, NoMemory>,
+) -> Result<Option<u64>, NoMemory>
+    ensures { (packets : List Frame) → IsTaken (measured true (CountedFilter.Asked filter.now)) packets before →
+        IsTaken (measured true (CountedFilter.Asked filter.now)) (packets ++ packet.now ∷ []) result }
+{
+    match filter {
+        AskedFilter::Program(program) => taken_by(alloc, program, packet, before),
+        AskedFilter::Expression(_) => before,
+    }
+}
+
+/// The instructions that the program of a filter took so far, and those for one packet more, if
+/// they are counted.
+#[inline(always)]
+fn taken_with(
+    alloc: Global,
+    filter: &CountedFilter,
+    is_measured: bool,
+    packet: &PacketRef<'_>,
+    before: Result<Option<u64>, NoMemory>,
+) -> Result<Option<u64>, NoMemory>
+    ensures { (packets : List Frame) → IsTaken (measured is_measured filter.now) packets before → IsTaken (measured is_measured filter.now) (packets ++ packet.now ∷ []) result }
+{
+    if !is_measured {
+        return before;
+    }
+    match filter {
+        CountedFilter::Programs(accepting, _) => taken_by(alloc, accepting, packet, before),
+        CountedFilter::Asked(filter) => taken_asked(alloc, filter, packet, before),
+    }
+}
+
+/// What is counted of no packet.
+fn nothing_taken(filter: &CountedFilter, is_measured: bool) -> Result<Option<u64>, NoMemory>
+    ensures { IsTaken (measured is_measured filter.now) [] result }
+{
+    if !is_measured {
+        return Ok(None);
+    }
+    match filter {
+        CountedFilter::Programs(_, _) => Ok(Some(0)),
+        CountedFilter::Asked(AskedFilter::Program(_)) => Ok(Some(0)),
+        CountedFilter::Asked(AskedFilter::Expression(_)) => Ok(None),
+    }
+}
+
+/// How counting the packets of a reader ended.
+struct Answered {
+    taken: Result<Option<u64>, NoMemory>,
+    read: Result<(), Fault>,
+}
+
+/// Counts what a filter answers to all packets of a capture, and the instructions of its program.
 fn count_all<R: Source>(
+    alloc: Global,
     reader: &mut Reader<R>,
     filter: &CountedFilter,
+    is_measured: bool,
     counts: &mut VerdictCounts,
-) -> Result<(), Fault>
+) -> Answered
     requires { counts.now ≡ no_counts }
     ensures counts { (from : Option (List ℕ)) (header : Header) → HasGiven R.left from header [] reader.old →
-        CountsTo from (R.left reader.new.source) header filter.now counts.new result }
+        CountsTo from (R.left reader.new.source) header filter.now is_measured counts.new result.taken result.read }
     ensures taken { (bytes : List ℕ) × Consumes (R.left reader.old.source) (R.left reader.new.source) bytes }
-    ensures source_broke { (result ≡ Err Fault.Device) ↔ (R.failures reader.new.source ≢ R.failures reader.old.source) }
+    ensures source_broke { (result.read ≡ Err Fault.Device) ↔ (R.failures reader.new.source ≢ R.failures reader.old.source) }
 {
     // Packets that come after one another are mostly answered alike.
     let mut likely = Verdict::No;
+    let mut charged = nothing_taken(filter, is_measured);
     loop {
         match reader.advance() {
             Ok(true) => {
                 let packet = reader.packet();
                 likely = filter.judge(&packet, likely);
+                charged = taken_with(alloc, filter, is_measured, &packet, charged);
                 counts.count(likely, is_unseen(packet.bytes));
             }
-            Ok(false) => return Ok(()),
-            Err(fault) => return Err(fault),
+            Ok(false) => return Answered {
+                taken: charged,
+                read: Ok(()),
+            },
+            Err(fault) => {
+                return Answered {
+                    taken: charged,
+                    read: Err(fault),
+                };
+            }
         }
     }
 }

@@ -20,7 +20,8 @@ const SNAP: u32 = 1;
 /// A filter whose answers are counted.
 #[derive(Drop)]
 pub enum CountedFilter {
-    /// The two programs of an expression: the first accepts what the expression answers Yes to, the second what it answers No to.
+    /// The two programs of an expression: the first accepts what the expression answers Yes to, the
+    /// second what it answers No to.
     Programs(Program, Program),
     /// A filter that is asked itself: a program, or an expression without one.
     Asked(AskedFilter),
@@ -33,8 +34,8 @@ fn program_accepts(program: &Program, packet: &PacketRef<'_>) -> bool
     run(program, packet.bytes, packet.len) > 0
 }
 
-/// What two programs answer, of which the first accepts what is answered Yes, and the second what is answered No. The one that `likely` names
-/// is asked first.
+/// What two programs answer, of which the first accepts what is answered Yes, and the second what
+/// is answered No. The one that `likely` names is asked first.
 fn judge_by_two(
     accepting: &Program,
     rejecting: &Program,
@@ -54,8 +55,8 @@ fn judge_by_two(
     }
 }
 
-/// The filter of an expression. If the expression and its negation have programs, these answer in its place: only so No and Abort are told
-/// apart.
+/// The filter of an expression. If the expression and its negation have programs, these answer in
+/// its place: only both together distinguish No from Abort.
 fn of_expression(alloc: Global, expr: Expr) -> Result<CountedFilter, AllocError>
     ensures { IfOk result (StandsFor (Expression expr)) }
 {
@@ -73,7 +74,8 @@ fn of_expression(alloc: Global, expr: Expr) -> Result<CountedFilter, AllocError>
 }
 
 impl CountedFilter {
-    /// The filter that answers every packet as this one does. It is faster for an expression that has a program.
+    /// The filter that answers every packet as this one does. It is faster for an expression that
+    /// has a program.
     pub fn of(alloc: Global, filter: AskedFilter) -> Result<CountedFilter, AllocError>
         ensures { IfOk result (StandsFor filter) }
     {
@@ -85,8 +87,16 @@ impl CountedFilter {
         }
     }
 
-    /// What the filter answers to a packet: an expression by its meaning, a program by the end of its run. `likely` is what it may answer;
-    /// the call is faster if it does.
+    /// Whether a program is asked, and not an expression itself.
+    pub(crate) fn has_program(&self) -> bool {
+        match self {
+            CountedFilter::Programs(_, _) | CountedFilter::Asked(AskedFilter::Program(_)) => true,
+            CountedFilter::Asked(AskedFilter::Expression(_)) => false,
+        }
+    }
+
+    /// What the filter answers to a packet: an expression by its meaning, a program by the end of
+    /// its run. `likely` is what it may answer; the call is faster if it does.
     pub fn judge(&self, packet: &PacketRef<'_>, likely: Verdict) -> Verdict
         ensures { Answers self.now packet.now result }
     {

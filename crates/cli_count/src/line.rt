@@ -2,10 +2,10 @@
 
 ghost use Rattle.std.specs.Prelude.{◌≡◌, ◌++◌, IfOk, OnOk, Some, string_bytes};
 ghost use Rattle.line_text.specs.Sending.{Takes};
-ghost use Rattle.cli_count.specs.Lines.{count_json, count_line, count_text, counts_json, member_json, path_json, path_line};
+ghost use Rattle.cli_count.specs.Lines.{count_json, count_line, count_text, counts_json, member_json, packets_json, path_json, path_line, sum_json, taken_json, verdicts_json};
 
 use cli_answers::counts::VerdictCounts;
-use cli_answers::printing::Unprinted;
+use cli_answers::printing::{Unprinted, send_last};
 use line_text::sending::send;
 use line_text::{LineForm, put_string};
 use std::alloc::{AllocError, Global};
@@ -30,23 +30,48 @@ fn put_member(line: &mut String, name: &str, number: u64) -> Result<(), AllocErr
     write!(line, "\":{number}")
 }
 
-/// Appends the counts as members of an object.
-fn put_counts(line: &mut String, counts: VerdictCounts) -> Result<(), AllocError>
-    ensures { OnOk result (string_bytes line.new ≡ string_bytes line.old ++ counts_json counts) }
+/// Appends how many packets were answered so, as members of an object.
+#[tactic(auto, unfolding(crate::specs::Lines::verdicts_json))]
+fn put_verdicts(line: &mut String, counts: VerdictCounts) -> Result<(), AllocError>
+    ensures { OnOk result (string_bytes line.new ≡ string_bytes line.old ++ verdicts_json counts) }
 {
-    put_member(line, "packets", counts.packets)?;
     put_member(line, "yes", counts.yes)?;
     put_member(line, "no", counts.no)?;
     put_member(line, "abort", counts.abort)
 }
 
+/// Appends the counts as members of an object.
+fn put_counts(line: &mut String, counts: VerdictCounts) -> Result<(), AllocError>
+    ensures { OnOk result (string_bytes line.new ≡ string_bytes line.old ++ counts_json counts) }
+{
+    put_member(line, "packets", counts.packets)?;
+    put_verdicts(line, counts)
+}
+
+/// Appends how many instructions a program took, as a member of an object; `null` if there is no
+/// program.
+fn put_taken(line: &mut String, taken: Option<u64>) -> Result<(), AllocError>
+    ensures { OnOk result (string_bytes line.new ≡ string_bytes line.old ++ taken_json taken) }
+{
+    match taken {
+        Some(taken) => put_member(line, "instructions", taken),
+        None => line.push_str(",\"instructions\":null"),
+    }
+}
+
 /// Appends the counts of the capture at a path, as an object.
-fn put_count_object(line: &mut String, path: &str, counts: VerdictCounts) -> Result<(), AllocError>
-    ensures { OnOk result (string_bytes line.new ≡ string_bytes line.old ++ count_json path.now counts) }
+fn put_count_object(
+    line: &mut String,
+    path: &str,
+    counts: VerdictCounts,
+    taken: Option<u64>,
+) -> Result<(), AllocError>
+    ensures { OnOk result (string_bytes line.new ≡ string_bytes line.old ++ count_json path.now counts taken) }
 {
     line.push_str("{\"file\":")?;
     put_string(line, path)?;
     put_counts(line, counts)?;
+    put_taken(line, taken)?;
     line.push_str("}\n")
 }
 
@@ -55,14 +80,15 @@ fn count_line(
     alloc: Global,
     path: &str,
     counts: VerdictCounts,
+    taken: Option<u64>,
     form: LineForm,
 ) -> Result<String, AllocError>
-    ensures { IfOk result (λ line. string_bytes line ≡ count_line form path.now counts) }
+    ensures { IfOk result (λ line. string_bytes line ≡ count_line form path.now counts taken) }
 {
     let mut line = String::new(alloc);
     match form {
         LineForm::Text => put_count_text(&mut line, path, counts)?,
-        LineForm::Json => put_count_object(&mut line, path, counts)?,
+        LineForm::Json => put_count_object(&mut line, path, counts, taken)?,
     }
     Ok(line)
 }
@@ -92,19 +118,61 @@ fn path_line(alloc: Global, path: &str, form: LineForm) -> Result<String, AllocE
     Ok(line)
 }
 
-/// Prints the counts of the capture at a path: `a.pcap 253 packets: 67 Yes, 186 No, 0 Abort`, or in JSON
-/// `{"file":"a.pcap","packets":253,"yes":67,"no":186,"abort":0}`, on one line.
+/// Prints the counts of the capture at a path: `a.pcap 253 packets: 67 Yes, 186 No, 0 Abort`, or in
+/// JSON `{"file":"a.pcap","packets":253,"yes":67,"no":186,"abort":0,"instructions":1692}`, on one
+/// line.
 pub(crate) fn print_count<O: Write>(
     alloc: Global,
     path: &str,
     counts: VerdictCounts,
+    taken: Option<u64>,
     form: LineForm,
     out: &mut O,
 ) -> Result<(), Unprinted>
-    ensures { Takes (O.contents out.old) (O.contents out.new) result (count_line form path.now counts) }
+    ensures { Takes (O.contents out.old) (O.contents out.new) result (count_line form path.now counts taken) }
 {
-    match count_line(alloc, path, counts, form) {
+    match count_line(alloc, path, counts, taken, form) {
         Ok(line) => Ok(send(line.as_bytes(), out)?),
+        Err(AllocError) => Err(Unprinted::NoMemory),
+    }
+}
+
+/// Appends how many packets there were, as the first member of an object.
+#[tactic(auto, unfolding(crate::specs::Lines::packets_json))]
+fn put_packets(line: &mut String, packets: u64) -> Result<(), AllocError>
+    ensures { OnOk result (string_bytes line.new ≡ string_bytes line.old ++ packets_json packets) }
+{
+    write!(line, "{{\"packets\":{packets}")
+}
+
+/// Appends the counts of several captures, as an object.
+fn put_sum_object(
+    line: &mut String,
+    counts: VerdictCounts,
+    taken: Option<u64>,
+) -> Result<(), AllocError>
+    ensures { OnOk result (string_bytes line.new ≡ string_bytes line.old ++ sum_json counts taken) }
+{
+    put_packets(line, counts.packets)?;
+    put_verdicts(line, counts)?;
+    put_taken(line, taken)?;
+    line.push_str("}\n")
+}
+
+/// Prints the counts of several captures as an object:
+/// `{"packets":253,"yes":67,"no":186,"abort":0,"instructions":1692}`, on one line, and flushes the
+/// writer.
+pub(crate) fn print_sum_object<O: Write>(
+    alloc: Global,
+    counts: VerdictCounts,
+    taken: Option<u64>,
+    out: &mut O,
+) -> Result<(), Unprinted>
+    ensures { Takes (O.contents out.old) (O.contents out.new) result (sum_json counts taken) }
+{
+    let mut line = String::new(alloc);
+    match put_sum_object(&mut line, counts, taken) {
+        Ok(()) => Ok(send_last(line.as_bytes(), out)?),
         Err(AllocError) => Err(Unprinted::NoMemory),
     }
 }

@@ -36,7 +36,8 @@ pub struct ListTotals {
 /// What looking for a packet in each of several captures came to.
 #[derive(Debug, Drop)]
 pub struct ListedCaptures<R> {
-    /// The sources of the captures, in order. Those after the last one that was read are as they were.
+    /// The sources of the captures, in order. Those after the last one that was read are as they
+    /// were.
     pub sources: Vec<R>,
     pub totals: ListTotals,
     /// The capture that ended the reading, if one did.
@@ -92,11 +93,12 @@ impl<R: Source, O: Write, T: PacketTest> Visitor<R, ListTotals, O> for ListJob<'
     }
 }
 
-/// Looks in each of several captures, in order, for a packet that passes a test, and prints the path of each that has one. A capture is read
-/// up to its first such packet.
+/// Looks in each of several captures, in order, for a packet that passes a test, and prints the
+/// path of each that has one. A capture is read up to its first such packet.
 ///
-/// The first fault ends the reading. If `printed` of the totals has a fault, `read` is `Ok`, since no further capture was read. If memory is
-/// refused for the sources, `read` is [`Fault::NoMemory`] of capture 0, and none is read.
+/// The first fault ends the reading. If `printed` of the totals has a fault, `read` is `Ok`, since
+/// no further capture was read. If memory is refused for the sources, `read` is [`Fault::NoMemory`]
+/// of capture 0, and none is read.
 pub fn list_captures<R: Source + Drop, O: Write, T: PacketTest>(
     job: &ListJob<'_, '_, '_, T>,
     captures: Vec<R>,

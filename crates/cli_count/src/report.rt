@@ -12,7 +12,8 @@ use cli_report::HintSink;
 use cli_text::Status;
 use cli_walk::Stop;
 
-/// The exit status of captures of which N packets are accepted; without bounds it is [`Status::Clean`].
+/// The exit status of captures of which N packets are accepted; without bounds it is
+/// [`Status::Clean`].
 fn bounds_status(bounds: Option<CountBounds>, accepted: u64) -> Status
     ensures { result ≡ bounds_status bounds accepted }
 {
@@ -33,8 +34,9 @@ fn listed_status(found: bool) -> Status
     }
 }
 
-/// Reports what was not printed and then the capture that ended the reading, if there are these, and returns the greatest exit status that
-/// applies: [`Status::Negative`] if the number of accepted packets is not within the bounds.
+/// Reports what was not printed and then the capture that ended the reading, if there are these,
+/// and returns the greatest exit status that applies: [`Status::Negative`] if the number of
+/// accepted packets is not within the bounds.
 pub fn report_counts<E: HintSink>(
     printed: &Result<(), Unprinted>,
     read: Result<(), Stop>,
@@ -49,8 +51,9 @@ pub fn report_counts<E: HintSink>(
     status.max(bounds_status(bounds, accepted))
 }
 
-/// Reports what was not printed and then the capture that ended the reading, if there are these, and returns the greatest exit status that
-/// applies: [`Status::Negative`] if no capture has an accepted packet.
+/// Reports what was not printed and then the capture that ended the reading, if there are these,
+/// and returns the greatest exit status that applies: [`Status::Negative`] if no capture has an
+/// accepted packet.
 pub fn report_listed<E: HintSink>(
     printed: &Result<(), Unprinted>,
     read: Result<(), Stop>,

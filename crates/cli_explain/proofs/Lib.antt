@@ -3,3 +3,4 @@ pub mod Printing
 pub mod Ranging
 pub mod Visits
 pub mod Stopping
+pub mod InFull

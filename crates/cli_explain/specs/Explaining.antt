@@ -12,7 +12,10 @@ use Rattle.cli_args.specs.declared.explain.ExplainWords.{ExplainWords}
 use Rattle.cli_args.specs.declared.places.PlaceRange.{PlaceRange}
 use Rattle.cli_answers.specs.declared.asked.Asked.{Asked}
 use Rattle.cli_answers.specs.declared.asked.Unasked.{Unasked}
+use Rattle.cli_answers.specs.declared.captures.LinesEnd.{LinesEnd}
 use Rattle.cli_answers.specs.declared.captures.SoughtCaptures.{SoughtCaptures}
+use Rattle.cli_answers.specs.declared.captures.SoughtEnd.{SoughtEnd}
+use Rattle.cli_answers.specs.declared.counts.VerdictCounts.{VerdictCounts}
 use Rattle.cli_answers.specs.declared.filter.AskedFilter.{AskedFilter}
 use Rattle.cli_answers.specs.declared.form.PacketForm.{PacketForm}
 use Rattle.cli_answers.specs.declared.printing.Unprinted.{Unprinted}
@@ -25,8 +28,6 @@ use Rattle.cli_explain.specs.declared.captures.ExplainedCaptures.{ExplainedCaptu
 use Rattle.cli_explain.specs.declared.captures.ExplainedTotals.{ExplainedTotals}
 use Rattle.cli_explain.specs.declared.one.Found.{Found}
 use Rattle.cli_explain.specs.declared.outcome.FullEnd.{FullEnd}
-use Rattle.cli_explain.specs.declared.outcome.LinesEnd.{LinesEnd}
-use Rattle.cli_explain.specs.declared.outcome.SoughtEnd.{SoughtEnd}
 use Rattle.cli_explain.specs.Captures.{ExplainsIn}
 use Rattle.cli_explain.specs.Range.{FindsRange}
 use Rattle.cli_explain.specs.Telling.{found_status, sought_status}
@@ -59,7 +60,7 @@ pub record PrintsTotals {O : Type 0} (contents : O → Option (List ℕ)) (form 
 
 -- The lines of the packets of the captures were printed, in order up to the first fault, in the form that is asked for; and then the counts of
 -- all. A device's fault comes only if one failed.
-pub record PrintsLines {R O : Type 0} (left : R → Option (List ℕ)) (failures : R → ℕ) (contents : O → Option (List ℕ)) (place : Places) (text : Texts) (printed : Option (List ℕ)) (failed : Bool) (words : ExplainWords) (old new : O) (end : LinesEnd) : Type 0 where
+pub record PrintsLines {R O : Type 0} (left : R → Option (List ℕ)) (failures : R → ℕ) (contents : O → Option (List ℕ)) (place : Places) (text : Texts) (printed : Option (List ℕ)) (failed : Bool) (words : ExplainWords) (old new : O) (end : LinesEnd VerdictCounts) : Type 0 where
   pub asked : Asked R
   pub asks : Asks left failures place text printed words asked
   pub mid : O
@@ -89,30 +90,31 @@ goes_on_after (Ok found) (Ok all) = true
 goes_on_after (Ok found) (Err unprinted) = false
 goes_on_after (Err fault) printed = false
 
--- the packets of a range of places of the capture of this number were printed in full
-abbrev pub FindsOne : {R : Type 0} → (R → Option (List ℕ)) → PacketForm → ℕ → AskedFilter → (first last : ℕ) → R → Option (List ℕ) → Option (List ℕ) → FullEnd → Type 0
-FindsOne {R = R} left form n filter first last from old new end =
+-- The packets of a range of places of the capture of this number were printed in full. A device's fault comes only if one failed.
+abbrev pub FindsOne : {R : Type 0} → (R → Option (List ℕ)) → Bool → PacketForm → ℕ → AskedFilter → (first last : ℕ) → R → Option (List ℕ) → Option (List ℕ) → FullEnd → Type 0
+FindsOne {R = R} left failed form n filter first last from old new end =
     (found : Found R) × FindsRange left from (of_capture form n) filter first last old new found
     × (end.status ≡ greater (printed_status found.printed) (found_status found.read)) × (end.goes_on ≡ goes_on_after found.read found.printed)
+    × (found.read ≡ Err Device → failed ≡ true)
 
 -- The same of each capture, of which the first has the number n, in order, while the next one is read. The status is the greatest one.
-abbrev pub FindsIn : {R O : Type 0} → (R → Option (List ℕ)) → (O → Option (List ℕ)) → PacketForm → AskedFilter → (first last : ℕ) → ℕ → Bool → Status → List R → O → O → Status → Type 0
-FindsIn left contents form filter first last n false so captures old new status = (new ≡ old) × (status ≡ so)
-FindsIn left contents form filter first last n true so [] old new status = (new ≡ old) × (status ≡ so)
-FindsIn {O = O} left contents form filter first last n true so (from ∷ froms) old new status =
-    (end : FullEnd) × (mid : O) × FindsOne left form n filter first last from (contents old) (contents mid) end
-    × FindsIn left contents form filter first last (n + 1) end.goes_on (greater so end.status) froms mid new status
+abbrev pub FindsIn : {R O : Type 0} → (R → Option (List ℕ)) → (O → Option (List ℕ)) → Bool → PacketForm → AskedFilter → (first last : ℕ) → ℕ → Bool → Status → List R → O → O → Status → Type 0
+FindsIn left contents failed form filter first last n false so captures old new status = (new ≡ old) × (status ≡ so)
+FindsIn left contents failed form filter first last n true so [] old new status = (new ≡ old) × (status ≡ so)
+FindsIn {O = O} left contents failed form filter first last n true so (from ∷ froms) old new status =
+    (end : FullEnd) × (mid : O) × FindsOne left failed form n filter first last from (contents old) (contents mid) end
+    × FindsIn left contents failed form filter first last (n + 1) end.goes_on (greater so end.status) froms mid new status
 
-pub record PrintsPlaces {R O : Type 0} (left : R → Option (List ℕ)) (failures : R → ℕ) (contents : O → Option (List ℕ)) (place : Places) (text : Texts) (printed : Option (List ℕ)) (words : ExplainWords) (places : PlaceRange) (old new : O) (ended : Status) : Type 0 where
+pub record PrintsPlaces {R O : Type 0} (left : R → Option (List ℕ)) (failures : R → ℕ) (contents : O → Option (List ℕ)) (place : Places) (text : Texts) (printed : Option (List ℕ)) (failed : Bool) (words : ExplainWords) (places : PlaceRange) (old new : O) (ended : Status) : Type 0 where
   pub asked : Asked R
   pub asks : Asks left failures place text printed words asked
-  pub finds : FindsIn left contents (asked_form words.json) asked.filter places.first places.last 0 true Clean asked.captures.items old new ended
+  pub finds : FindsIn left contents failed (asked_form words.json) asked.filter places.first places.last 0 true Clean asked.captures.items old new ended
 
 -- they were, or nothing was
 abbrev pub PlacesAnswer : {R O : Type 0} → (R → Option (List ℕ)) → (R → ℕ) → (O → Option (List ℕ)) → Places → Texts → Option (List ℕ) → Bool → ExplainWords → PlaceRange → O → O → Status → Type 0
 PlacesAnswer left failures contents place text printed failed words places old new ended =
     Refuses place text printed failed words old new ended
-    ⊎ PrintsPlaces left failures contents place text printed words places old new ended
+    ⊎ PrintsPlaces left failures contents place text printed failed words places old new ended
 
 -- ---- The command
 
@@ -120,7 +122,7 @@ PlacesAnswer left failures contents place text printed failed words places old n
 abbrev pub LinesAnswer : {R O : Type 0} → (R → Option (List ℕ)) → (R → ℕ) → (O → Option (List ℕ)) → Places → Texts → Option (List ℕ) → Bool → ExplainWords → O → O → Status → Type 0
 LinesAnswer left failures contents place text printed failed words old new ended =
     Refuses place text printed failed words old new ended
-    ⊎ ((end : LinesEnd) × PrintsLines left failures contents place text printed failed words old new end
+    ⊎ ((end : LinesEnd VerdictCounts) × PrintsLines left failures contents place text printed failed words old new end
     × (ended ≡ greater (printed_status end.printed) (stop_status end.read)))
 
 -- only the status answers

@@ -8,9 +8,9 @@ ghost use Rattle.cli_explain.specs.Explaining.{Answers, LinesAnswer, StatusAnswe
 
 use crate::files::{explain_files, seek_files};
 use crate::full::explain_places;
-use crate::outcome::LinesEnd;
 use crate::report::report_sought;
-use cli_answers::captures::read_of;
+use cli_answers::captures::{LinesEnd, read_of};
+use cli_answers::counts::VerdictCounts;
 use cli_answers::hints::hint_ended;
 use cli_answers::report::{report_captures, report_unasked};
 use cli_args::explain::ExplainWords;
@@ -32,7 +32,11 @@ fn counts_frames(words: &ExplainWords<'_>) -> bool {
 }
 
 /// Reports how the printing of the lines ended.
-fn report_lines<E: HintSink>(end: &LinesEnd, words: &ExplainWords<'_>, err: &mut E) -> Status
+fn report_lines<E: HintSink>(
+    end: &LinesEnd<VerdictCounts>,
+    words: &ExplainWords<'_>,
+    err: &mut E,
+) -> Status
     ensures { result ≡ greater (printed_status end.now.printed) (stop_status end.now.read) }
 {
     let paths = words.inputs.as_slice();

@@ -11,7 +11,7 @@ use crate::form::Asking;
 use crate::line::put_line;
 use cli_answers::ahead::advance_flushed;
 use cli_answers::counts::VerdictCounts;
-use cli_answers::form::LineBuffer;
+use cli_answers::form::PacketLine;
 use cli_answers::printing::Unprinted;
 use cli_answers::{AskedFilter, PacketForm};
 use cli_watch::frames::is_unseen;
@@ -113,7 +113,7 @@ pub fn explain_lines<R: Source, O: Write>(
             };
         }
     };
-    let mut buffer = LineBuffer::new(alloc);
+    let mut buffer = PacketLine::new(alloc);
     let ended = print_lines(&mut reader, &Asking { filter, form }, &mut buffer, out);
     Explained {
         source: reader.close(),
@@ -147,7 +147,7 @@ fn outcome(
 fn print_lines<R: Source, O: Write>(
     reader: &mut Reader<R>,
     asking: &Asking<'_>,
-    buffer: &mut LineBuffer,
+    buffer: &mut PacketLine,
     out: &mut O,
 ) -> Explained<()>
     ensures prints { (from : Option (List ℕ)) (header : Header) → HasGiven R.left from header [] reader.old →
@@ -179,7 +179,7 @@ pub(crate) fn print_line<O: Write>(
     asking: &Asking<'_>,
     place: u64,
     packet: &PacketRef<'_>,
-    buffer: &mut LineBuffer,
+    buffer: &mut PacketLine,
     out: &mut O,
 ) -> Result<Verdict, Unprinted>
     ensures ok { IfOk result (PrintsLine asking.now.form asking.now.filter.now place packet.now (O.contents out.old) (O.contents out.new)) }

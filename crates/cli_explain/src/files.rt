@@ -5,10 +5,10 @@ ghost use Rattle.cli_store.specs.Files.{Keeps};
 ghost use Rattle.cli_explain.specs.Explaining.{IsRefused, PrintsLines, Seeks};
 
 use crate::captures::{ExplainedCaptures, explain_captures, print_totals};
-use crate::outcome::{LinesEnd, SoughtEnd};
 use cli_answers::PacketForm;
 use cli_answers::asked::{Asked, Unasked, ask};
-use cli_answers::captures::{SoughtCaptures, find_in_captures, read_of};
+use cli_answers::captures::{LinesEnd, SoughtCaptures, SoughtEnd, find_in_captures, read_of};
+use cli_answers::counts::VerdictCounts;
 use cli_answers::opened::close_captures;
 use cli_args::explain::ExplainWords;
 use cli_store::FileStore;
@@ -22,7 +22,7 @@ pub fn explain_files<'p, F: FileStore<'p>, O: Write>(
     files: &mut F,
     words: &ExplainWords<'p>,
     out: &mut O,
-) -> Result<LinesEnd, Unasked<'p>>
+) -> Result<LinesEnd<VerdictCounts>, Unasked<'p>>
     ensures kept { Keeps (F.place files.old) (F.place files.new) (F.text files.old) (F.text files.new) (F.pending files.old) (F.pending files.new) }
     ensures prints { F.known ≡ true → IfOk result (PrintsLines F.Input.left F.Input.failures O.contents (F.place files.old) (F.text files.old) (F.printed files.old) (F.failed files.new) words.now out.old out.new) }
     ensures refused { F.known ≡ true → IfErr result (IsRefused (F.place files.old) (F.text files.old) (F.printed files.old) (F.failed files.new) words.now) }

@@ -1,6 +1,7 @@
 //! `bpftap explain -p`, over files that contracts can know: packets of each capture in full.
 
 ghost use Rattle.std.specs.Prelude.{◌≡◌, true};
+ghost use Rattle.std.specs.List.{AllByRecursion};
 ghost use Rattle.cli_text.specs.declared.status.Status.TheVariants.{Clean};
 ghost use Rattle.cli_store.specs.Files.{Keeps};
 ghost use Rattle.cli_explain.specs.Explaining.{FindsIn, FindsOne, PlacesAnswer, goes_on_after};
@@ -56,7 +57,9 @@ fn explain_places_of<'p, F: FileStore<'p>, O: Write, E: HintSink>(
     err: &mut E,
 ) -> FullEnd
     ensures kept { Keeps (F.place files.old) (F.place files.new) (F.text files.old) (F.text files.new) (F.pending files.old) (F.pending files.new) }
-    ensures finds { FindsOne F.Input.left asked.now.filter.form number asked.now.filter.filter.now asked.now.places.first asked.now.places.last capture (O.contents out.old) (O.contents out.new) result }
+    ensures finds { F.known ≡ true → F.Input.failures capture ≡ 0 →
+        FindsOne F.Input.left (F.failed files.new) asked.now.filter.form number asked.now.filter.filter.now asked.now.places.first asked.now.places.last capture (O.contents out.old) (O.contents out.new) result }
+    ensures stays { F.known ≡ true → F.failed files.old ≡ true → F.failed files.new ≡ true }
 {
     let PlaceRange { first, last } = asked.places;
     let form = asked.filter.form.of_capture(number);
@@ -94,7 +97,8 @@ fn explain_in_full<'p, F: FileStore<'p>, O: Write, E: HintSink>(
     err: &mut E,
 ) -> Status
     ensures kept { Keeps (F.place files.old) (F.place files.new) (F.text files.old) (F.text files.new) (F.pending files.old) (F.pending files.new) }
-    ensures finds { FindsIn F.Input.left O.contents asked.now.filter.form asked.now.filter.filter.now asked.now.places.first asked.now.places.last 0 true Clean captures.items out.old out.new result }
+    ensures finds { F.known ≡ true → AllByRecursion (λ capture. F.Input.failures capture ≡ 0) captures.items →
+        FindsIn F.Input.left O.contents (F.failed files.new) asked.now.filter.form asked.now.filter.filter.now asked.now.places.first asked.now.places.last 0 true Clean captures.items out.old out.new result }
 {
     let mut status = Status::Clean;
     let mut goes_on = true;

@@ -6,17 +6,15 @@ use cli_report::HintSink;
 use cli_report::stream::give_hint;
 use cli_text::report::EscapedPath;
 
-/// Hints on a place at which the capture of this number has no packet, below its path if there are several.
+/// Hints on a place at which the capture of this number has no packet, below its path.
 pub(crate) fn hint_place<E: HintSink>(paths: &[&str], number: usize, err: &mut E)
     ensures quiet { E.takes_hints err.old ≡ false → err.new ≡ err.old }
 {
-    if paths.len() > 1 {
-        if let Some(path) = paths.get(number) {
-            give_hint(format_args!("{}:", EscapedPath(*path)), err);
-        }
+    if let Some(path) = paths.get(number) {
+        give_hint(format_args!("{}:", EscapedPath(*path)), err);
     }
     give_hint(
-        "places count from 0: without -p the last line is how many packets there are",
+        "places count from 0: bpftap info prints how many packets there are",
         err,
     );
 }

@@ -8,7 +8,7 @@ ghost use Rattle.cli_explain.specs.Printed.{answer_line};
 
 use crate::form::Asking;
 use bpfvm::NoMemory;
-use cli_answers::form::LineBuffer;
+use cli_answers::form::PacketLine;
 use cli_answers::line::{put_answer, put_packet};
 use cli_answers::{AskedFilter, PacketForm, json};
 use filter_meaning::Verdict;
@@ -32,7 +32,7 @@ fn put_text(
 
 /// Puts the object of a packet in place of what the line has: where it is, its time and lengths, what the filter answers, and why.
 fn put_object(
-    buffer: &mut LineBuffer,
+    buffer: &mut PacketLine,
     filter: &AskedFilter,
     capture: usize,
     place: u64,
@@ -49,7 +49,7 @@ fn put_object(
 
 /// Puts the line of a packet in place of what the line has: its place and time, what the filter answers, and why.
 pub(crate) fn put_line(
-    buffer: &mut LineBuffer,
+    buffer: &mut PacketLine,
     asking: &Asking<'_>,
     place: u64,
     packet: &PacketRef<'_>,

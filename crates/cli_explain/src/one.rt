@@ -13,7 +13,7 @@ use crate::object::whole_object;
 use crate::program::FilterWithProgram;
 use crate::whole::whole_text;
 use cli_answers::PacketForm;
-use cli_answers::form::LineBuffer;
+use cli_answers::form::PacketLine;
 use cli_answers::printing::{Unprinted, send_last};
 use savefile::laws::given_so_far;
 use savefile::{Fault, PacketRef, Reader, Source};
@@ -138,7 +138,7 @@ fn print_text<O: Write>(
 ) -> Result<(), Unprinted>
     ensures { PrintsWhole Text filter.now.filter.now place packet.now (O.contents out.old) (O.contents out.new) result }
 {
-    let mut buffer = LineBuffer::new(alloc);
+    let mut buffer = PacketLine::new(alloc);
     let asking = Asking {
         filter: filter.filter,
         form: PacketForm::Text,

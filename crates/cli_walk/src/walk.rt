@@ -24,12 +24,13 @@ pub struct Visited<R> {
     pub goes_on: Result<bool, Fault>,
 }
 
-/// What is done with each capture of a walk. It changes a state, such as counts, and may print to `out`.
+/// What is done with each capture of a walk. It changes a state, such as counts, and may print to
+/// `out`.
 pub trait Visitor<R: Source, S, O> {
     ghost use Rattle.cli_walk.specs.declared.walk.Visited.{Visited};
 
-    /// What a visit to the capture of this number does: the state, what is printed to, and the source before it; what it came to; and the state and
-    /// what is printed to after it.
+    /// What a visit to the capture of this number does: the state, what is printed to, and the
+    /// source before it; what it came to; and the state and what is printed to after it.
     ghost visits: { Self → ℕ → S → O → R → Visited R → S → O → Type 0 };
 
     /// Reads the capture of this number.
@@ -44,7 +45,8 @@ pub trait Visitor<R: Source, S, O> {
 /// How a walk ended.
 #[derive(Debug, Drop)]
 pub struct Walk<R> {
-    /// The sources of the captures, in order. Those after the capture that ended the walk are as they were.
+    /// The sources of the captures, in order. Those after the capture that ended the walk are as
+    /// they were.
     pub sources: Vec<R>,
     /// Whether each visit went on to the next capture; or the capture whose fault ended the walk.
     pub end: Result<bool, Stop>,
@@ -60,7 +62,8 @@ fn end_of(number: usize, goes_on: Result<bool, Fault>) -> Result<bool, Stop>
     }
 }
 
-/// Visits the capture of this number if the walk goes on, and returns its source and how the walk then stands.
+/// Visits the capture of this number if the walk goes on, and returns its source and how the walk
+/// then stands.
 fn visit_next<R: Source, S, O, V: Visitor<R, S, O>>(
     visitor: &V,
     number: usize,
@@ -82,7 +85,8 @@ fn visit_next<R: Source, S, O, V: Visitor<R, S, O>>(
 
 /// Visits captures, in order, until a visit does not go on or ends in a fault.
 ///
-/// If memory is refused for their sources, the end is [`Fault::NoMemory`] of capture 0, and none is visited.
+/// If memory is refused for their sources, the end is [`Fault::NoMemory`] of capture 0, and none is
+/// visited.
 pub fn visit_captures<R: Source + Drop, S, O, V: Visitor<R, S, O>>(
     alloc: Global,
     captures: Vec<R>,

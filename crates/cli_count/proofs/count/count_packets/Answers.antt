@@ -22,13 +22,13 @@ returns-clause-counts g c =
     inr (
       header,
       refl,
-      subst (λ (s : g.row.R.Denot). CountsTo (left c.args.from) (left s) header c.args.filter.now c.count_all-read.new.counts c.count_all-read.result)
-          (sym c.close.ensures) (c.count_all-read.ensures.counts (left c.args.from) header c.in-Ok.ensures.ok),
+      subst (λ (s : g.row.R.Denot). CountsTo (left c.args.from) (left s) header c.args.filter.now c.args.is_measured c.count_all-taken.new.counts c.count_all-taken.result.taken c.count_all-taken.result.read)
+          (sym c.close.ensures) (c.count_all-taken.ensures.counts (left c.args.from) header c.in-Ok.ensures.ok),
     )
 
 pub returns-clause-gave : goal.returns-clause-gave
 returns-clause-gave g c =
     let left = g.R.Source.left in
     let (first, opened) = c.in-Ok.ensures.taken in
-    let (further, went) = c.count_all-read.ensures.taken in
+    let (further, went) = c.count_all-taken.ensures.taken in
     (first ++ further, subst (λ (s : g.row.R.Denot). Consumes (left c.args.from) (left s) (first ++ further)) (sym c.close.ensures) (Consumes-trans _ _ _ first further opened went))

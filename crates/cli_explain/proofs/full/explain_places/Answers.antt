@@ -1,6 +1,7 @@
 use Rattle.std.proofs.Common.{◌≡◌, ℕ, List, Option, Bor, true, inr, subst, option_copied}
 use Rattle.cli_answers.specs.Asked.{IsAsked}
 use Rattle.cli_answers.specs.declared.form.PacketForm.{PacketForm}
+use Rattle.cli_answers.proofs.Closing.{fresh}
 use Rattle.cli_text.specs.declared.status.Status.TheVariants.{Clean}
 use Rattle.cli_explain.specs.Explaining.{FindsIn, PlacesAnswer, PrintsPlaces}
 use Rattle.cli_explain.proofs.full.explain_places.Goals as goal
@@ -15,8 +16,8 @@ returns-in-Expression-clause-answers g c tells =
     let call = c.explain_in_full in
     let asks = subst (λ (paths : List (Bor (List ℕ))). IsAsked left g.F.Input.Source.failures (F.place old) (F.text old) (F.printed old) (option_copied words.listing) (option_copied words.expr) paths asked)
     c.as_slice-paths.ensures.value (c.in-Ok.ensures.asks tells) in
-    let finds = subst (λ (form : PacketForm). FindsIn left g.O.Write.contents form asked.filter c.args.places.first c.args.places.last 0 true Clean asked.captures.items c.args.out.now call.new.out call.result)
-    c.asked-form.ensures call.ensures.finds in
+    let finds = subst (λ (form : PacketForm). FindsIn left g.O.Write.contents (F.failed call.new.files) form asked.filter c.args.places.first c.args.places.last 0 true Clean asked.captures.items c.args.out.now call.new.out call.result)
+    c.asked-form.ensures (call.ensures.finds tells (fresh left g.F.Input.Source.failures (F.place old) (F.text old) words.inputs.items asked.captures.items asks.captures)) in
     inr (record { asked = asked; asks = asks; finds = finds })
 
 pub returns-clause-answers : goal.returns-clause-answers
@@ -29,6 +30,6 @@ returns-clause-answers g c tells =
     let call = c.explain_in_full-in-Program in
     let asks = subst (λ (paths : List (Bor (List ℕ))). IsAsked left g.F.Input.Source.failures (F.place old) (F.text old) (F.printed old) (option_copied words.listing) (option_copied words.expr) paths asked)
     c.as_slice-paths.ensures.value (c.in-Ok.ensures.asks tells) in
-    let finds = subst (λ (form : PacketForm). FindsIn left g.O.Write.contents form asked.filter c.args.places.first c.args.places.last 0 true Clean asked.captures.items c.args.out.now call.new.out call.result)
-    c.asked-form.ensures call.ensures.finds in
+    let finds = subst (λ (form : PacketForm). FindsIn left g.O.Write.contents (F.failed call.new.files) form asked.filter c.args.places.first c.args.places.last 0 true Clean asked.captures.items c.args.out.now call.new.out call.result)
+    c.asked-form.ensures (call.ensures.finds tells (fresh left g.F.Input.Source.failures (F.place old) (F.text old) words.inputs.items asked.captures.items asks.captures)) in
     inr (record { asked = asked; asks = asks; finds = finds })

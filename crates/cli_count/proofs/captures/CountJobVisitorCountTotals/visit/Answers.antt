@@ -1,4 +1,5 @@
-use Rattle.std.proofs.Common.{ap}
+use Rattle.std.proofs.Common.{◌∙◌, ℕ, ap}
+use Rattle.cli_answers.specs.Counts.{sum_of}
 use Rattle.cli_walk.specs.Walking.{visited}
 use Rattle.cli_answers.proofs.Visits.{broke-so}
 use Rattle.cli_count.proofs.captures.CountJobVisitorCountTotals.visit.Goals as goal
@@ -12,6 +13,7 @@ returns-clause-visits g c =
       c.show-printed.ensures,
       c.either-opened.ensures,
       c.plus.ensures,
+      c.saturating_add.ensures ∙ ap (λ (k : ℕ). sum_of c.args.totals.now.instructions k) c.taken_or_none.ensures,
     )
 
 pub returns-clause-source_broke : goal.returns-clause-source_broke
