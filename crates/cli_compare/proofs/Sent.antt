@@ -12,7 +12,7 @@ use Rattle.savefile.specs.Writer.{HasWritten, HasWrittenPart, IsBeginning, Writi
 use Rattle.savefile.proofs.Encoding.{encoded-begins}
 use Rattle.line_text.specs.Sending.{TakesPart}
 
-begins_through : (a b c : List ℕ) → IsBeginning a b → IsBeginning b c → IsBeginning a c
+pub begins_through : (a b c : List ℕ) → IsBeginning a b → IsBeginning b c → IsBeginning a c
 begins_through a b c (s, one) (t, two) = (s ++ t, two ∙ ap (λ (x : List ℕ). x ++ t) one ∙ append_assoc a s t)
 
 -- the header broke off
@@ -39,7 +39,7 @@ only_header taken start order unit snap p w h = record {
 }
 
 -- the header has 24 bytes
-header-size : length (encoded Little Micro (2 ^ 18) []) ≡ 24
+pub header-size : length (encoded Little Micro (2 ^ 18) []) ≡ 24
 unfolding encoded header_text
 header-size = refl
 

@@ -4,3 +4,4 @@ pub mod Compared
 pub mod Captures
 pub mod Telling
 pub mod Deciding
+pub mod Comparing

@@ -1,153 +1,136 @@
 //! `bpftap compare`, over files.
 
-use crate::captures::{ComparedCaptures, compare_captures, print_totals};
-use crate::decide::decide_for_all;
-use crate::pair::FilterPair;
-use crate::paths::check_paths;
-use crate::plan::read_pair;
-use crate::report::report_sameness;
-use cli_answers::PacketForm;
-use cli_answers::captures::{SoughtCaptures, find_in_captures};
-use cli_answers::hints::hint_stop;
+ghost use Rattle.std.specs.Prelude.{◌≡◌, ◌≢◌, [], true};
+ghost use Rattle.cli_text.specs.Status.{greater};
+ghost use Rattle.cli_store.specs.Files.{Keeps};
+ghost use Rattle.cli_answers.specs.Telling.{printed_status, stop_status};
+ghost use Rattle.cli_compare.specs.Comparing.{Answers, KeepsOthers, LinesAnswer, StatusAnswers};
+
+use crate::decide::decide_files;
+use crate::each::DifferenceCounts;
+use crate::files::{compare_files, seek_files};
+use crate::report::{report_sameness, report_uncompared};
+use cli_answers::captures::{LinesEnd, read_of};
+use cli_answers::hints::hint_ended;
 use cli_answers::report::report_captures;
 use cli_args::compare::CompareWords;
-use cli_files::captures::output_buffer;
+use cli_files::captures::{OUTPUT_BUFFER, output_buffer};
 use cli_report::HintSink;
 use cli_report::failures::hint_output;
-use cli_report::probe::ProbedInput;
+use cli_store::{DiskFiles, FileStore};
 use cli_text::Status;
-use cli_watch::captures::watched_inputs;
 use cli_watch::hints::{is_asked, report_unseen};
 use cli_watch::output::WatchedOutput;
 use cli_watch::{Screen, Watch};
-use fault_report::reporting::report_memory;
 use std::alloc::Global;
 use std::fs::Files;
-use std::io::{Read, Write};
+use std::io::Write;
 
-/// What one call of `compare` by captures has: its arguments, its filters, and what is seen of its captures.
-#[derive(Drop)]
-struct Job<'w, 'a, 'r, R> {
-    alloc: Global,
-    words: &'w CompareWords<'a>,
-    pair: FilterPair,
-    watch: Watch<'r, R>,
-}
-
-/// Prints the packets that are treated differently and the counts, and reports how that ended.
-fn compare_all<F: Screen, R: Read + Drop, O: Write, E: HintSink>(
-    job: &Job<'_, '_, '_, F>,
-    captures: Vec<ProbedInput<R>>,
-    out: &mut O,
-    err: &mut E,
-) -> Status {
-    let paths = job.words.inputs.as_slice();
-    let form = PacketForm::asked(job.words.json);
-    let ComparedCaptures {
-        sources,
-        totals,
-        read,
-    } = compare_captures(job.alloc, captures, &job.pair, form, out);
-    job.watch.erase();
-    let frames = totals.counts.frames();
-    let printed = print_totals(job.alloc, totals, form, out);
-    let status = report_captures(&printed, read, paths, err);
-    if let Err(stop) = read {
-        hint_stop(paths, stop, sources.as_slice(), err);
-    }
-    if counts_frames(job.words) {
-        let _ = report_unseen(frames, status, err);
-    }
-    status
-}
-
-/// Whether it is reported into how many frames the expressions do not look. A listing's program may.
+/// Whether it is reported into how many frames the expressions do not look. A listing's program
+/// may.
 fn counts_frames(words: &CompareWords<'_>) -> bool {
-    words.listing.is_none()
-        && !words.quiet
-        && (is_asked(words.first) || words.second.is_some_and(is_asked))
+    words.listing.is_none() && (is_asked(words.first) || words.second.is_some_and(is_asked))
 }
 
-/// [`compare_all`], with a buffer in front of the output.
-fn compare_and_report<F: Screen, R: Read + Drop, O: Write, E: HintSink>(
-    job: &Job<'_, '_, '_, F>,
-    captures: Vec<ProbedInput<R>>,
+/// Reports how the printing of the lines ended.
+fn report_lines<E: HintSink>(
+    end: &LinesEnd<DifferenceCounts>,
+    words: &CompareWords<'_>,
+    err: &mut E,
+) -> Status
+    ensures { result ≡ greater (printed_status end.now.printed) (stop_status end.now.read) }
+{
+    let paths = words.inputs.as_slice();
+    let status = report_captures(&end.printed, end.read, paths, err);
+    hint_ended(paths, end.read, &end.noted, err);
+    if counts_frames(words) {
+        let _ = report_unseen(end.counts.frames(), status, err);
+    }
+    status
+}
+
+/// Prints the packets that are treated differently, and the counts if a header was read; and
+/// reports how that ended.
+fn compare_all<'p, F: FileStore<'p>, O: Write, E: HintSink>(
+    alloc: Global,
+    files: &mut F,
+    words: &CompareWords<'p>,
     out: &mut O,
     err: &mut E,
-) -> Status {
-    let out = WatchedOutput::new(&mut *out, &job.watch);
-    let mut out = match output_buffer(job.alloc, out, err) {
-        Ok(out) => out,
-        Err(status) => return status,
-    };
-    let status = compare_all(job, captures, &mut out, err);
-    hint_output(out.get_ref(), err);
-    status
+) -> Status
+    ensures kept { Keeps (F.place files.old) (F.place files.new) (F.text files.old) (F.text files.new) (F.pending files.old) (F.pending files.new) }
+    ensures answers { F.known ≡ true → LinesAnswer F.Input.left F.Input.failures O.contents (F.place files.old) (F.text files.old) (F.printed files.old) (F.failed files.new) words.now out.old out.new result }
+{
+    match compare_files(alloc, files, words, out) {
+        Ok(end) => report_lines(&end, words, err),
+        Err(reason) => report_uncompared(alloc, &reason, words, err),
+    }
 }
 
 /// Reports only by the status whether a packet is treated differently.
-fn ask_quietly<F: Screen, R: Read + Drop, E: HintSink>(
-    job: &Job<'_, '_, '_, F>,
-    captures: Vec<ProbedInput<R>>,
+fn ask_quietly<'p, F: FileStore<'p>, O: Write, E: HintSink>(
+    alloc: Global,
+    files: &mut F,
+    words: &CompareWords<'p>,
+    _out: &mut O,
     err: &mut E,
-) -> Status {
-    let paths = job.words.inputs.as_slice();
-    let SoughtCaptures { sources, found } = find_in_captures(job.alloc, captures, &job.pair);
-    job.watch.erase();
-    let status = report_sameness(found, paths, err);
-    if let Err(stop) = found {
-        hint_stop(paths, stop, sources.as_slice(), err);
-    }
-    status
-}
-
-/// Compares the filters by the captures.
-fn compare_job<'r, R: Files + Screen, O: Write, E: HintSink>(
-    rt: &'r R,
-    job: &Job<'_, '_, 'r, R>,
-    out: &mut O,
-    err: &mut E,
-) -> Status {
-    let paths = job.words.inputs.as_slice();
-    let Ok(captures) = watched_inputs(rt, job.alloc, paths, &job.watch) else {
-        return report_memory(err);
-    };
-    if job.words.quiet {
-        ask_quietly(job, captures, err)
-    } else {
-        compare_and_report(job, captures, out, err)
+) -> Status
+    ensures kept { Keeps (F.place files.old) (F.place files.new) (F.text files.old) (F.text files.new) (F.pending files.old) (F.pending files.new) }
+    ensures answers { F.known ≡ true → StatusAnswers F.Input.left F.Input.failures (F.place files.old) (F.text files.old) (F.printed files.old) (F.failed files.new) words.now _out.old _out.new result }
+{
+    match seek_files(alloc, files, words) {
+        Ok(end) => {
+            let paths = words.inputs.as_slice();
+            let status = report_sameness(end.found, paths, err);
+            hint_ended(paths, read_of(end.found), &end.noted, err);
+            status
+        }
+        Err(reason) => report_uncompared(alloc, &reason, words, err),
     }
 }
 
-/// Compares the filters by the captures, or decides them for every packet if there are none.
-fn compare_files<R: Files + AllocGlobal + Screen, O: Write, E: HintSink>(
+/// `bpftap compare`, whatever the files are: without IN both filters are decided for every packet;
+/// else the packets that they treat differently are printed, and the counts, or with `-q` only the
+/// status says whether there is one. Both filters are accepted, and the paths are compared, before
+/// a capture is opened. No file but OUT changes.
+pub fn compare_and_report<'p, R: AllocGlobal + Screen, F: FileStore<'p>, O: Write, E: HintSink>(
     rt: &R,
-    words: &CompareWords<'_>,
+    files: &mut F,
+    words: &CompareWords<'p>,
     out: &mut O,
     err: &mut E,
-) -> Result<Status, Status> {
-    let pair = read_pair(rt, words, err)?;
-    check_paths(rt, words, err)?;
+) -> Status
+    requires none_open { F.opened files.old ≡ [] }
+    ensures answers { F.known ≡ true → Answers F.Input.left F.Input.failures O.contents (F.place files.old) (F.text files.old) (F.text files.new) (F.printed files.old) (F.failed files.new) words.now out.old out.new result }
+    ensures kept { words.now.inputs.items ≢ [] → Keeps (F.place files.old) (F.place files.new) (F.text files.old) (F.text files.new) (F.pending files.old) (F.pending files.new) }
+    // No file but OUT changes, and it is closed.
+    ensures others { F.known ≡ true → KeepsOthers (F.place files.old) (F.text files.old) (F.text files.new) words.now.output }
+    ensures closed { F.known ≡ true → F.pending files.new ≡ F.pending files.old }
+{
     if words.inputs.is_empty() {
-        return Ok(decide_for_all(rt, words, &pair, out, err));
+        decide_files(rt, files, words, out, err)
+    } else if words.quiet {
+        ask_quietly(rt.alloc(), files, words, out, err)
+    } else {
+        compare_all(rt.alloc(), files, words, out, err)
     }
-    let job = Job {
-        alloc: rt.alloc(),
-        words,
-        pair,
-        watch: Watch::new(rt, words.inputs.as_slice(), err.takes_hints()),
-    };
-    Ok(compare_job(rt, &job, out, err))
 }
 
-/// `bpftap compare`: both filters are accepted and the paths are compared before a capture is opened.
+/// `bpftap compare`, over the files of the system, with a buffer in front of the output.
 pub fn compare_command<R: Files + AllocGlobal + Screen, O: Write, E: HintSink>(
     rt: &R,
     words: &CompareWords<'_>,
     out: &mut O,
     err: &mut E,
 ) -> Status {
-    match compare_files(rt, words, out, err) {
-        Ok(status) | Err(status) => status,
-    }
+    let watch = Watch::new(rt, words.inputs.as_slice(), err.takes_hints());
+    let out = WatchedOutput::new(&mut *out, &watch);
+    let mut out = match output_buffer(rt.alloc(), out, err) {
+        Ok(out) => out,
+        Err(status) => return status,
+    };
+    let mut files = DiskFiles::new(rt, &watch).gathering(OUTPUT_BUFFER);
+    let status = compare_and_report(rt, &mut files, words, &mut out, err);
+    hint_output(out.get_ref(), err);
+    status
 }

@@ -1,53 +1,66 @@
-//! Two filters decided for every packet, over files.
+//! Two filters decided for every packet, over files that contracts can know.
 
-ghost use Rattle.std.specs.Prelude.{◌≡◌, true, false, IfOk, IfErr};
-ghost use Rattle.cli_compare.specs.Deciding.{AnswersPair, HoldsOfPair, IsStatusAfter, IsUnanswered, PrintsAnswer, form_of};
+ghost use Rattle.std.specs.Prelude.{◌≡◌, ◌≢◌, ℕ, List, [], true, false, All, IfOk, IfErr};
+ghost use Rattle.cli_compare.specs.Comparing.{DecidesAnswer, DecidesPair, IsOut, KeepsOthers, WritesPacket, out_of};
+ghost use Rattle.cli_compare.specs.Deciding.{AnswersPair, HoldsOfPair, IsStatusAfter, IsUnanswered, PrintsAnswer, form_of, packet_of};
 
+use crate::asked::accept_pair;
+use crate::notice::Notice;
+use crate::outcome::OutFault;
 use crate::pair::FilterPair;
-use crate::report::report_answer;
+use crate::report::{report_answer, report_out, report_uncompared};
 use crate::sameness::{BUDGET, decide_pair, print_sameness, witness_of};
 use crate::witness::write_witness;
 use cli_answers::printing::Unprinted;
 use cli_args::compare::CompareWords;
-use cli_files::captures::{OUTPUT_BUFFER, output_buffer, with_buffer};
-use cli_files::late::LateFile;
-use cli_files::reading::report_io;
-use cli_report::failures::{hint_failure, hint_output};
-use cli_report::{FailureProbe, HintSink};
+use cli_report::HintSink;
+use cli_store::FileStore;
 use cli_text::Status;
-use fault_report::reporting::report_device;
+use cli_watch::Screen;
 use filter_same::{Sameness, Witness};
 use line_text::LineForm;
+use savefile::Fault;
 use std::alloc::Global;
-use std::fs::Files;
+use std::io;
 use std::io::Write;
 
-/// Writes a witness to OUT, which is made only now, and reports how that ended.
-#[inline(never)]
-fn write_out<R: Files + AllocGlobal, E: HintSink>(
-    rt: &R,
-    path: &str,
-    witness: &Witness,
-    err: &mut E,
-) -> Status {
-    let late = FailureProbe::new(LateFile::new(rt, path));
-    let sink = match with_buffer(rt.alloc(), OUTPUT_BUFFER, late) {
-        Ok(sink) => sink,
-        Err(error) => return report_io(&error, path, err),
-    };
-    let (mut sink, written) = write_witness(sink, witness);
-    if sink.inner.flush().is_ok() && written.is_ok() {
-        return Status::Clean;
+/// What writing OUT came to, by how it was closed and how its savefile was written.
+fn out_of(closed: io::Result<()>, written: Result<(), Fault>) -> Result<(), OutFault>
+    ensures { result ≡ out_of closed written }
+{
+    match (closed, written) {
+        (Ok(()), Ok(())) => Ok(()),
+        (Ok(()), Err(_)) => Err(OutFault::Unwritten(None)),
+        (Err(error), _) => Err(OutFault::Unwritten(Some(error))),
     }
-    let status = report_device(path, err);
-    hint_failure(sink.inner.get_ref(), err);
-    status
+}
+
+/// Writes a witness to OUT, which is made only now, and closes it.
+#[inline(never)]
+fn write_out<'p, F: FileStore<'p>>(
+    files: &mut F,
+    path: &'p str,
+    witness: &Witness,
+) -> Result<(), OutFault>
+    requires apart { F.known ≡ true → All (λ read. read ≢ F.place files.old path.now) (F.opened files.old) }
+    ensures others { F.known ≡ true → (p : List ℕ) → p ≢ F.place files.old path.now → F.text files.new p ≡ F.text files.old p }
+    ensures out { F.known ≡ true → IsOut (F.text files.old) (F.text files.new) (F.failed files.new) (F.place files.old path.now) witness.now result }
+    ensures closed { F.known ≡ true → F.pending files.new ≡ F.pending files.old }
+{
+    let sink = match files.create(path) {
+        Ok(sink) => sink,
+        Err(error) => return Err(OutFault::Unmade(error)),
+    };
+    let (sink, written) = write_witness(sink, witness);
+    let closed = files.close(sink);
+    out_of(closed, written)
 }
 
 /// Decides both filters, and prints the answer unless it is not wanted.
 #[inline(never)]
-fn answer<O: Write>(
+fn answer<R: Screen, O: Write>(
     alloc: Global,
+    notice: &Notice<'_, R>,
     words: &CompareWords<'_>,
     pair: &FilterPair,
     out: &mut O,
@@ -58,20 +71,25 @@ fn answer<O: Write>(
     ensures fault { words.now.quiet ≡ false → IfErr result (IsUnanswered (form_of words.now.json) pair.now 2000000 (O.contents out.old) (O.contents out.new)) }
 {
     if words.quiet {
-        Ok(decide_pair(alloc, pair, BUDGET)?)
+        Ok(decide_pair(alloc, notice, pair, BUDGET)?)
     } else {
-        print_sameness(alloc, LineForm::asked(words.json), pair, BUDGET, out)
+        let form = LineForm::asked(words.json);
+        print_sameness(alloc, notice, form, pair, BUDGET, out)
     }
 }
 
 /// Reports an answer, and writes the packet that shows a difference to OUT, if that is asked for.
-fn report_and_write<R: Files + AllocGlobal, E: HintSink>(
-    rt: &R,
-    words: &CompareWords<'_>,
+fn report_and_write<'p, F: FileStore<'p>, E: HintSink>(
+    files: &mut F,
+    words: &CompareWords<'p>,
     answer: &Result<Sameness, Unprinted>,
     err: &mut E,
 ) -> Status
-    ensures { IsStatusAfter words.now.output answer.now result }
+    requires none_open { F.opened files.old ≡ [] }
+    ensures status { IsStatusAfter words.now.output answer.now result }
+    ensures writes { F.known ≡ true → WritesPacket (F.place files.old) (F.text files.old) (F.text files.new) (F.failed files.new) words.now.output (packet_of answer.now) answer.now result }
+    ensures others { F.known ≡ true → KeepsOthers (F.place files.old) (F.text files.old) (F.text files.new) words.now.output }
+    ensures closed { F.known ≡ true → F.pending files.new ≡ F.pending files.old }
 {
     let status = report_answer(answer, err);
     let witness = match answer {
@@ -79,39 +97,53 @@ fn report_and_write<R: Files + AllocGlobal, E: HintSink>(
         Err(_) => None,
     };
     match (words.output, witness) {
-        (Some(path), Some(witness)) => status.max(write_out(rt, path, witness, err)),
+        (Some(path), Some(witness)) => {
+            let written = write_out(files, path, witness);
+            status.max(report_out(&written, path, err))
+        }
         _ => status,
     }
 }
 
-/// Decides both filters, writes the packet that shows a difference to OUT, and reports how that ended.
-fn decide_and_report<R: Files + AllocGlobal, O: Write, E: HintSink>(
+/// Decides both filters, writes the packet that shows a difference to OUT, and reports how that
+/// ended.
+#[inline(never)]
+fn decide_and_report<'p, R: AllocGlobal + Screen, F: FileStore<'p>, O: Write, E: HintSink>(
     rt: &R,
-    words: &CompareWords<'_>,
+    files: &mut F,
+    words: &CompareWords<'p>,
     pair: &FilterPair,
     out: &mut O,
     err: &mut E,
 ) -> Status
-    ensures { AnswersPair words.now.quiet words.now.json words.now.output pair.now (O.contents out.old) (O.contents out.new) result }
+    requires none_open { F.opened files.old ≡ [] }
+    ensures pair { AnswersPair words.now.quiet words.now.json words.now.output pair.now (O.contents out.old) (O.contents out.new) result }
+    ensures decides { F.known ≡ true → DecidesPair (F.place files.old) (F.text files.old) (F.text files.new) (F.failed files.new) words.now pair.now (O.contents out.old) (O.contents out.new) result }
+    ensures others { F.known ≡ true → KeepsOthers (F.place files.old) (F.text files.old) (F.text files.new) words.now.output }
+    ensures closed { F.known ≡ true → F.pending files.new ≡ F.pending files.old }
 {
-    let answer = answer(rt.alloc(), words, pair, out);
-    report_and_write(rt, words, &answer, err)
+    let notice = Notice::new(rt, err.takes_hints());
+    let answer = answer(rt.alloc(), &notice, words, pair, out);
+    report_and_write(files, words, &answer, err)
 }
 
-/// Decides both filters for every packet.
+/// Accepts both filters and compares the paths, decides the filters for every packet, and reports
+/// how that ended.
 #[inline(never)]
-pub(crate) fn decide_for_all<R: Files + AllocGlobal, O: Write, E: HintSink>(
+pub(crate) fn decide_files<'p, R: AllocGlobal + Screen, F: FileStore<'p>, O: Write, E: HintSink>(
     rt: &R,
-    words: &CompareWords<'_>,
-    pair: &FilterPair,
+    files: &mut F,
+    words: &CompareWords<'p>,
     out: &mut O,
     err: &mut E,
-) -> Status {
-    let mut out = match output_buffer(rt.alloc(), &mut *out, err) {
-        Ok(out) => out,
-        Err(status) => return status,
-    };
-    let status = decide_and_report(rt, words, pair, &mut out, err);
-    hint_output(out.get_ref(), err);
-    status
+) -> Status
+    requires none_open { F.opened files.old ≡ [] }
+    ensures answers { F.known ≡ true → DecidesAnswer O.contents (F.place files.old) (F.text files.old) (F.text files.new) (F.printed files.old) (F.failed files.new) words.now out.old out.new result }
+    ensures others { F.known ≡ true → KeepsOthers (F.place files.old) (F.text files.old) (F.text files.new) words.now.output }
+    ensures closed { F.known ≡ true → F.pending files.new ≡ F.pending files.old }
+{
+    match accept_pair(rt.alloc(), files, words) {
+        Ok(pair) => decide_and_report(rt, files, words, &pair, out, err),
+        Err(reason) => report_uncompared(rt.alloc(), &reason, words, err),
+    }
 }

@@ -13,7 +13,7 @@ use crate::line::{Comparing, put_counts, put_difference};
 use crate::pair::{Agreement, FilterPair};
 use cli_answers::PacketForm;
 use cli_answers::ahead::advance_flushed;
-use cli_answers::form::LineBuffer;
+use cli_answers::form::PacketLine;
 use cli_answers::printing::{Unprinted, send_last};
 use cli_watch::frames::{FrameCounts, is_unseen};
 use line_text::sending::send;
@@ -188,7 +188,7 @@ fn print_differences<R: Source, O: Write>(
     ensures taken { (bytes : List ℕ) × Consumes (R.left reader.old.source) (R.left reader.new.source) bytes }
     ensures source_broke { (result.read ≡ Err Fault.Device) ↔ (R.failures reader.new.source ≢ R.failures reader.old.source) }
 {
-    let mut buffer = LineBuffer::new(alloc);
+    let mut buffer = PacketLine::new(alloc);
     let mut counts = DifferenceCounts::NONE;
     loop {
         match advance_flushed(reader, out) {
@@ -212,7 +212,7 @@ fn print_one<O: Write>(
     comparing: &Comparing<'_>,
     place: u64,
     packet: &PacketRef<'_>,
-    buffer: &mut LineBuffer,
+    buffer: &mut PacketLine,
     out: &mut O,
 ) -> Result<Agreement, Unprinted>
     ensures is { IfOk result (λ found. found ≡ agreement comparing.now.pair.now packet.now) }

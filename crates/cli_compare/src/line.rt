@@ -9,7 +9,7 @@ ghost use Rattle.cli_compare.specs.Printed.{counts_in, counts_json, counts_text,
 use crate::each::DifferenceCounts;
 use crate::pair::FilterPair;
 use bpfvm::NoMemory;
-use cli_answers::form::LineBuffer;
+use cli_answers::form::PacketLine;
 use cli_answers::line::{put_answer, put_packet};
 use cli_answers::{PacketForm, json};
 use savefile::PacketRef;
@@ -58,7 +58,7 @@ pub(crate) fn put_both(
 
 /// Puts the object of a packet in place of what the line has: where it is, its time and lengths, and what each filter answers, and why.
 fn put_object(
-    buffer: &mut LineBuffer,
+    buffer: &mut PacketLine,
     pair: &FilterPair,
     capture: usize,
     place: u64,
@@ -73,7 +73,7 @@ fn put_object(
 
 /// Puts the line of a packet in place of what the line has: its place and time, and what each filter answers, and why.
 pub(crate) fn put_difference(
-    buffer: &mut LineBuffer,
+    buffer: &mut PacketLine,
     comparing: &Comparing<'_>,
     place: u64,
     packet: &PacketRef<'_>,

@@ -32,7 +32,7 @@ fn put_members(line: &mut String, witness: &Witness) -> Result<(), AllocError>
     line.push_str("\",")
 }
 
-/// The object of an answer with a witness, which begins so.
+/// The object for an answer that has a witness. It begins with `head`.
 fn witness_object(
     alloc: Global,
     head: &str,
@@ -69,7 +69,7 @@ fn text_of(alloc: Global, text: &str) -> Result<String, NoMemory>
     Ok(copy)
 }
 
-/// The object of an answer: which it is; why, if it is none; and the packet that shows a difference, with what each filter answers to it and
+/// The object for an answer: which it is; why, if it is none; and the packet that shows a difference, with what each filter answers to it and
 /// why.
 pub(crate) fn object_of(
     alloc: Global,

@@ -4,6 +4,7 @@ ghost use Rattle.std.specs.Prelude.{◌≡◌, ◌++◌, ℕ, List, Ok, IfOk, If
 ghost use Rattle.filter_same.specs.Filters.{filter_accepts, filter_test};
 ghost use Rattle.cli_compare.specs.Deciding.{AreLines, HoldsOfPair, IsText, IsUnanswered, PrintsAnswer, PutsDetail, PutsWitness, answer_line, asked_accepts, asked_test, cause_text, dump_of, lengths_text, packet_of_witness, witness_of};
 
+use crate::notice::Notice;
 use crate::object::object_of;
 use crate::pair::FilterPair;
 use bpfvm::NoMemory;
@@ -11,6 +12,7 @@ use cli_answers::AskedFilter;
 use cli_answers::dump::put_dump;
 use cli_answers::line::put_answer;
 use cli_answers::printing::{Unprinted, send_last};
+use cli_watch::Screen;
 use filter_same::{Cause, Filter, Sameness, Witness, decide_filters};
 use line_text::LineForm;
 use savefile::PacketRef;
@@ -135,7 +137,7 @@ fn dump_of(alloc: Global, sameness: &Sameness) -> Result<String, NoMemory>
     Ok(text)
 }
 
-/// The lines of an answer.
+/// The lines for an answer.
 fn lines_of(
     alloc: Global,
     pair: &FilterPair,
@@ -168,17 +170,25 @@ fn text_of(
     }
 }
 
-/// Decides whether two filters accept the same packets, as [`decide_filters`] does.
+/// Decides whether two filters accept the same packets, as [`decide_filters`] does, and meanwhile shows that it does.
 #[inline(never)]
-pub fn decide_pair(alloc: Global, pair: &FilterPair, budget: usize) -> Result<Sameness, NoMemory>
+pub fn decide_pair<R: Screen>(
+    alloc: Global,
+    notice: &Notice<'_, R>,
+    pair: &FilterPair,
+    budget: usize,
+) -> Result<Sameness, NoMemory>
     ensures { IfOk result (HoldsOfPair pair.now) }
 {
-    decide_filters(
+    notice.put();
+    let decided = decide_filters(
         alloc,
         filter_of(&pair.first),
         filter_of(&pair.second),
         budget,
-    )
+    );
+    notice.erase();
+    decided
 }
 
 /// Decides whether two filters accept the same packets, as [`decide_filters`] does, and prints the answer: `same`, `same as captured`,
@@ -188,8 +198,9 @@ pub fn decide_pair(alloc: Global, pair: &FilterPair, budget: usize) -> Result<Sa
 ///
 /// `Unprinted::NoMemory`: nothing was printed. `Unprinted::Output`: the writer failed, and took a prefix of the text.
 #[tactic(auto, using(crate::proofs::Witnesses::unanswered))]
-pub fn print_sameness<O: Write>(
+pub fn print_sameness<R: Screen, O: Write>(
     alloc: Global,
+    notice: &Notice<'_, R>,
     form: LineForm,
     pair: &FilterPair,
     budget: usize,
@@ -199,7 +210,7 @@ pub fn print_sameness<O: Write>(
     ensures printed { IfOk result (λ s. PrintsAnswer form pair.now budget s (O.contents out.old) (O.contents out.new)) }
     ensures fault { IfErr result (λ e. IsUnanswered form pair.now budget (O.contents out.old) (O.contents out.new) e) }
 {
-    let sameness = decide_pair(alloc, pair, budget)?;
+    let sameness = decide_pair(alloc, notice, pair, budget)?;
     let text = text_of(alloc, form, pair, budget, &sameness)?;
     send_last(text.as_bytes(), out)?;
     Ok(sameness)

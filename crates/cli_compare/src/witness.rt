@@ -18,6 +18,8 @@ pub fn write_witness<W: Sink>(sink: W, witness: &Witness) -> (W, Result<(), Faul
     ensures ok { OnOk result.1 (Appends (W.taken sink) (W.taken result.0) (encoded Order.Little Unit.Micro (2 ^ 18) (packet_of_witness witness.now ∷ []))) }
     ensures err { OnErr result.1 (TakesPart (W.taken sink) (W.taken result.0) (encoded Order.Little Unit.Micro (2 ^ 18) (packet_of_witness witness.now ∷ []))) }
 
+    ensures named { W.name result.0 ≡ W.name sink }
+
     // When each error comes, and no other.
     ensures broke { (result.1 ≡ Err Fault.Device) ↔ (W.failures result.0 ≢ W.failures sink) }
     ensures too_long { (result.1 ≡ Err (Fault.TooLong 0)) ↔ (2 ^ 18 < length witness.now.bytes.items) }

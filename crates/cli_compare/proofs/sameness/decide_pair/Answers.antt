@@ -5,8 +5,8 @@ use Rattle.cli_compare.proofs.Witnesses.{holds-as}
 use Rattle.cli_compare.proofs.sameness.decide_pair.Goals as goal
 
 pub returns : goal.returns
-returns c =
-    map-ok c.decide_filters.result
+returns g c =
+    map-ok c.decide_filters-decided.result
     (λ s h. holds-as (filter_accepts c.filter_of.result) (filter_accepts c.filter_of-2.result) _ _ (filter_test c.filter_of.result) (filter_test c.filter_of-2.result) _ _ s
     c.filter_of.ensures.accepts c.filter_of.ensures.test c.filter_of-2.ensures.accepts c.filter_of-2.ensures.test h)
-    c.decide_filters.ensures
+    c.decide_filters-decided.ensures

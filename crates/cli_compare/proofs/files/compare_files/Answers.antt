@@ -1,0 +1,35 @@
+use Rattle.std.proofs.Common.{◌≡◌, ℕ, List, Option, Bor, refl, sym, subst}
+use Rattle.cli_answers.specs.declared.form.PacketForm.{PacketForm}
+use Rattle.cli_answers.proofs.Closing.{fresh}
+use Rattle.cli_compare.specs.Captures.{ComparesIn}
+use Rattle.cli_compare.specs.Comparing.{PrintsLines, PrintsTotals}
+use Rattle.cli_compare.proofs.Stopping.{compares-broke}
+use Rattle.cli_compare.proofs.files.compare_files.Goals as goal
+
+pub returns-clause-prints : goal.returns-clause-prints
+returns-clause-prints g c tells =
+    let F = g.F.FileStore in
+    let left = g.F.Input.Source.left in
+    let failures = g.F.Input.Source.failures in
+    let contents = g.O.Write.contents in
+    let old = c.args.files.now in
+    let words = c.args.words.now in
+    let asked = c.in_ok-pair.field-0 in
+    let call = c.compare_captures-sources in
+    let end = c.print_totals in
+    let form = c.asked-form.result in
+    let asks = c.in_ok-pair.ensures.asks tells in
+    let sums : PrintsTotals contents form call.result.totals call.new.out end.new.out end.result =
+    record { unopened = end.ensures.none; broken = end.ensures.failed; counted = end.ensures.prints } in
+    record {
+      asked = asked;
+      asks = asks;
+      mid = call.new.out;
+      compared = call.result;
+      lines = subst (λ (f : PacketForm). ComparesIn left failures contents f asked.pair asked.captures.items c.args.out.now call.new.out call.result) c.asked-form.ensures call.ensures;
+      sums = subst (λ (f : PacketForm). PrintsTotals contents f call.result.totals call.new.out end.new.out end.result) c.asked-form.ensures sums;
+      counts = refl;
+      read = refl;
+      broke = λ n device. c.close_captures-noted.ensures.failed tells (compares-broke left failures contents form asked.pair asked.captures.items c.args.out.now call.new.out call.result n
+          (fresh left failures (F.place old) (F.text old) words.inputs.items asked.captures.items asks.captures) call.ensures device);
+    }
