@@ -45,8 +45,8 @@ use std::io::Write;
 use std::sync::Wait;
 use std::thread::Threads;
 
-/// Runs the command that the words ask for, the program's name first. What was asked for goes to `out`, faults go to
-/// `err`, and the exit status comes back.
+/// Runs the command that the words ask for, the program's name first. What was asked for goes to
+/// `out`, faults go to `err`, and the exit status comes back.
 pub fn run<
     R: Files + AllocGlobal + NamesFiles + Screen + Threads + Wait + Sync,
     S: AsStr,
@@ -64,7 +64,8 @@ pub fn run<
     status
 }
 
-/// What the words ask for. As each command below it is a function of its own, since else one frame on the stack has the locals of all.
+/// What the words ask for. As each command below it is a function of its own, since else one frame
+/// on the stack has the locals of all.
 #[inline(never)]
 fn request_of<'a, S: AsStr>(alloc: Global, words: &'a [S]) -> Result<Request<'a>, Error> {
     read_words(alloc, words)
@@ -241,8 +242,8 @@ fn parts<R: Files + AllocGlobal, O: Write, W: Write>(
     parts_command(rt, words, out, err)
 }
 
-/// Hints on arguments of which several are taken for captures, if the command failed: they may be an expression without quotes. Returns the
-/// exit status.
+/// Hints on arguments of which several are taken for captures, if the command failed: they may be
+/// an expression without quotes. Returns the exit status.
 fn hint_several<S: AsStr, E: HintSink>(
     alloc: Global,
     words: &[S],
@@ -256,7 +257,8 @@ fn hint_several<S: AsStr, E: HintSink>(
     status
 }
 
-/// The error of arguments as it is printed: of a command of other tools it has the way to do the same here.
+/// The error of arguments as it is printed: of a command of other tools it has the way to do the
+/// same here.
 fn usage_error<S: AsStr>(alloc: Global, words: &[S], error: Error) -> Error {
     let error = printed_error(alloc, words, error);
     match command_way(words) {
@@ -294,10 +296,18 @@ fn report_usage<S: AsStr, O: Write, E: HintSink>(
     status
 }
 
+/// Whether an argument begins with a word of the filter language.
+fn begins_with_word(word: &str) -> bool {
+    match word.split_once(|one: char| one == ' ' || one == '[') {
+        Some((first, _)) => is_word(first),
+        None => is_word(word),
+    }
+}
+
 /// A hint on an expression in the place of a command.
 fn hint_expression_for_command<S: AsStr, E: HintSink>(words: &[S], err: &mut E) {
     if let Some(name) = words.get(1) {
-        if is_word(name.as_str()) {
+        if begins_with_word(name.as_str()) {
             give_hint(
                 "an expression goes to a command: bpftap explain -e EXPR IN, or bpftap check EXPR",
                 err,
@@ -317,7 +327,8 @@ fn is_option<S: AsStr>(word: &S) -> bool {
     word.as_str().starts_with("-")
 }
 
-/// Whether an expression among these arguments may lack quotes: `compare` takes two that are a word each.
+/// Whether an expression among these arguments may lack quotes: `compare` takes two that are a word
+/// each.
 fn may_lack_quotes<S: AsStr>(words: &[S]) -> bool {
     let Some(command) = words.get(1) else {
         return false;
@@ -342,7 +353,8 @@ fn hint_missing_word<S: AsStr, E: HintSink>(alloc: Global, words: &[S], err: &mu
     }
 }
 
-/// Whether these are arguments of `explain` without a filter: it took an expression that is given without `-e` for a capture.
+/// Whether these are arguments of `explain` without a filter: it took an expression that is given
+/// without `-e` for a capture.
 fn takes_expression_for_capture<S: AsStr>(words: &[S]) -> bool {
     words.iter().take(3).any(|word| word.as_str() == "explain") && !words.iter().any(gives_filter)
 }

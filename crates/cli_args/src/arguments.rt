@@ -3,7 +3,8 @@
 use clap::{Arg, ArgAction};
 use std::alloc::{AllocError, Global};
 
-/// An argument of a subcommand: its name, its letter, what its help calls the value, and the help itself.
+/// An argument of a subcommand: its name, its letter, what its help calls the value, and the help
+/// itself.
 #[derive(Clone, Copy)]
 pub(crate) enum Argument {
     /// An option without a value.
@@ -44,7 +45,7 @@ pub(crate) enum Argument {
     Quiet(&'static str),
     /// Whether JSON Lines are printed.
     Json,
-    /// An expression, as a word of its own, where no other filter is given.
+    /// An expression, as a word of its own, if no other filter is given.
     Word,
     /// An expression after `-e`, in place of the word.
     Expr,
@@ -102,7 +103,8 @@ fn long_option<'a>(alloc: Global, name: &'a str, value: &'a str, help: &'a str) 
         .help(help)
 }
 
-/// An option of a name without a letter, whose value is a number; one with a sign is a value too, and refused as one.
+/// An option of a name without a letter, whose value is a number; one with a sign is a value too,
+/// and refused as one.
 fn long_number<'a>(alloc: Global, name: &'a str, value: &'a str, help: &'a str) -> Arg<'a> {
     long_option(alloc, name, value, help).allow_negative_numbers(true)
 }
@@ -216,7 +218,7 @@ fn json<'a>(alloc: Global) -> Arg<'a> {
     )
 }
 
-/// An expression, as a word of its own, where no other filter is given.
+/// An expression, as a word of its own, if no other filter is given.
 fn word<'a>(alloc: Global) -> Result<Arg<'a>, AllocError> {
     Arg::new(alloc, "EXPR")
         .help("Filter expression of pcap-filter(7), as one word; it may be empty")

@@ -17,8 +17,8 @@ pub struct CheckWords<'a> {
     pub listing: Option<&'a str>,
     /// The snapshot length of an expression's program, 1 to [`savefile::MAX_SNAP`].
     pub snap: u32,
-    /// How many options `-d` are given: by one the program is printed by the names of its instructions, by two as an array of C,
-    /// and by three as numbers.
+    /// How many options `-d` are given: by one the program is printed by the names of its
+    /// instructions, by two as an array of C, and by three as numbers.
     pub named: u8,
     /// Whether the expression is printed as it was read, and no program.
     pub read: bool,
@@ -147,7 +147,8 @@ pub(crate) fn asks_graph(matches: &ArgMatches<'_>) -> bool {
     matches.get_flag("dot")
 }
 
-/// The words that were found, nothing if one is missing, or if the snapshot length or the packet is invalid.
+/// The words that were found, nothing if one is missing, or if the snapshot length or the packet is
+/// invalid.
 pub fn graph_words<'a>(matches: &ArgMatches<'a>) -> Option<GraphWords<'a>> {
     Some(GraphWords {
         expr: matches.get_str("EXPR").or(matches.get_str("expr")),
@@ -157,7 +158,8 @@ pub fn graph_words<'a>(matches: &ArgMatches<'a>) -> Option<GraphWords<'a>> {
     })
 }
 
-/// The words that were found, nothing if one is missing, if the snapshot length is invalid, or if a packet is named.
+/// The words that were found, nothing if one is missing, if the snapshot length is invalid, or if a
+/// packet is named.
 pub fn check_words<'a>(matches: &ArgMatches<'a>) -> Option<CheckWords<'a>> {
     packet_of(matches).ok()?;
     Some(CheckWords {
@@ -170,7 +172,8 @@ pub fn check_words<'a>(matches: &ArgMatches<'a>) -> Option<CheckWords<'a>> {
     })
 }
 
-/// The error of a snapshot length that has more than digits, or of a packet that is named otherwise.
+/// The error of a snapshot length that has more than digits, or of a packet that is named
+/// otherwise.
 pub fn bad_check_words(alloc: Global, matches: &ArgMatches<'_>) -> Result<Error, AllocError> {
     if let (None, Some(word)) = (matches.get_str("place"), matches.get_str("IN")) {
         return unexpected_word(alloc, word);
@@ -182,7 +185,8 @@ pub fn bad_check_words(alloc: Global, matches: &ArgMatches<'_>) -> Result<Error,
     bad_value(check_usage(alloc), "bpftap check", wanted)
 }
 
-/// The error of a second word without `-p`, as `clap` has it: it may belong to an expression that lacks its quotes.
+/// The error of a second word without `-p`, as `clap` has it: it may belong to an expression that
+/// lacks its quotes.
 fn unexpected_word(alloc: Global, word: &str) -> Result<Error, AllocError> {
     let told = format!(in alloc; "unexpected argument '{word}' found")?;
     let kind = ErrorKind::UnknownArgument;

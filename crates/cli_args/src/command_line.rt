@@ -41,8 +41,9 @@ pub enum Request<'a> {
     Topic(&'static str),
 }
 
-/// What the program calls itself, and in which logic it was proved, as `rt version` names it. Kits share one.
-const VERSION: &str = "2.5.0, proved in the logic dac8208d650f15bf";
+/// What the program calls itself, and in which logic it was proved, as `rt version` names it. Kits
+/// share one.
+const VERSION: &str = "2.6.0, proved in the logic dac8208d650f15bf";
 
 const ABOUT: &str =
     "Filters captures offline, and replays them to listeners that keep and drop packets";
@@ -72,7 +73,8 @@ static SUBCOMMANDS: [&str; 10] = [
     "check", "explain", "compare", "info", "cut", "split", "parts", "join", "steps", "run",
 ];
 
-/// The option that asks for hints, for the help: [`called_words`](crate::hints::called_words) takes it.
+/// The option that asks for hints, for the help: [`called_words`](crate::hints::called_words) takes
+/// it.
 fn hints_arg<'a>(alloc: Global) -> Arg<'a> {
     Arg::new(alloc, "hints")
         .long("hints")
@@ -147,7 +149,7 @@ fn cut_request_of<'a>(
     Ok(cut_words(alloc, words)?.map(Request::Cut))
 }
 
-/// What the words of `steps` ask for; nothing where one is missing.
+/// What the words of `steps` ask for; nothing if one is missing.
 fn steps_request_of<'a>(
     alloc: Global,
     words: &ArgMatches<'a>,
@@ -209,7 +211,7 @@ fn join_request_of<'a>(words: &ArgMatches<'a>) -> Option<Request<'a>> {
     Some(Request::Join(join_words(words)?))
 }
 
-/// What the words of a subcommand ask for; nothing where one is missing or wrong.
+/// What the words of a subcommand ask for; nothing if one is missing or wrong.
 fn request_of<'a>(
     alloc: Global,
     name: &str,
@@ -230,9 +232,10 @@ fn request_of<'a>(
     }
 }
 
-/// The error of words that `clap` took and a subcommand refuses. For `check` it is the snapshot length or the packet, for `cut` that, OUT or a
-/// range, for `parts` the number, for `explain` that, the place or a bound, for `compare` that or a missing IN. For the others a word is missing, which
-/// `clap` has reported.
+/// The error of words that `clap` took and a subcommand refuses. For `check` it is the snapshot
+/// length or the packet, for `cut` that, OUT or a range, for `parts` the number, for `explain`
+/// that, the place or a bound, for `compare` that or a missing IN. For the others a word is
+/// missing, which `clap` has reported.
 fn bad_words(
     alloc: Global,
     name: &str,
@@ -284,7 +287,8 @@ fn asked_by<'a>(
     }
 }
 
-/// What the words ask for, the program's name first; or `clap`'s error, which for a call for help has the help.
+/// What the words ask for, the program's name first; or `clap`'s error, which for a call for help
+/// has the help.
 pub fn read_words<'a, S: AsStr>(alloc: Global, words: &'a [S]) -> Result<Request<'a>, Error> {
     if let Some(page) = topic_of(words) {
         return Ok(Request::Topic(page));

@@ -17,11 +17,13 @@ pub struct CompareWords<'a> {
     pub second: Option<&'a str>,
     /// The path of the listing, if `-f` is given.
     pub listing: Option<&'a str>,
-    /// Whether `-q` is given: nothing is printed, and the status says whether a packet is treated differently.
+    /// Whether `-q` is given: nothing is printed, and the status says whether a packet is treated
+    /// differently.
     pub quiet: bool,
     /// Whether `--json` is given.
     pub json: bool,
-    /// The path that a packet which shows the difference is written to, if `-w` is given. There are no captures then.
+    /// The path that a packet which shows the difference is written to, if `-w` is given. There are
+    /// no captures then.
     pub output: Option<&'a str>,
     /// The paths of the captures, in order. Without any, the filters are decided for every packet.
     pub inputs: Vec<&'a str>,
@@ -134,7 +136,8 @@ impl Objection {
     }
 }
 
-/// The words that were found, `None` if one is missing, if the snapshot length is none, or if `-w` comes with captures.
+/// The words that were found, `None` if one is missing, if the snapshot length is none, or if `-w`
+/// comes with captures.
 pub fn compare_words<'a>(
     alloc: Global,
     matches: &ArgMatches<'a>,

@@ -152,7 +152,8 @@ pub(crate) fn objection_to_bounds(matches: &ArgMatches<'_>) -> Option<&'static s
     }
 }
 
-/// The words that were found, `None` if one is missing, or if the snapshot length or a bound is invalid.
+/// The words that were found, `None` if one is missing, or if the snapshot length or a bound is
+/// invalid.
 pub fn count_words<'a>(
     alloc: Global,
     matches: &ArgMatches<'a>,

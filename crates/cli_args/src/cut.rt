@@ -15,9 +15,9 @@ use std::alloc::{AllocError, Global};
 pub struct CutWords<'a> {
     /// The snapshot length, 1 to [`savefile::MAX_SNAP`].
     pub snap: u32,
-    /// The path of the listing, where `-f` is given.
+    /// The path of the listing, if `-f` is given.
     pub listing: Option<&'a str>,
-    /// The expression, where `-e` is given.
+    /// The expression, if `-e` is given.
     pub expr: Option<&'a str>,
     pub order: Order,
     pub unit: Unit,
@@ -134,8 +134,8 @@ fn bytes_of(matches: &ArgMatches<'_>) -> Result<Option<ByteRange>, ()> {
     }
 }
 
-/// The words that were found, `None` if one is missing, if the snapshot length or the range is invalid, if several words without `-w` follow
-/// IN, or several IN go with a range.
+/// The words that were found, `None` if one is missing, if the snapshot length or the range is
+/// invalid, if several words without `-w` follow IN, or several IN go with a range.
 pub fn cut_words<'a>(
     alloc: Global,
     matches: &ArgMatches<'a>,
@@ -179,8 +179,9 @@ const NAME_WANTED: &str =
 const RANGE_WANTED: &str =
     "--bytes takes FIRST-END, two numbers, the lesser first, and only one IN";
 
-/// The error of words that `clap` took and `cut` refuses: of a snapshot length that has more than digits, of a missing OUT, of a range that is
-/// none or has several IN, or of several IN without `-w`.
+/// The error of words that `clap` took and `cut` refuses: of a snapshot length that has more than
+/// digits, of a missing OUT, of a range that is none or has several IN, or of several IN without
+/// `-w`.
 pub fn bad_cut_words(alloc: Global, matches: &ArgMatches<'_>) -> Result<Error, AllocError> {
     let (kind, wanted) = if snap_of(matches).is_none() {
         (ErrorKind::ValueValidation, SNAP_WANTED)

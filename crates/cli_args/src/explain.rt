@@ -13,9 +13,9 @@ use std::alloc::{AllocError, Global};
 pub struct ExplainWords<'a> {
     /// The snapshot length of an expression's program, 1 to [`savefile::MAX_SNAP`].
     pub snap: u32,
-    /// The expression, where `-e` is given.
+    /// The expression, if `-e` is given.
     pub expr: Option<&'a str>,
-    /// The path of the listing, where `-f` is given.
+    /// The path of the listing, if `-f` is given.
     pub listing: Option<&'a str>,
     /// The places of the packets to explain in full, if `-p` is given.
     pub places: Option<PlaceRange>,
@@ -153,7 +153,8 @@ fn places_of(matches: &ArgMatches<'_>) -> Option<Option<PlaceRange>> {
     }
 }
 
-/// The words that were found, `None` if one is missing, or if the snapshot length or the place is invalid.
+/// The words that were found, `None` if one is missing, or if the snapshot length or the place is
+/// invalid.
 pub fn explain_words<'a>(
     alloc: Global,
     matches: &ArgMatches<'a>,

@@ -22,7 +22,8 @@ pub struct ByteRange {
 pub const PLACES_WANTED: &str =
     "-p takes a number from 0 to 18446744073709551615, or two with a - between, the lesser first";
 
-/// The places that `PLACE` or `FIRST-LAST` names; `None` if it has neither form, or if LAST is below FIRST.
+/// The places that `PLACE` or `FIRST-LAST` names; `None` if it has neither form, or if LAST is
+/// below FIRST.
 pub fn place_range(text: &str) -> Option<PlaceRange> {
     match text.split_once('-') {
         Some((first, last)) => {
@@ -41,7 +42,8 @@ fn place(text: &str) -> Option<u64> {
     number(text.as_bytes(), u64::MAX)
 }
 
-/// The bytes that `FIRST-END` names, from FIRST up to the one before END; `None` if it lacks that form, or if END is below FIRST.
+/// The bytes that `FIRST-END` names, from FIRST up to the one before END; `None` if it lacks that
+/// form, or if END is below FIRST.
 pub fn byte_range(text: &str) -> Option<ByteRange> {
     let (first, end) = text.split_once('-')?;
     let (first, end) = (place(first)?, place(end)?);

@@ -93,7 +93,8 @@ const TIP: &str = "\n\n  tip: to pass '";
 /// What the text of an error begins with.
 const ERROR: &str = "error: ";
 
-/// The error of an unknown option without the advice to put it after `--`, where it would be taken for a file.
+/// The error of an unknown option without the advice to put it after `--`, where it would be taken
+/// for a file.
 fn without_tip<S: AsStr>(alloc: Global, words: &[S], error: Error) -> Result<Error, AllocError> {
     let text = format!(in alloc; "{error}")?;
     let Some((what, _)) = text.as_str().split_once(TIP) else {
@@ -109,7 +110,8 @@ fn without_tip<S: AsStr>(alloc: Global, words: &[S], error: Error) -> Result<Err
     )
 }
 
-/// The error of an unknown option: of an expression that begins with `-` it says how that is written.
+/// The error of an unknown option: of an expression that begins with `-` it says how that is
+/// written.
 fn unknown_argument<S: AsStr>(
     alloc: Global,
     words: &[S],
@@ -121,8 +123,8 @@ fn unknown_argument<S: AsStr>(
     }
 }
 
-/// The error of arguments that are refused. For an expression that `clap` takes for options it is one of its own, and for an unknown option
-/// it lacks the advice of `clap` to write the word `--`.
+/// The error of arguments that are refused. For an expression that `clap` takes for options it is
+/// one of its own, and for an unknown option it lacks the advice of `clap` to write the word `--`.
 pub fn refusal_of<S: AsStr>(alloc: Global, words: &[S], error: Error) -> Error {
     if error.kind() != ErrorKind::UnknownArgument {
         return error;
@@ -150,8 +152,8 @@ fn error_with_way(alloc: Global, error: &Error, way: &str) -> Result<Error, Allo
     program(alloc)?.error(ErrorKind::InvalidSubcommand, told.as_str())
 }
 
-/// The error of a command that there is not, with the way to do what its name stands for elsewhere in place of the advice of `clap`, which
-/// names a command that is spelt alike.
+/// The error of a command that there is not, with the way to do what its name stands for elsewhere
+/// in place of the advice of `clap`, which names a command that is spelt alike.
 pub fn with_way(alloc: Global, error: &Error, way: &str) -> Error {
     match error_with_way(alloc, error, way) {
         Ok(error) => error,
@@ -173,8 +175,8 @@ fn escape_all<S: AsStr>(alloc: Global, words: &[S]) -> Result<Vec<String>, Alloc
     Ok(escaped)
 }
 
-/// The error of arguments as it is printed: that of the same arguments with their control characters escaped, so that none of them
-/// controls a terminal.
+/// The error of arguments as it is printed: that of the same arguments with their control
+/// characters escaped, so that none of them controls a terminal.
 pub fn printed_error<S: AsStr>(alloc: Global, words: &[S], error: Error) -> Error {
     if !words.iter().any(has_control) {
         return error;

@@ -2,7 +2,8 @@
 
 use std::convert::AsStr;
 
-/// `bpftap help expressions`: the filter language on one page. `tests/program.py words` compiles each example.
+/// `bpftap help expressions`: the filter language on one page. `tests/program.py words` compiles
+/// each example.
 const EXPRESSIONS: &str =
     r"Filter expressions say which packets are wanted. The language is that of pcap-filter(7) for
 Ethernet with IPv4. Put an expression in single quotes.

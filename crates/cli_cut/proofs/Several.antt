@@ -1,4 +1,4 @@
--- What the steps of a cut of several captures come to.
+-- The outcome of the steps of a cut of several captures.
 use Rattle.std.proofs.Common.{◌≡◌, ◌≢◌, ◌⊎◌, inl, inr, ℕ, zero, suc, ◌+◌, ◌<◌, ◌≤◌, List, [], ◌∷◌, ◌++◌, length, map, All, refl, sym, ◌∙◌, ap, subst, arith, fold, slice_index_or, Bool, true, false, Option, Some, None, IfSome, IfOk, IfErr, option_copied, Result, Ok, Err, Bor}
 use Rattle.std.specs.List.{AllZip, Any}
 use Rattle.std.proofs.lemmas.List.Elements.{All-map}

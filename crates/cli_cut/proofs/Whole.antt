@@ -1,4 +1,4 @@
--- What the steps of a cut come to.
+-- The outcome of the steps of a cut.
 use Rattle.std.proofs.Common.{◌≡◌, ◌≢◌, ℕ, ◌≤◌, ◌<◌, ◌∷◌, zero, suc, List, [], length, take, length-take, ◌∙◌, sym, ap, subst, refl, Option, Some, None, option_copied, unwrap_or, Result, Ok, Err, IfOk, Bool, true, false, inl, inr, arith, ◌⊎◌, Bor}
 use Rattle.std.proofs.lemmas.Bool.{false≢true}
 use Rattle.std.specs.List.{Any}

@@ -37,7 +37,7 @@ IsUnopened place denied paths (refusal.File path error) = Any (λ input. input.n
 IsUnopened place denied paths refusal.NoMemory = ⊤
 IsUnopened place denied paths other = ⊥
 
--- there is the memory that a cut of so many captures needs once OUT is made
+-- there is the memory that a cut of this many captures needs once OUT is made
 pub record HasSpace {R W : Type 0} (captures : ℕ) (space : Space R W) : Type 0 where
   pub room : HasRoom captures 1 space.room
   pub no_part : space.parts.items ≡ []

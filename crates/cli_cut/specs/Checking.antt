@@ -7,16 +7,18 @@ use Rattle.cli_files.specs.Reading.{IsRefusedMemory}
 use Rattle.cli_files.specs.declared.paths.PathFault.{PathFault}
 use Rattle.cli_files.specs.declared.paths.PathFault.TheVariants as paths
 use Rattle.cli_store.specs.Files.{Places, Texts}
-use Rattle.cli_cut.specs.Cutting.{IsGiven, IsUngiven}
+use Rattle.cli_text.specs.declared.status.Status.{Status}
+use Rattle.cli_cut.specs.Cutting.{IsGiven, IsRefusalStatus, IsUngiven}
 use Rattle.cli_cut.specs.Objects.{IsObjectUnprinted, PrintsObject, program_json}
 use Rattle.cli_cut.specs.Printing.{IsUnprinted, IsUnread, IsUnshown, PrintsRead, program_text}
+use Rattle.cli_cut.specs.Telling.{print_status}
 use Rattle.cli_cut.specs.declared.outcome.Refusal.{Refusal}
 use Rattle.cli_cut.specs.declared.outcome.Refusal.TheVariants as refusal
 use Rattle.cli_cut.specs.declared.print.PrintFault.{PrintFault}
 use Rattle.cli_cut.specs.declared.print.ProgramForm.{ProgramForm}
 use Rattle.cli_cut.specs.declared.print.ProgramForm.TheVariants as forms
 
--- the form for so many options `-d`: as for `tcpdump -d`, one names the instructions, two make an array of C, and three numbers
+-- the form for this many options `-d`: as for `tcpdump -d`, one names the instructions, two make an array of C, and three numbers
 abbrev pub form_for : ℕ → ProgramForm
 form_for named = if named == 1 then forms.Image else if named == 2 then forms.Array else forms.Listing
 
@@ -67,6 +69,22 @@ ChecksBy place text printed old new words false (Some expr) true done = PrintsEx
 ChecksBy place text printed old new words false expr read done =
     (program : List Insn) × IsAskedFor place text printed (option_copied words.listing) expr words.snap program × PrintsProgram old new (form_for words.named) program done
 
--- A call of `bpftap check` that was not refused: what standard output had, which was `old`, is now `new`.
+-- What a call that was not refused printed: what standard output had, which was `old`, is now `new`.
 abbrev pub Checks : Places → Texts → Option (List ℕ) → Option (List ℕ) → Option (List ℕ) → CheckWords → Result (Unit {0}) PrintFault → Type 0
 Checks place text printed old new words done = ChecksBy place text printed old new words words.json (option_copied words.expr) words.read done
+
+-- what a call came to: how the printing ended, or why nothing was printed
+abbrev pub Checked : Type 0
+Checked = Result (Result (Unit {0}) PrintFault) Refusal
+
+-- A call of `bpftap check`: it was refused for a reason, and nothing was printed; or what is asked for was printed, as far as its end says.
+abbrev pub ChecksFiles : Places → Texts → Option (List ℕ) → Bool → Option (List ℕ) → Option (List ℕ) → Option (List ℕ) → CheckWords → Checked → Type 0
+ChecksFiles place text printed failed denied old new words (Ok done) = Checks place text printed old new words done
+ChecksFiles place text printed failed denied old new words (Err reason) =
+    IsUnasked place text printed failed denied (option_copied words.listing) (option_copied words.expr) words.snap reason × (new ≡ old)
+
+-- ---- The exit status
+
+abbrev pub IsCheckStatus : Checked → Status → Type 0
+IsCheckStatus (Ok done) ended = ended ≡ print_status done
+IsCheckStatus (Err reason) ended = IsRefusalStatus reason ended

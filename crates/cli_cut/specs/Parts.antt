@@ -29,7 +29,7 @@ pub record IsCutAndEmptied {R W : Type 0} (left : R → Option (List ℕ)) (take
   pub cuts : Cuts left taken from to program snap order unit cut
   pub emptied : IsEmptied taken cut end
 
--- a part of this range, of a capture of so many bytes, whose cut into this file came to this
+-- a part of this range, of a capture of `whole` bytes, whose cut into this file ended so
 pub record IsPartOfCut {R W : Type 0} (range : ByteRange) (whole : ℕ) (path : List ℕ) (cut : CutEnd R W) (part : PartCut) : Type 0 where
   pub first : part.first ≡ range.first
   pub end : part.end ≡ range.end

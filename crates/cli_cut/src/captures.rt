@@ -17,6 +17,7 @@ use bpfvm::Program;
 use cli_args::cut::CutWords;
 use cli_files::paths::Opening;
 use cli_report::HintSink;
+use cli_report::probe::ProbedInput;
 use cli_split::closing::close_files;
 use cli_split::hints::hint_ended;
 use cli_split::opening::late_captures;
@@ -88,16 +89,18 @@ fn open_captures<'p, F: FileStore<'p>>(
 struct Space<R, W> {
     room: Room<R, W>,
     parts: Vec<Part<W>>,
+    notes: Vec<ProbedInput<()>>,
     closed: Vec<ClosedPart>,
 }
 
-/// Reserves the space for so many captures.
+/// Reserves the space for this many captures.
 fn reserve<R: Drop, W: Drop>(alloc: Global, captures: usize) -> Result<Space<R, W>, AllocError>
     ensures { IfOk result (HasSpace captures) }
 {
     Ok(Space {
         room: Room::reserve(alloc, captures, 1)?,
         parts: Vec::with_capacity(alloc, 1)?,
+        notes: Vec::with_capacity(alloc, captures)?,
         closed: Vec::with_capacity(alloc, 1)?,
     })
 }
@@ -124,6 +127,7 @@ fn cut_opened<'p, F: FileStore<'p>>(
     let Space {
         room,
         mut parts,
+        notes,
         closed,
     } = space;
     let sink = match files.create(words.output) {
@@ -136,11 +140,12 @@ fn cut_opened<'p, F: FileStore<'p>>(
         sink,
     });
     let end = split_in(alloc, room, captures, parts, words.order, words.unit);
-    Ok(close_files(alloc, files, end, closed))
+    Ok(close_files(files, end, notes, closed))
 }
 
-/// `bpftap cut` of several captures, whatever the files are. The filter is accepted, and the paths are compared, before a capture is opened; each
-/// is opened when it is read first, and OUT is made at its first byte. No other file changes.
+/// `bpftap cut` of several captures, whatever the files are. The filter is accepted, and the paths
+/// are compared, before a capture is opened; each is opened when it is read first, and OUT is made
+/// at its first byte. No other file changes.
 pub fn cut_several<'p, F: FileStore<'p>>(
     alloc: Global,
     files: &mut F,
@@ -169,9 +174,10 @@ fn report_part<W, E: Write>(part: &PartEnd<W>, form: LineForm, err: &mut E) -> i
     }
 }
 
-/// Reports how many of the packets of all captures were written, in a line `67 of 253 packets` or in an object of JSON, if the header of the first capture was
-/// read and OUT, the only part, was written whole. Packets count up to the fault that ended the reading. Else it reports nothing. The
-/// error is that of standard error, which took a prefix of the line.
+/// Reports how many of the packets of all captures were written, in a line `67 of 253 packets` or
+/// in an object of JSON, if the header of the first capture was read and OUT, the only part, was
+/// written whole. Packets count up to the fault that ended the reading. Else it reports nothing.
+/// The error is that of standard error, which took a prefix of the line.
 pub fn report_total<R, W, E: Write>(
     end: &SplitEnd<R, W>,
     form: LineForm,
@@ -208,8 +214,8 @@ pub(crate) fn is_unread(end: &ClosedEnd) -> bool
     }
 }
 
-/// Reports how a cut of several captures ended, as a split into this OUT, with hints, and returns the exit status. The count comes after the
-/// faults and their hints.
+/// Reports how a cut of several captures ended, as a split into this OUT, with hints, and returns
+/// the exit status. The count comes after the faults and their hints.
 pub(crate) fn report_captures<E: HintSink>(
     end: &ClosedEnd,
     words: &CutWords<'_>,

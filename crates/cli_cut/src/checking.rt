@@ -15,7 +15,7 @@ use cli_store::FileStore;
 use std::alloc::Global;
 use std::io::Write;
 
-/// The form for so many options `-d`.
+/// The form for this many options `-d`.
 fn form_for(named: u8) -> ProgramForm
     ensures { result ≡ form_for named }
 {
@@ -26,7 +26,8 @@ fn form_for(named: u8) -> ProgramForm
     }
 }
 
-/// The program that is printed: that of the listing's file, to which standard output may not go, or that of the expression.
+/// The program that is printed: that of the listing's file, to which standard output may not go, or
+/// that of the expression.
 fn read_program<'p, F: FileStore<'p>>(
     alloc: Global,
     files: &mut F,
@@ -45,8 +46,8 @@ fn read_program<'p, F: FileStore<'p>>(
     }
 }
 
-/// Prints what is asked for: an object, the expression as it was read, or a program in some form. Nothing is printed before the program is
-/// accepted, and no file changes.
+/// Prints what is asked for: an object, the expression as it was read, or a program in some form.
+/// Nothing is printed before the program is accepted, and no file changes.
 pub fn check_files<'p, F: FileStore<'p>, O: Write>(
     alloc: Global,
     files: &mut F,

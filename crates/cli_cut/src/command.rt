@@ -1,7 +1,9 @@
 //! `bpftap cut` and `bpftap check`, over files.
 
 ghost use Rattle.std.specs.Prelude.{◌≡◌, [], true, Result};
+ghost use Rattle.cli_store.specs.Files.{Keeps};
 ghost use Rattle.cli_cut.specs.Captures.{Closed, CutsAll, IsStatusOfAll};
+ghost use Rattle.cli_cut.specs.Checking.{Checked, ChecksFiles, IsCheckStatus};
 ghost use Rattle.cli_cut.specs.Cutting.{CutsFiles, IsStatusOf};
 ghost use Rattle.cli_cut.specs.Telling.{status_of};
 ghost use Rattle.cli_cut.specs.declared.outcome.CutOutcome.{CutOutcome};
@@ -25,7 +27,8 @@ use std::alloc::Global;
 use std::fs::Files;
 use std::io::Write;
 
-/// Reports how a cut ended, with hints, and returns the exit status. The count comes after the fault and its hints.
+/// Reports how a cut ended, with hints, and returns the exit status. The count comes after the
+/// fault and its hints.
 pub(crate) fn report_cut<E: HintSink>(
     report: &CutReport,
     words: &CutWords<'_>,
@@ -35,15 +38,15 @@ pub(crate) fn report_cut<E: HintSink>(
     ensures { result ≡ status_of report.now.end }
 {
     let status = report_end(report.end, from, words.output, err);
-    hint_cut(report, err);
+    hint_cut(report, from, err);
     if words.counted {
         let _ = report_count(report.end, report.tally, LineForm::asked(words.json), err);
     }
     status
 }
 
-/// Cuts the only IN, and reports how that ended. That nobody reads standard output any more is not reported, as for `/dev/stdout` before
-/// `| head`.
+/// Cuts the only IN, and reports how that ended. That nobody reads standard output any more is not
+/// reported, as for `/dev/stdout` before `| head`.
 pub fn cut_and_report<'p, F: FileStore<'p>, E: HintSink>(
     alloc: Global,
     files: &mut F,
@@ -90,7 +93,8 @@ pub fn cut_several_and_report<'p, F: FileStore<'p>, E: HintSink>(
     }
 }
 
-/// `bpftap cut`: the filter is accepted, and the paths are compared, before an IN is opened. OUT is made at its first write.
+/// `bpftap cut`: the filter is accepted, and the paths are compared, before an IN is opened. OUT is
+/// made at its first write.
 pub fn cut_command<R: Files + AllocGlobal + Screen, E: HintSink>(
     rt: &R,
     words: &CutWords<'_>,
@@ -115,15 +119,21 @@ pub fn cut_command<R: Files + AllocGlobal + Screen, E: HintSink>(
     status
 }
 
-/// `bpftap check`: prints the program of an expression or of a listing's file, or the expression as it was read.
-pub fn check_command<R: Files + AllocGlobal + Screen, O: Write, E: HintSink>(
-    rt: &R,
-    words: &CheckWords<'_>,
+/// Prints the program of an expression or of a listing's file, or the expression as it was read, and
+/// reports how that ended.
+pub fn check_and_report<'p, F: FileStore<'p>, O: Write, E: HintSink>(
+    alloc: Global,
+    files: &mut F,
+    words: &CheckWords<'p>,
     out: &mut O,
     err: &mut E,
-) -> Status {
-    let (alloc, watch) = (rt.alloc(), Watch::new(rt, &[], false));
-    match check_files(alloc, &mut DiskFiles::new(rt, &watch), words, out) {
+) -> Status
+    ensures kept { Keeps (F.place files.old) (F.place files.new) (F.text files.old) (F.text files.new) (F.pending files.old) (F.pending files.new) }
+    ensures checks { F.known ≡ true → (outcome : Checked)
+        × ChecksFiles (F.place files.old) (F.text files.old) (F.printed files.old) (F.failed files.new) (F.denied files.new) (O.contents out.old) (O.contents out.new) words.now outcome
+        × IsCheckStatus outcome result }
+{
+    match check_files(alloc, files, words, out) {
         Ok(printed) => {
             let status = report_print(&printed, err);
             hint_print(alloc, words.expr.unwrap_or(""), &printed, err);
@@ -131,4 +141,15 @@ pub fn check_command<R: Files + AllocGlobal + Screen, O: Write, E: HintSink>(
         }
         Err(refusal) => report_refusal(alloc, &refusal, words.expr, err),
     }
+}
+
+/// `bpftap check`, over the files of the system.
+pub fn check_command<R: Files + AllocGlobal + Screen, O: Write, E: HintSink>(
+    rt: &R,
+    words: &CheckWords<'_>,
+    out: &mut O,
+    err: &mut E,
+) -> Status {
+    let watch = Watch::new(rt, &[], false);
+    check_and_report(rt.alloc(), &mut DiskFiles::new(rt, &watch), words, out, err)
 }

@@ -98,12 +98,14 @@ fn object_of(alloc: Global, expr: Option<&Expr>, program: &Program) -> Result<St
     Ok(text)
 }
 
-/// Prints a program as an object of JSON on a line, with the expression that it is of as it was read, or `null`:
-/// `{"expression":"ip","instructions":[{"place":0,"code":40,"jt":0,"jf":0,"k":12,"name":"ldh [12]"},..]}`. Places count from 0, and `name`
-/// has no places of conditional jumps. An expression that begins with `-` is in parentheses.
+/// Prints a program as an object of JSON on a line, with the expression that it is of as it was
+/// read, or `null`:
+/// `{"expression":"ip","instructions":[{"place":0,"code":40,"jt":0,"jf":0,"k":12,"name":"ldh
+/// [12]"},..]}`. Places count from 0, and `name` has no places of conditional jumps. An expression
+/// that begins with `-` is in parentheses.
 ///
-/// The fault is [`PrintFault::NoMemory`], and then nothing was printed, or [`PrintFault::Output`]: `out` failed, and took a prefix of the
-/// object and no more.
+/// The fault is [`PrintFault::NoMemory`], and then nothing was printed, or [`PrintFault::Output`]:
+/// `out` failed, and took a prefix of the object and no more.
 pub fn show_object<O: Write>(
     alloc: Global,
     expr: Option<&Expr>,
@@ -119,10 +121,12 @@ pub fn show_object<O: Write>(
     }
 }
 
-/// Prints an expression as it was read, and its program with a snapshot length of 1 to 262,144, as [`show_object`] does.
+/// Prints an expression as it was read, and its program with a snapshot length of 1 to 262,144, as
+/// [`show_object`] does.
 ///
-/// The fault is [`PrintFault::Expression`] of a text which is no expression, or is too deep or too long to compile, or of a snapshot length
-/// that is out of range, or, with `NoMemory`, if memory for that ran out; else one of [`show_object`].
+/// The fault is [`PrintFault::Expression`] of a text which is no expression, or is too deep or too
+/// long to compile, or of a snapshot length that is out of range, or, with `NoMemory`, if memory
+/// for that ran out; else one of [`show_object`].
 pub fn check_object<O: Write>(
     alloc: Global,
     expr: &str,

@@ -16,7 +16,8 @@ use savefile::Fault;
 use savefile::laws::packets_take_room;
 use std::alloc::Global;
 
-/// Refuses an OUT that is IN or the listing's file, or that a standard stream comes from or goes to.
+/// Refuses an OUT that is IN or the listing's file, or that a standard stream comes from or goes
+/// to.
 fn check_paths<'p, F: FileStore<'p>>(
     files: &mut F,
     words: &CutWords<'p>,
@@ -110,8 +111,8 @@ fn cut_accepted<'p, F: FileStore<'p>>(
     }
 }
 
-/// `bpftap cut` of one capture, whatever the files are. The filter is accepted, and the paths are compared, before IN is opened; OUT is
-/// made at its first byte. No other file changes.
+/// `bpftap cut` of one capture, whatever the files are. The filter is accepted, and the paths are
+/// compared, before IN is opened; OUT is made at its first byte. No other file changes.
 pub fn cut_one<'p, F: FileStore<'p>>(
     alloc: Global,
     files: &mut F,

@@ -31,7 +31,8 @@ pub enum Refusal<'p> {
 #[derive(Debug, Drop)]
 pub struct CutReport {
     pub end: End,
-    /// How many packets were read and written, if the capture was read to its end or to a torn or bad record, and all was written.
+    /// How many packets were read and written, if the capture was read to its end or to a torn or
+    /// bad record, and all was written.
     pub tally: Tally,
     /// What was noted of IN.
     pub noted: FailureProbe<()>,

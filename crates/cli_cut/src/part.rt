@@ -32,20 +32,22 @@ use std::io;
 use std::io::Write;
 
 /// What a cut needs: its filter, IN, and OUT.
-struct Job<I, O> {
-    program: Program,
-    input: I,
-    output: O,
+pub struct Job<I, O> {
+    pub program: Program,
+    pub input: I,
+    pub output: O,
 }
 
-/// What a cut of a part needs: the range, how many bytes the whole capture has, and what a cut needs.
-struct PartJob<I, O> {
-    bytes: ByteRange,
-    size: u64,
-    job: Job<I, O>,
+/// What a cut of a part needs: the range, how many bytes the whole capture has, and what a cut
+/// needs.
+pub struct PartJob<I, O> {
+    pub bytes: ByteRange,
+    pub size: u64,
+    pub job: Job<I, O>,
 }
 
-/// Empties the buffer in front of OUT. What fails only now is a fault of OUT too, and goes before a torn record.
+/// Empties the buffer in front of OUT. What fails only now is a fault of OUT too, and goes before a
+/// torn record.
 fn flush<R, W: Write>(mut end: CutEnd<R, Counted<W>>) -> CutEnd<R, Counted<W>>
     ensures { IsEmptied (λ sink. W.contents sink.inner) end result }
 {
@@ -80,7 +82,8 @@ fn cut_job<R: Source + Drop, W: Write + Drop>(
     flush(end)
 }
 
-/// Prints the line of a part of this range, whose cut ended so, if the part was read to its end or to a torn or bad record and all was written.
+/// Prints the line of a part of this range, whose cut ended so, if the part was read to its end or
+/// to a torn or bad record and all was written.
 fn print_end<R, W, O: Write>(
     alloc: Global,
     bytes: ByteRange,
@@ -98,8 +101,9 @@ fn print_end<R, W, O: Write>(
     }
 }
 
-/// Cuts a part, and prints its line.
-fn cut_and_print<R: Source + Drop, W: Write + Drop, O: Write>(
+/// Cuts a part, empties the buffer in front of OUT, and prints the line of the part, if it was read
+/// to its end or to a torn or bad record and all was written.
+pub fn cut_and_print<R: Source + Drop, W: Write + Drop, O: Write>(
     alloc: Global,
     words: &CutWords<'_>,
     part: PartJob<R, Counted<W>>,
@@ -136,7 +140,8 @@ fn report_inside<E: HintSink>(
     status
 }
 
-/// Reports how a cut of a range ended, after which IN goes on or not. That nobody reads standard output any more is not reported.
+/// Reports how a cut of a range ended, after which IN goes on or not. That nobody reads standard
+/// output any more is not reported.
 fn report_part<F: Files, E: HintSink>(
     rt: &F,
     report: &CutReport,
@@ -180,8 +185,8 @@ fn cut_part<'r, R: Files + AllocGlobal + Screen, O: Write, E: HintSink>(
     Ok(report_part(rt, &CutReport::of(end), words, from, err).max(printed))
 }
 
-/// `bpftap cut --bytes`: the filter is accepted, and the paths are compared, before IN is opened, which is a regular file. OUT is made at its
-/// first write.
+/// `bpftap cut --bytes`: the filter is accepted, and the paths are compared, before IN is opened,
+/// which is a regular file. OUT is made at its first write.
 pub fn cut_part_command<R: Files + AllocGlobal + Screen, O: Write, E: HintSink>(
     rt: &R,
     words: &CutWords<'_>,

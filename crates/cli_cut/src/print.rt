@@ -35,9 +35,10 @@ pub enum PrintFault {
 
 /// Prints the listing of an expression's program at the largest snapshot length, 262,144.
 ///
-/// The fault is the one that applies: [`PrintFault::Expression`] of a text which is no expression, or is too deep or too long to
-/// compile, or, with `NoMemory`, if memory for that ran out. If there is a program: [`PrintFault::NoMemory`] if memory for its
-/// listing was refused, and [`PrintFault::Output`] if `out` fails, which then took a prefix of the listing and no more.
+/// The fault is the one that applies: [`PrintFault::Expression`] of a text which is no expression,
+/// or is too deep or too long to compile, or, with `NoMemory`, if memory for that ran out. If there
+/// is a program: [`PrintFault::NoMemory`] if memory for its listing was refused, and
+/// [`PrintFault::Output`] if `out` fails, which then took a prefix of the listing and no more.
 pub fn check<O: Write>(alloc: Global, expr: &str, out: &mut O) -> Result<(), PrintFault>
     ensures printed { OnOk result (Prints (O.contents out.old) (O.contents out.new) expr.now) }
     ensures fault { IfErr result (IsUnchecked (O.contents out.old) (O.contents out.new) expr.now) }
@@ -80,8 +81,8 @@ pub(crate) fn print<O: Write>(text: &[u8], out: &mut O) -> Result<(), PrintFault
     }
 }
 
-/// Prints a program in one of its forms. The fault is [`PrintFault::NoMemory`], and then nothing was printed, or
-/// [`PrintFault::Output`]: `out` failed, and took a prefix of the text and no more.
+/// Prints a program in one of its forms. The fault is [`PrintFault::NoMemory`], and then nothing
+/// was printed, or [`PrintFault::Output`]: `out` failed, and took a prefix of the text and no more.
 pub fn show<O: Write>(
     alloc: Global,
     program: &Program,
@@ -140,11 +141,13 @@ fn print_read<O: Write>(alloc: Global, expr: &Expr, out: &mut O) -> Result<(), P
     }
 }
 
-/// Prints an expression as it was read, on one line: its canonical text, in which all that was inherited is written out. One that
-/// begins with `-` is printed in parentheses, so that it can be given back on a command line. It need not compile.
+/// Prints an expression as it was read, on one line: its canonical text, in which all that was
+/// inherited is written out. One that begins with `-` is printed in parentheses, so that it can be
+/// given back on a command line. It need not compile.
 ///
-/// The fault is that of a text which is no expression; or [`PrintFault::NoMemory`], and then nothing was printed; or
-/// [`PrintFault::Output`]: `out` failed, and took a prefix of the line and no more.
+/// The fault is that of a text which is no expression; or [`PrintFault::NoMemory`], and then
+/// nothing was printed; or [`PrintFault::Output`]: `out` failed, and took a prefix of the line and
+/// no more.
 pub fn show_read<O: Write>(alloc: Global, expr: &str, out: &mut O) -> Result<(), PrintFault>
     ensures printed { OnOk result (PrintsRead (O.contents out.old) (O.contents out.new) expr.now) }
     ensures fault { IfErr result (IsUnread (O.contents out.old) (O.contents out.new) expr.now) }

@@ -79,7 +79,8 @@ fn report_unfit<E: HintSink>(
     Status::Refused
 }
 
-/// Whether what OUT has is known by packets: the capture was read to its end or to a torn or bad record, and all was written.
+/// Whether what OUT has is known by packets: the capture was read to its end or to a torn or bad
+/// record, and all was written.
 fn is_counted(end: End) -> bool
     ensures { result ≡ is_counted end }
 {
@@ -130,9 +131,9 @@ pub(crate) fn report_tally<E: Write>(tally: Tally, form: LineForm, err: &mut E) 
     send(line.as_bytes(), err)
 }
 
-/// Reports how many of the packets were written, in a line `67 of 253 packets` or in an object of JSON, if the capture was read to its end
-/// or to a torn or bad record, and all was written. Else it reports nothing. The error is that of standard error, which took a prefix of the
-/// line.
+/// Reports how many of the packets were written, in a line `67 of 253 packets` or in an object of
+/// JSON, if the capture was read to its end or to a torn or bad record, and all was written. Else
+/// it reports nothing. The error is that of standard error, which took a prefix of the line.
 pub fn report_count<E: Write>(end: End, tally: Tally, form: LineForm, err: &mut E) -> io::Result<()>
     ensures { Takes (E.contents err.old) (E.contents err.new) result (count_told form end tally) }
 {

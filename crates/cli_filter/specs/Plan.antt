@@ -39,7 +39,7 @@ HaveOwnOutputs output shared asked = AllPairs (λ earlier later. shared (output 
 abbrev pub AreLines : {X : Type 0} → (List ℕ → X → Type 0) → (X → List ℕ) → (List ℕ → Bool) → ℕ → List ℕ → List X → Type 0
 AreLines {X} Is output shared most text kept = (asked : List X) × IsFileOf Is text asked × HaveOwnOutputs output shared asked × (kept ≡ take most asked)
 
--- the n-th line of a text, from 1, is the first that lacks the form, or has the OUT of an earlier line, which several may not have
+-- the n-th line of a text, from 1, is the first bad one: it lacks the form, or has the OUT of an earlier line, which several may not have
 pub record IsFirstBadLine {X : Type 0} (Is : List ℕ → X → Type 0) (output : X → List ℕ) (shared : List ℕ → Bool) (text : List ℕ) (n : ℕ) : Type 0 where
   pub before : List (List ℕ)
   pub line : List ℕ

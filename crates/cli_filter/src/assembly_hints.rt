@@ -92,7 +92,8 @@ fn line_of_insn(text: &[u8], place: usize) -> usize {
     found
 }
 
-/// Hints on assembly whose instructions are no program: the line of the instruction, and what is wrong with it.
+/// Hints on assembly whose instructions are no program: the line of the instruction, and what is
+/// wrong with it.
 fn hint_program<E: HintSink>(text: &[u8], fault: Invalid, err: &mut E)
     ensures quiet { E.takes_hints err.old ≡ false → err.new ≡ err.old }
 {

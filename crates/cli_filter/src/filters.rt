@@ -1,4 +1,5 @@
-//! The filters of the commands, each of a listing's file or of an expression, and what is reported if there is none.
+//! The filters of the commands, each of a listing's file or of an expression, and what is reported
+//! if there is none.
 
 ghost use Rattle.std.specs.Prelude.{◌≡◌, ◌⊎◌, ℕ, List, Some, None, false, Ok, IfErr, IfOk, IsErr, option_copied};
 ghost use Rattle.cli_text.specs.declared.status.Status.TheVariants.{Failed, Refused};
@@ -51,7 +52,8 @@ fn hint_filter<E: HintSink>(
     }
 }
 
-/// Reports why a listing or an expression gives no filter, if it gives none, and returns the exit status then.
+/// Reports why a listing or an expression gives no filter, if it gives none, and returns the exit
+/// status then.
 pub fn filter_or_report<E: HintSink>(
     alloc: Global,
     listing: Option<&[u8]>,
@@ -87,7 +89,8 @@ pub fn program_of_file<R: Files + AllocGlobal, E: HintSink>(
     filter_or_report(alloc, listing, None, filter(alloc, listing, None, 0), err)
 }
 
-/// The program of an expression; without one every packet is taken. Or reports why there is none, and returns the exit status.
+/// The program of an expression; without one every packet is taken. Or reports why there is none,
+/// and returns the exit status.
 pub fn program_of_expression<R: AllocGlobal, E: HintSink>(
     rt: &R,
     expr: Option<&str>,

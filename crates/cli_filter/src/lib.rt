@@ -1,5 +1,5 @@
-//! The filter that a command is given: an expression or the listing of a file, and what is printed if it is refused; and the plan
-//! of a file of lines, each with a filter.
+//! The filter that a command is given: an expression or the listing of a file, and what is printed
+//! if it is refused; and the plan of a file of lines, each with a filter.
 #![tactic(auto)]
 
 mod assembly_hints;

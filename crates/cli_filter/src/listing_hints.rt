@@ -20,7 +20,8 @@ fn looks_like_insn(line: &[u8]) -> bool {
     line.iter().filter(|byte| **byte == b' ').count() == SPACES
 }
 
-/// Hints on a line that lacks its form. A first line that is an instruction lacks the count before it.
+/// Hints on a line that lacks its form. A first line that is an instruction lacks the count before
+/// it.
 fn hint_line<E: HintSink>(listing: &[u8], line: usize, err: &mut E)
     ensures quiet { E.takes_hints err.old ≡ false → err.new ≡ err.old }
 {
@@ -51,7 +52,8 @@ fn hint_count<E: HintSink>(listing: &[u8], err: &mut E)
     )
 }
 
-/// The place of the instruction that a program is refused for, of up to this many; none if their number is the fault.
+/// The place of the instruction that a program is refused for, of up to this many; none if their
+/// number is the fault.
 pub(crate) fn insn_at_fault(fault: Invalid, count: usize) -> Option<usize> {
     match fault {
         Invalid::NoReturn => Some(count.saturating_sub(1)),
@@ -89,7 +91,8 @@ pub(crate) fn hint_invalid<E: HintSink>(fault: Invalid, text: &str, err: &mut E)
     }
 }
 
-/// Hints on a listing whose instructions are no program: the line of the instruction, and what is wrong with it.
+/// Hints on a listing whose instructions are no program: the line of the instruction, and what is
+/// wrong with it.
 fn hint_program<E: HintSink>(listing: &[u8], fault: Invalid, err: &mut E)
     ensures quiet { E.takes_hints err.old ≡ false → err.new ≡ err.old }
 {

@@ -60,7 +60,8 @@ pub trait PlanLine<'a>: Copy + Drop {
 /// Why a file of lines is refused.
 #[derive(Clone, Copy, Debug, PartialEq, Eq)]
 pub enum PlanFault {
-    /// This line, from 1, lacks the form, or has the OUT of an earlier line which several may not have.
+    /// This line, from 1, lacks the form, or has the OUT of an earlier line which several may not
+    /// have.
     Line(usize),
     /// The expression of this line, from 0, has no program.
     Expression(usize, ExpressionFault),
@@ -178,8 +179,8 @@ fn cut_rest(rest: &[u8]) -> (&[u8], &[u8])
     }
 }
 
-/// The fields at the end of a line, OUT and EXPRESSION; `None` if OUT is empty or one of the two is not UTF-8. The space before an
-/// empty EXPRESSION may be missing.
+/// The fields at the end of a line, OUT and EXPRESSION; `None` if OUT is empty or one of the two is
+/// not UTF-8. The space before an empty EXPRESSION may be missing.
 pub fn output_and_expression(rest: &[u8]) -> Option<(&str, &str)>
     ensures some { IfSome result (λ fields. AreLastFields rest.now fields.0.now fields.1.now) }
     ensures none { IfNone result ((output expression : List ℕ) → AreLastFields rest.now output expression → ⊥) }
@@ -197,7 +198,7 @@ pub fn output_and_expression(rest: &[u8]) -> Option<(&str, &str)>
     Some((output, expression))
 }
 
-/// Whether an OUT may stand in a further line: no earlier one has it, or several may.
+/// Whether a further line may have an OUT: no earlier one has it, or several may.
 fn may_stand<'a, L: PlanLine<'a>>(output: &str, is_new: bool) -> bool
     ensures { result ≡ (is_new || L.shared output.now) }
 {
@@ -206,9 +207,9 @@ fn may_stand<'a, L: PlanLine<'a>>(output: &str, is_new: bool) -> bool
 
 /// Reads the lines of a text, and keeps the first of them, `most` at most.
 ///
-/// [`PlanFault::Line`] names the first line, from 1, that lacks the form or has the OUT of an earlier line, kept or not, if several may not
-/// have it.
-/// [`PlanFault::NoMemory`] says that memory ran out.
+/// [`PlanFault::Line`] names the first line, from 1, that lacks the form or has the OUT of an
+/// earlier line, kept or not, if several may not have it. [`PlanFault::NoMemory`] says that memory
+/// ran out.
 pub fn read_lines<'a, L: PlanLine<'a>>(
     alloc: Global,
     text: &'a [u8],
@@ -241,7 +242,8 @@ pub fn read_lines<'a, L: PlanLine<'a>>(
     Ok(lines)
 }
 
-/// The program of each line, for its snapshot length; or the fault of the first expression that has none.
+/// The program of each line, for its snapshot length; or the fault of the first expression that has
+/// none.
 pub fn compile_lines<'a, L: PlanLine<'a>>(
     alloc: Global,
     lines: &[L],
@@ -259,10 +261,11 @@ pub fn compile_lines<'a, L: PlanLine<'a>>(
     Ok(programs)
 }
 
-/// Reads the lines of a text as [`read_lines`] does, and compiles the expressions of those that are kept.
+/// Reads the lines of a text as [`read_lines`] does, and compiles the expressions of those that are
+/// kept.
 ///
-/// A line's fault comes before any expression's. [`PlanFault::Expression`] names the first line, from 0, whose expression has no
-/// program.
+/// A line's fault comes before any expression's. [`PlanFault::Expression`] names the first line,
+/// from 0, whose expression has no program.
 pub fn read_plan<'a, L: PlanLine<'a>>(
     alloc: Global,
     text: &'a [u8],

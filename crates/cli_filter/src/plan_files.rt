@@ -11,8 +11,8 @@ use fault_report::reporting::report_memory;
 use std::alloc::{AllocError, Global};
 use std::fs::Files;
 
-/// Refuses, with a line on `err`, a plan by which something would be lost: an OUT is a file that is read, the file of another OUT,
-/// or the one that lines are printed to.
+/// Refuses, with a line on `err`, a plan by which something would be lost: an OUT is a file that is
+/// read, the file of another OUT, or the one that lines are printed to.
 pub fn check_outputs<'a, R: Files + AllocGlobal, L: PlanLine<'a>, E: HintSink>(
     rt: &R,
     read: &[&str],

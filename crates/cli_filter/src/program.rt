@@ -33,13 +33,14 @@ impl Display for FilterFault {
     }
 }
 
-/// The filter of a program's text (a listing, assembly or an image) or of an expression. An expression's filter returns the
-/// snapshot length if the expression accepts a packet. Without either it is that of the empty expression, which accepts every
-/// packet.
+/// The filter of a program's text (a listing, assembly or an image) or of an expression. An
+/// expression's filter returns the snapshot length if the expression accepts a packet. Without
+/// either it is that of the empty expression, which accepts every packet.
 ///
-/// The fault is the one that applies: [`FilterFault::Twice`] if both are given; the fault of a text that is no valid program in
-/// its notation; or that of an expression which is refused, or too deep or too long to compile, or of a snapshot length
-/// above 262,144. An expression may also give `NoMemory`.
+/// The fault is the one that applies: [`FilterFault::Twice`] if both are given; the fault of a text
+/// that is no valid program in its notation; or that of an expression which is refused, or too deep
+/// or too long to compile, or of a snapshot length above 262,144. An expression may also give
+/// `NoMemory`.
 pub fn filter(
     alloc: Global,
     listing: Option<&[u8]>,

@@ -73,8 +73,8 @@ fn print_graph<R: Files + AllocGlobal + Screen, O: Write, E: HintSink>(
     }
 }
 
-/// `bpftap check --dot`: prints the graph of a program, with the way of a packet marked if one is named. No file that is read is the one
-/// that is printed to.
+/// `bpftap check --dot`: prints the graph of a program, with the way of a packet marked if one is
+/// named. No file that is read is the one that is printed to.
 pub fn graph_command<R: Files + AllocGlobal + Screen, O: Write, E: HintSink>(
     rt: &R,
     words: &GraphWords<'_>,

@@ -1,4 +1,5 @@
-//! `bpftap check --dot`: the program of a filter as a graph for Graphviz, with the way of a packet marked.
+//! `bpftap check --dot`: the program of a filter as a graph for Graphviz, with the way of a packet
+//! marked.
 #![tactic(auto)]
 
 pub mod command;

@@ -10,6 +10,7 @@ use cli_report::failures::hint_input;
 use cli_report::probe::ProbedInput;
 use cli_report::stream::give_hint;
 use cli_text::Status;
+use cli_text::report::EscapedPath;
 use cli_watch::captures::open_watched;
 use cli_watch::{Screen, Watch};
 use fault_report::reporting::{report_capture, report_fault, report_memory};
@@ -31,7 +32,8 @@ fn go_to<R: Source>(reader: &mut Reader<R>, place: u64) -> Result<bool, Fault>
     reader.advance()
 }
 
-/// Reports the fault of the capture at a path, and explains it.
+/// Reports the fault of the capture at a path, and explains it below its path. The line of a failed
+/// device has the path itself, and no file is at fault if memory is refused.
 fn report_input<R, E: HintSink>(
     path: &str,
     source: &ProbedInput<R>,
@@ -39,6 +41,9 @@ fn report_input<R, E: HintSink>(
     err: &mut E,
 ) -> Status {
     let status = report_capture(fault, path, err);
+    if fault != Fault::Device && fault != Fault::NoMemory {
+        give_hint(format_args!("{}:", EscapedPath(path)), err);
+    }
     hint_input(&source.inner, fault, err);
     status
 }

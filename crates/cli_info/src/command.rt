@@ -102,8 +102,8 @@ fn flush<O: Write, E: HintSink>(
     }
 }
 
-/// `bpftap info`: a line for each capture, and the greatest exit status of them. No capture is the file that is printed to. A capture that is
-/// torn or refused does not end the reading.
+/// `bpftap info`: a line for each capture, and the greatest exit status of them. No capture is the
+/// file that is printed to. A capture that is torn or refused does not end the reading.
 pub fn info_command<R: Files + AllocGlobal + Screen, O: Write, E: HintSink>(
     rt: &R,
     words: &InfoWords<'_>,

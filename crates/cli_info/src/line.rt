@@ -118,10 +118,13 @@ fn put_contents(
     put_header(line, header)
 }
 
-/// Appends the line of a capture after its path: what it has, if its header was read, and how it ends.
+/// Appends the line of a capture after its path: what it has, if its header was read, and how it
+/// ends.
 ///
-/// ` packets 253 len 31415 captured 31415 first 1795332718.563134000 last 1795332729.130040000 ipv4 246 arp 7 ipv6 0 vlan 0 other 0 little
-/// micro snap 262144 Clean`, on one line; the fault's name and place in place of `Clean`; no `first` and `last` if there is no packet.
+/// ` packets 253 len 31415 captured 31415 first 1795332718.563134000 last 1795332729.130040000 ipv4
+/// 246 arp 7 ipv6 0 vlan 0 other 0 little micro snap 262144
+/// Clean`, on one line; the fault's name and place in place of `Clean`; no `first` and `last` if
+/// there is no packet.
 pub fn put_rest_of_line<R>(line: &mut String, survey: &CaptureSurvey<R>) -> Result<(), AllocError>
     ensures { OnOk result (string_bytes line.new ≡ string_bytes line.old ++ rest_of_line survey.now.header survey.now.contents survey.now.read) }
 {

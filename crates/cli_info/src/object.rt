@@ -111,11 +111,13 @@ fn put_end(line: &mut String, read: Result<(), Fault>) -> Result<(), AllocError>
     }
 }
 
-/// Appends the object of the capture at a path: what it has, if its header was read, and the fault that ended it, if one did.
+/// Appends the object of the capture at a path: what it has, if its header was read, and the fault
+/// that ended it, if one did.
 ///
 /// `{"file":"a.pcap","packets":1,"length":60,"captured":60,"first":{"seconds":1,"nanoseconds":0},"last":{"seconds":1,"nanoseconds":0},
-/// "ipv4":1,"arp":0,"ipv6":0,"vlan":0,"other":0,"order":"little","unit":"micro","snap":262144}`, on one line; `"fault":"TornRecord",
-/// "numbers":[1]` at its end if there is a fault; no `first` and `last` if there is no packet.
+/// "ipv4":1,"arp":0,"ipv6":0,"vlan":0,"other":0,"order":"little","unit":"micro","snap":262144}`, on
+/// one line; `"fault":"TornRecord", "numbers":[1]` at its end if there is a fault; no `first` and
+/// `last` if there is no packet.
 pub fn put_object<R>(
     line: &mut String,
     path: &str,

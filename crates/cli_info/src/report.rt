@@ -39,9 +39,11 @@ fn line_of<R>(
     Ok(line)
 }
 
-/// Prints the line of the capture at a path: the path, and then [`put_rest_of_line`], or [`put_object`].
+/// Prints the line of the capture at a path: the path, and then [`put_rest_of_line`], or
+/// [`put_object`].
 ///
-/// The error is that of `out`, which took a prefix of the line; or `OutOfMemory`, and then it took nothing.
+/// The error is that of `out`, which took a prefix of the line; or `OutOfMemory`, and then it took
+/// nothing.
 pub fn print_survey<R, O: Write>(
     alloc: Global,
     path: &str,
@@ -57,7 +59,8 @@ pub fn print_survey<R, O: Write>(
     }
 }
 
-/// Reports a capture whose file failed, and returns the exit status of the survey. Any other fault is in the line that is printed.
+/// Reports a capture whose file failed, and returns the exit status of the survey. Any other fault
+/// is in the line that is printed.
 pub fn report_survey<R, E: FaultSink>(survey: &CaptureSurvey<R>, path: &str, err: &mut E) -> Status
     ensures { result ≡ survey_status survey.now.read }
 {

@@ -7,7 +7,7 @@ use Rattle.pcap_parts.specs.declared.writing.WriteFault.TheVariants.{OtherHeader
 use Rattle.pcap_parts.specs.Writing.{Texts, OneOf, HaveOneHeader, IsWriteFault, IsWritten}
 use Rattle.cli_parts.specs.Selected.{IsSelection}
 use Rattle.cli_parts.specs.declared.joining.JoinFault.TheVariants.{Sizes, Writing}
-use Rattle.cli_parts.specs.Joined.{HasSize, IsApart, IsBefore, IsJoinFault, IsJoined, IsSizeFault}
+use Rattle.cli_parts.specs.Joined.{HasSize, IsApart, IsBefore, IsJoinFault, IsJoined, IsKept, IsSizeFault}
 
 some_of : (parts : List PartCut) → parts ≢ [] → 0 < length parts
 some_of [] some = absurd (some refl)
@@ -24,6 +24,11 @@ sizes_fault text lines selection parts fault is same one = (selection, is, subst
 pub writing_fault : {E : Type 0} (text : Texts) (lines : List ℕ) (selection : Selection) (parts : List PartCut) (fault : WriteFault E)
     → IsSelection lines selection → parts ≡ selection.parts.items → IsWriteFault text parts fault → IsJoinFault text lines (Writing fault)
 writing_fault text lines selection parts fault is same why = (selection, is, subst (λ (ps : List PartCut). IsWriteFault text ps fault) same why)
+
+pub kept_of : {W : Type 0} (text : Texts) (lines : List ℕ) (selection : Selection) (parts : List PartCut) (old new : W) → IsSelection lines selection
+    → parts ≡ selection.parts.items → ((HaveOneHeader text parts → ⊥) → new ≡ old) → IsKept text lines old new
+kept_of text lines selection parts old new is same kept =
+    (selection, is, subst (λ (ps : List PartCut). (HaveOneHeader text ps → ⊥) → new ≡ old) same kept)
 
 -- a header is another one before anything is written
 pub untouched_before : {E X : Type 0} (text : Texts) (parts : List PartCut) (fault : WriteFault E) (old new : X) → IsWriteFault text parts fault

@@ -5,7 +5,7 @@ use Rattle.pcap_parts.specs.declared.part.PartCut.{PartCut}
 use Rattle.pcap_parts.specs.declared.select.Selection.{Selection}
 use Rattle.pcap_parts.specs.declared.writing.WriteFault.{WriteFault}
 use Rattle.pcap_parts.specs.declared.writing.WriteFault.TheVariants.{OtherHeader, OtherSize, Unread}
-use Rattle.pcap_parts.specs.Writing.{Texts, OneOf, IsWriteFault, IsWritten}
+use Rattle.pcap_parts.specs.Writing.{Texts, OneOf, HaveOneHeader, IsWriteFault, IsWritten}
 use Rattle.cli_parts.specs.Selected.{IsLinesFault, IsSelection}
 use Rattle.cli_parts.specs.declared.joining.JoinFault.{JoinFault}
 use Rattle.cli_parts.specs.declared.joining.JoinFault.TheVariants.{Lines, Paths, Sizes, Writing}
@@ -44,6 +44,15 @@ IsJoinFault text lines (Lines fault) = IsLinesFault lines fault
 IsJoinFault text lines (Paths fault) = ⊤
 IsJoinFault text lines (Sizes fault) = OfSelected lines (OneOf (IsSizeFault text fault))
 IsJoinFault text lines (Writing fault) = OfSelected lines (λ parts. IsWriteFault text parts fault)
+
+-- nothing was written unless the files of all parts have one header
+abbrev pub IsKept : {W : Type 0} → Texts → List ℕ → W → W → Type 0
+IsKept text lines old new = OfSelected lines (λ parts. (HaveOneHeader text parts → ⊥) → new ≡ old)
+
+-- if the parts were to be written this is so
+abbrev pub IfWriting : {E : Type 0} → JoinFault E → Type 0 → Type 0
+IfWriting (Writing fault) A = A
+IfWriting other A = ⊤
 
 -- nothing was written before this fault was found
 abbrev pub IsBefore : {E : Type 0} → JoinFault E → Type 0

@@ -26,8 +26,10 @@ IsLineFault text (Line number) = IsFirstBad IsPartLine text number
 IsLineFault text NoMemory = ⊤
 IsLineFault text other = ⊥
 
--- Why these parts make no whole capture: one does not follow. If it does not since it is cut off, some stretches are to be cut again.
+-- Why these parts make no whole capture: one does not follow. If it does not since it is cut off, some stretches are to be cut again, and no other fault
+-- is reported.
 abbrev pub IsPartsFault : List PartCut → LinesFault → Type 0
+IsPartsFault parts (Misfit (CutOff first end)) = ⊥
 IsPartsFault parts (Misfit misfit) = StopsAt (size_of parts) parts misfit
 IsPartsFault parts (Again again) =
     (cut_off : Stretch) × StopsAt (size_of parts) parts (CutOff cut_off.first cut_off.end) × AreAgain parts cut_off (size_of parts) again.items

@@ -115,7 +115,7 @@ pub fn header_and_range<F: PlacedFile + Drop>(
     Ok(Cursor::new(header).chain(rest.take(count)))
 }
 
-/// Reports that a range is none of the packets of a capture of so many bytes, and returns the exit status.
+/// Reports that a range is none of the packets of a capture of `size` bytes, and returns the exit status.
 fn report_range<E: HintSink>(path: &str, size: u64, err: &mut E) -> Status {
     let status = report_fault(&Report::named("BadRange"), Status::Refused, err);
     let path = EscapedPath(path);

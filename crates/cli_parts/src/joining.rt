@@ -2,7 +2,7 @@
 
 ghost use Rattle.std.specs.Prelude.{◌≡◌, ℕ, ◌<◌, List, Bool, true, Option, All, IfErr, IfOk, OnOk, length, option_map};
 ghost use Rattle.pcap_parts.specs.Writing.{OneOf};
-ghost use Rattle.cli_parts.specs.Joined.{HasSize, IsApart, IsBefore, IsJoinFault, IsJoined, IsSizeFault};
+ghost use Rattle.cli_parts.specs.Joined.{HasSize, IfWriting, IsApart, IsBefore, IsJoinFault, IsJoined, IsKept, IsSizeFault};
 
 use crate::lines::{LinesFault, select_lines};
 use cli_files::paths::PathFault;
@@ -72,6 +72,8 @@ pub fn join_files<'p, F: JoinFiles<'p>, W: Sink>(
     ensures joined { F.known ≡ true → IfOk result (IsJoined (F.text files.now) (F.apart files.now) (W.taken to.old) (W.taken to.new) text.now) }
     ensures fault { F.known ≡ true → IfErr result (IsJoinFault (F.text files.now) text.now) }
     ensures untouched { F.known ≡ true → IfErr result (λ fault. IsBefore fault → to.new ≡ to.old) }
+    // Nor is one written later unless the files of all have one header.
+    ensures kept { F.known ≡ true → IfErr result (λ fault. IfWriting fault (IsKept (F.text files.now) text.now to.old to.new)) }
     ensures named { W.name to.new ≡ W.name to.old }
 {
     let Selection { parts, whole } = match select_lines(alloc, text) {

@@ -1,14 +1,18 @@
 //! The line of a range, and that of a part that was cut.
 
 ghost use Rattle.std.specs.Prelude.{◌≡◌, ◌++◌, IfNone, IfOk, IfSome, OnOk, codes, string_bytes};
+ghost use Rattle.std.specs.Io.KnownBytes.{Appends};
 ghost use Rattle.line_text.specs.Sending.{Takes};
+ghost use Rattle.line_text.specs.declared.form.LineForm.TheVariants.{Text};
 ghost use Rattle.pcap_parts.specs.declared.part.PartCut.{PartCut};
 ghost use Rattle.cli_parts.specs.Lines.{IsPartLine, end_text, part_text, range_line, range_text};
+ghost use Rattle.cli_parts.specs.Ranges.{stretch_lines};
 
 use crate::fields::part_in;
 use line_text::LineForm;
 use line_text::sending::send;
 use pcap_cut::cut::Tally;
+use pcap_parts::again::Stretch;
 use pcap_parts::part::PartCut;
 use savefile::Fault;
 use std::alloc::{AllocError, Global};
@@ -72,6 +76,18 @@ pub fn print_range<O: Write>(
     let mut line = String::new(alloc);
     put_range_line(form, &mut line, first, end)?;
     send(line.as_bytes(), out)
+}
+
+/// Prints the stretches that have to be cut again, a line each, as `bpftap parts` prints ranges.
+pub fn print_stretches<O: Write>(alloc: Global, again: &[Stretch], out: &mut O) -> io::Result<()>
+    ensures { OnOk result (Appends (O.contents out.old) (O.contents out.new) (stretch_lines Text again.now)) }
+{
+    for stretch in again {
+        if let Err(error) = print_range(alloc, LineForm::Text, stretch.first, stretch.end, out) {
+            return Err(error);
+        }
+    }
+    Ok(())
 }
 
 /// Prints the line of a part that was cut: its range, the size of the whole capture, how many packets the part has and how many of these were

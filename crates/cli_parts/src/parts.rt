@@ -32,7 +32,7 @@ fn part_start(size: u64, count: u64, number: u64) -> u64 {
 
 /// Why a capture was not parted.
 #[derive(Debug, Drop)]
-enum PartingFault {
+pub enum PartingFault {
     /// The capture could not be read.
     Input(io::Error),
     /// The ranges could not be printed.
@@ -41,7 +41,7 @@ enum PartingFault {
 
 /// Prints the ranges of a capture with this header: from the header to its end, each from where the one before ends.
 #[tactic(auto, using(crate::proofs::Printed::none_printed, crate::proofs::Printed::one_more))]
-fn print_ranges<F: Read + Seek, O: Write>(
+pub fn print_ranges<F: Read + Seek, O: Write>(
     alloc: Global,
     capture: &mut OpenPart<F>,
     header: Header,

@@ -15,7 +15,7 @@ pub trait PlacedFile {
     /// All bytes of the file, if contracts know them.
     ghost bytes: { Self → Option (List ℕ) } = { λ _. None };
 
-    /// The first bytes, at most so many.
+    /// The first bytes, at most `most`.
     fn front(&mut self, alloc: Global, most: u64) -> io::Result<Vec<u8>>
         ensures kept { bytes self.new ≡ bytes self.old }
         ensures front { IfOk result (λ front. IfSome (bytes self.old) (λ whole. front.items ≡ take most whole)) };

@@ -1,11 +1,6 @@
 //! What is reported of parts that are not joined.
 
-ghost use Rattle.std.specs.Prelude.{◌≡◌, OnOk};
-ghost use Rattle.std.specs.Io.KnownBytes.{Appends};
-ghost use Rattle.line_text.specs.declared.form.LineForm.TheVariants.{Text};
-ghost use Rattle.cli_parts.specs.Ranges.{stretch_lines};
-
-use crate::line::print_range;
+use crate::line::print_stretches;
 use crate::lines::LinesFault;
 use cli_report::HintSink;
 use cli_report::files::hint_bad_line;
@@ -14,12 +9,9 @@ use cli_text::Status;
 use cli_text::report::EscapedPath;
 use fault_report::reporting::{report_fault, report_memory, report_output};
 use fault_report::{Report, Subject, Word};
-use line_text::LineForm;
-use pcap_parts::again::Stretch;
 use pcap_parts::join::Misfit;
 use savefile::Fault;
 use std::alloc::Global;
-use std::io;
 use std::io::Write;
 
 /// The form of a line of LINES of `bpftap join`.
@@ -32,18 +24,6 @@ const ORDER: &str = "sort LINES by sort -t- -k1,1n -k2,2nr; is a part missing?";
 /// What is wrong with a part whose line has another size.
 const OTHER_CAPTURE: &str =
     "its line says another size than the first one: did the capture grow? Cut all parts again";
-
-/// Prints the stretches that have to be cut again, a line each.
-fn print_stretches<O: Write>(alloc: Global, again: &[Stretch], out: &mut O) -> io::Result<()>
-    ensures { OnOk result (Appends (O.contents out.old) (O.contents out.new) (stretch_lines Text again.now)) }
-{
-    for stretch in again {
-        if let Err(error) = print_range(alloc, LineForm::Text, stretch.first, stretch.end, out) {
-            return Err(error);
-        }
-    }
-    Ok(())
-}
 
 /// Reports why parts do not make a whole capture, and returns the exit status.
 fn report_misfit<E: HintSink>(misfit: Misfit, err: &mut E) -> Status {

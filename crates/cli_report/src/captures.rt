@@ -191,7 +191,8 @@ fn hint_bad_fraction<E: HintSink>(header: &[u8; 24], err: &mut E)
     )
 }
 
-/// Hints on the fault of a capture, from its first bytes: the 24 of a header, or fewer if the capture is shorter.
+/// Hints on the fault of a capture, from its first bytes: the 24 of a header, or fewer if the
+/// capture is shorter.
 pub fn hint_capture_fault<E: HintSink>(first: &[u8], fault: Fault, err: &mut E)
     ensures quiet { E.takes_hints err.old ≡ false → err.new ≡ err.old }
 {

@@ -6,7 +6,7 @@ use crate::stream::{HintSink, give_hint};
 use std::convert::AsStr;
 
 /// How to do what commands of other tools do, by the name that one may try.
-static WAYS: [(&str, &str); 29] = [
+static WAYS: [(&str, &str); 54] = [
     ("count", COUNTS),
     (
         "filter",
@@ -57,6 +57,40 @@ static WAYS: [(&str, &str); 29] = [
     ("count-packets", CONTENTS),
     ("top", TALKERS),
     ("talkers", TALKERS),
+    ("find", MATCHING),
+    ("search", MATCHING),
+    ("parse", LOOK),
+    ("decode", PRINT),
+    ("packets", CONTENTS),
+    ("stat", CONTENTS),
+    ("verify", WHOLE),
+    ("validate", WHOLE),
+    ("repair", WHOLE),
+    ("graph", GRAPH),
+    ("dot", GRAPH),
+    ("draw", GRAPH),
+    (
+        "same",
+        "to decide whether two filters are the same: bpftap compare EXPR1 EXPR2",
+    ),
+    (
+        "cat",
+        "one capture after the other: bpftap cut -s 0 -w OUT IN..",
+    ),
+    ("slice", BETWEEN_TIMES),
+    ("trim", BETWEEN_TIMES),
+    ("sort", "to sort by time: reordercap IN OUT"),
+    ("sniff", "to capture: tcpdump -i INTERFACE -w OUT"),
+    ("json", OBJECTS),
+    ("export", OBJECTS),
+    ("hex", BYTES),
+    ("bytes", BYTES),
+    (
+        "test",
+        "to test for a packet: bpftap explain -q -e EXPR IN, by its status",
+    ),
+    ("anonymize", OTHER_ADDRESSES),
+    ("anonymise", OTHER_ADDRESSES),
 ];
 
 /// How to look at packets.
@@ -64,6 +98,19 @@ const LOOK: &str = "to look at packets: bpftap explain -e EXPR IN";
 
 /// How to see which hosts send most.
 const TALKERS: &str = "who talks most: tshark -r IN -q -z conv,ip";
+
+/// How to name captures by their packets.
+const MATCHING: &str = "to name the captures that have such a packet: bpftap explain -l -e EXPR IN";
+
+/// How to look for damage of a capture, and for that of a filter.
+const WHOLE: &str =
+    "whether captures are whole: bpftap info IN; what is wrong with a filter: bpftap check EXPR";
+
+/// How to draw the program of a filter.
+const GRAPH: &str = "to draw a program: bpftap check --dot EXPR | dot -Tsvg > OUT";
+
+/// How to write other addresses into a capture.
+const OTHER_ADDRESSES: &str = "to write other addresses: tcprewrite --seed=1 -i IN -o OUT";
 
 /// How to count packets.
 const COUNTS: &str = "to count packets: bpftap explain -c -e EXPR IN";
@@ -88,7 +135,7 @@ const COMPLETIONS: &str =
     "completions for bash, zsh and fish are files: ./install puts them where shells look for them";
 
 /// How to do what options of other tools do.
-static OPTION_WAYS: [(&str, &str); 17] = [
+static OPTION_WAYS: [(&str, &str); 30] = [
     (
         "-F",
         "to read an expression from a file: -e \"$(cat FILE)\", or for check \"$(cat FILE)\"",
@@ -109,19 +156,40 @@ static OPTION_WAYS: [(&str, &str); 17] = [
     ("-X", BYTES),
     ("-o", OUT_IS_A_WORD),
     ("--output", OUT_IS_A_WORD),
+    ("-l", MATCHING),
+    ("-v", IN_FULL),
+    ("--verbose", IN_FULL),
+    ("-d", "to print a program: bpftap check -d EXPR"),
     (
-        "-l",
-        "to name the captures that have such a packet: bpftap explain -l -e EXPR IN",
+        "-x",
+        "to print an expression as it was read: bpftap check -x EXPR",
     ),
-    (
-        "-v",
-        "explain prints why for each packet; -p PLACE prints one in full",
-    ),
+    ("--dot", GRAPH),
+    ("-m", FIRST_PACKETS),
+    ("-C", PIECES),
+    ("-G", PIECES),
+    ("-W", PIECES),
+    ("--snaplen", "-s N is the snapshot length"),
+    ("--nano", "-u nano keeps nanoseconds"),
+    ("--csv", OBJECTS),
+    ("-V", "to print the version: bpftap --version"),
+    ("--version", "to print the version: bpftap --version"),
     (
         "-O",
         "programs are not optimised: what nothing reaches is left out",
     ),
 ];
+
+/// How to print more of a packet.
+const IN_FULL: &str = "explain prints why for each packet; -p PLACE prints one in full";
+
+/// How to print what other programs read.
+const OBJECTS: &str =
+    "to print an object for each line, for jq: --json, as in bpftap explain --json -e EXPR IN";
+
+/// How to write a capture in pieces.
+const PIECES: &str =
+    "in pieces: editcap -c PACKETS -F nsecpcap IN OUT, or -i SECONDS in place of -c PACKETS";
 
 /// How filters are given to `split`.
 const FILTERS_OF_SPLIT: &str = "filters are in LINES: SNAP OUT EXPRESSION";
@@ -149,7 +217,8 @@ fn command_of<S: AsStr>(words: &[S]) -> Option<&str> {
     Some(words.get(1)?.as_str())
 }
 
-/// How to do what the name of a command that there is not stands for in other tools, if that is known; the program's name comes first.
+/// How to do what the name of a command that there is not stands for in other tools, if that is
+/// known; the program's name comes first.
 pub fn command_way<S: AsStr>(words: &[S]) -> Option<&'static str> {
     let command = command_of(words)?;
     if is_capture_name(&command) {
@@ -158,14 +227,16 @@ pub fn command_way<S: AsStr>(words: &[S]) -> Option<&'static str> {
     way_of(&WAYS, command)
 }
 
-/// Whether these are arguments of a command that has this option itself, or of one to which it means nothing.
+/// Whether these are arguments of a command that has this option itself, or of one to which it
+/// means nothing.
 fn takes_option<S: AsStr>(words: &[S], option: &str) -> bool {
     matches!(
         (command_of(words), option),
         (Some("compare" | "cut"), "-w")
             | (Some("cut" | "explain"), "-c")
             | (Some("explain"), "-l")
-            | (Some("info"), "-v")
+            | (Some("info" | "steps"), "-v")
+            | (Some("check"), "-d" | "-x" | "--dot")
             | (Some("cut" | "split"), "-o")
     )
 }
@@ -231,7 +302,8 @@ fn is_cut<S: AsStr>(words: &[S]) -> bool {
     command_of(words) == Some("cut")
 }
 
-/// A hint on arguments of `cut` of which one is missing: the snapshot length, or OUT where packets are only counted.
+/// A hint on arguments of `cut` of which one is missing: the snapshot length, or OUT if packets
+/// are only counted.
 fn hint_missing_of_cut<S: AsStr, E: HintSink>(words: &[S], err: &mut E)
     ensures quiet { E.takes_hints err.old ≡ false → err.new ≡ err.old }
 {
@@ -245,8 +317,8 @@ fn hint_missing_of_cut<S: AsStr, E: HintSink>(words: &[S], err: &mut E)
     }
 }
 
-/// A hint on arguments of which one is missing: of `cut` the snapshot length, or OUT where packets are only counted; of `explain` the filter,
-/// or IN.
+/// A hint on arguments of which one is missing: of `cut` the snapshot length, or OUT if packets
+/// are only counted; of `explain` the filter, or IN.
 pub fn hint_missing<S: AsStr, E: HintSink>(words: &[S], err: &mut E)
     ensures quiet { E.takes_hints err.old ≡ false → err.new ≡ err.old }
 {
@@ -290,7 +362,8 @@ fn is_capture_name<S: AsStr>(word: &S) -> bool {
     word.as_str().ends_with(".pcap")
 }
 
-/// Whether a word can be no expression: it is the name of a capture, an option other than those that give a filter, or its number.
+/// Whether a word can be no expression: it is the name of a capture, an option other than those
+/// that give a filter, or its number.
 fn is_beside_filters<S: AsStr>(word: &S) -> bool {
     let text = word.as_str();
     let gives_filter = text.starts_with("-e") || text.starts_with("-f");
@@ -312,7 +385,8 @@ fn counts_by_number<S: AsStr>(words: &[S]) -> bool {
     })
 }
 
-/// What is said of the name of a file of lines that is such a line, or an expression: a name with a blank in it.
+/// What is said of the name of a file of lines that is such a line, or an expression: a name with a
+/// blank in it.
 fn line_way<S: AsStr>(words: &[S]) -> Option<&'static str> {
     let command = command_of(words)?;
     let (first, _) = words.get(2)?.as_str().split_once(" ")?;
@@ -323,8 +397,8 @@ fn line_way<S: AsStr>(words: &[S]) -> Option<&'static str> {
     }
 }
 
-/// Hints on arguments with which a command failed to open a file: a `-` that was meant as a stream, a number after `-c`, or a line or an
-/// expression in place of a file of lines.
+/// Hints on arguments with which a command failed to open a file: a `-` that was meant as a stream,
+/// a number after `-c`, or a line or an expression in place of a file of lines.
 pub fn hint_failed_words<S: AsStr, E: HintSink>(words: &[S], err: &mut E)
     ensures quiet { E.takes_hints err.old ≡ false → err.new ≡ err.old }
 {

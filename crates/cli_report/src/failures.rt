@@ -51,7 +51,8 @@ pub fn hint_printed<T, E: HintSink>(noted: &FailureProbe<T>, err: &mut E)
     }
 }
 
-/// Hints on the device of a capture, which failed. One that is a folder has captures in it, which are named one by one.
+/// Hints on the device of a capture, which failed. One that is a folder has captures in it, which
+/// are named one by one.
 fn hint_device<T, E: HintSink>(noted: &FailureProbe<T>, err: &mut E)
     ensures quiet { E.takes_hints err.old ≡ false → err.new ≡ err.old }
 {
@@ -73,8 +74,9 @@ pub fn hint_input<T, E: HintSink>(noted: &FailureProbe<T>, fault: Fault, err: &m
     }
 }
 
-/// Prints below the line of a fault the path of the n-th of several captures, from 0, which has it. Of a single capture it prints nothing,
-/// nor where hints are wanted: [`hint_source`] begins with the path.
+/// Prints below the line of a fault the path of the n-th of several captures, from 0, which has it.
+/// Of a single capture it prints nothing, nor if hints are wanted: [`hint_source`] begins with
+/// the path.
 pub fn name_source<E: HintSink>(paths: &[&str], n: usize, err: &mut E) -> io::Result<()>
     ensures single { length paths.now ≤ 1 → err.new ≡ err.old }
     ensures none { slice_get paths.now n ≡ None → err.new ≡ err.old }

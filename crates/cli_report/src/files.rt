@@ -32,7 +32,8 @@ pub fn hint_reason<E: HintSink>(error: &io::Error, err: &mut E)
     give_hint(*error, err)
 }
 
-/// A line of a text, counted from 1, without the byte 10 at its end; empty if there are fewer lines.
+/// A line of a text, counted from 1, without the byte 10 at its end; empty if there are fewer
+/// lines.
 pub fn line_at(text: &[u8], number: usize) -> &[u8] {
     let mut rest = text;
     for _ in 1..number {
@@ -64,7 +65,7 @@ pub fn show_line<E: HintSink>(text: &[u8], number: usize, err: &mut E)
     }
 }
 
-/// What is said of a capture where another file is wanted.
+/// What is said of a capture if another file is wanted.
 pub const CAPTURE: &str =
     "this is a capture, and no file of lines: captures are the last words, IN";
 
@@ -94,7 +95,8 @@ fn line_with_return(text: &[u8]) -> Option<usize> {
     Some(before.saturating_add(1))
 }
 
-/// A hint on the first line of a file that ends in a carriage return: it is part of the field before it, such as the name of an OUT.
+/// A hint on the first line of a file that ends in a carriage return: it is part of the field
+/// before it, such as the name of an OUT.
 pub fn hint_returns<E: HintSink>(file: &str, text: &[u8], err: &mut E)
     ensures quiet { E.takes_hints err.old ≡ false → err.new ≡ err.old }
 {
@@ -129,7 +131,8 @@ pub fn hint_no_listener<E: HintSink>(script: &[u8], step: usize, listeners: usiz
     )
 }
 
-/// The size of a record that keeps `snap` bytes of a packet: the least capacity with this snapshot length.
+/// The size of a record that keeps `snap` bytes of a packet: the least capacity with this snapshot
+/// length.
 fn least_capacity(snap: u32) -> u64
     ensures { result ≡ size snap }
 {

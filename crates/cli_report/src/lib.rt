@@ -1,5 +1,5 @@
-//! Hints on failures of files, streams and captures: the lines below the line of a fault that help to fix it, each
-//! indented by two blanks. No filter is known here.
+//! Hints on failures of files, streams and captures: the lines below the line of a fault that help
+//! to fix it, each indented by two blanks. No filter is known here.
 #![tactic(auto)]
 
 pub mod captures;

@@ -29,9 +29,10 @@ impl FirstBytes {
     }
 }
 
-/// A reader or a writer that notes the first 24 bytes that were read from it, and why a call first failed. Once a write or a flush
-/// has failed, each later one fails with the same error and touches nothing: nothing goes out after a failure that is reported. A
-/// call that a signal interrupted is no failure; a write that takes nothing is one.
+/// A reader or a writer that notes the first 24 bytes that were read from it, and why a call first
+/// failed. Once a write or a flush has failed, each later one fails with the same error and touches
+/// nothing: nothing goes out after a failure that is reported. A call that a signal interrupted is
+/// no failure; a write that takes nothing is one.
 #[derive(Debug, Drop)]
 pub struct FailureProbe<T> {
     inner: T,

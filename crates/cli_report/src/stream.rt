@@ -25,8 +25,8 @@ pub trait HintSink: FaultSink {
         ensures { result ≡ takes_hints self.now };
 }
 
-/// A writer that faults are reported to. Once a write has failed no hints are wanted: one without the line of its fault explains
-/// nothing. None are wanted below an object of JSON either.
+/// A writer that faults are reported to. Once a write has failed no hints are wanted: one without
+/// the line of its fault explains nothing. None are wanted below an object of JSON either.
 #[derive(Debug, Drop)]
 pub struct ErrorStream<W> {
     inner: W,
@@ -35,7 +35,8 @@ pub struct ErrorStream<W> {
 }
 
 impl<W> ErrorStream<W> {
-    /// Faults are reported as text. Hints are wanted if standard error is a terminal, or if they are asked for.
+    /// Faults are reported as text. Hints are wanted if standard error is a terminal, or if they
+    /// are asked for.
     pub fn new(inner: W, takes_hints: bool) -> ErrorStream<W>
         ensures hints { result.takes_hints ≡ takes_hints }
         ensures form { result.form ≡ Text }
@@ -75,7 +76,8 @@ impl<W: Write> Write for ErrorStream<W> {
     }
 }
 
-/// Whether a write failed: with an error, unless a signal interrupted it, or by taking nothing of what it was given.
+/// Whether a write failed: with an error, unless a signal interrupted it, or by taking nothing of
+/// what it was given.
 fn has_failed(written: &io::Result<usize>, from: &[u8]) -> bool
     ensures { IfErr written.now (λ error. error_kind error ≢ ErrorKind.Interrupted → result ≡ true) }
 {
@@ -130,8 +132,8 @@ fn write_line<D: Display + Drop, W: Write>(hint: D, out: &mut W) -> io::Result<(
     send(line.as_bytes(), out)
 }
 
-/// Prints a hint in a line of its own, indented by two blanks, if hints are wanted. A hint that standard error does not take,
-/// or that has more than 509 bytes, is left out.
+/// Prints a hint in a line of its own, indented by two blanks, if hints are wanted. A hint that
+/// standard error does not take, or that has more than 509 bytes, is left out.
 pub fn give_hint<D: Display + Drop, E: HintSink>(hint: D, err: &mut E)
     // If none are wanted, nothing is written.
     ensures quiet { E.takes_hints err.old ≡ false → err.new ≡ err.old }
@@ -141,7 +143,8 @@ pub fn give_hint<D: Display + Drop, E: HintSink>(hint: D, err: &mut E)
     }
 }
 
-/// Prints a line below that of a fault, indented by two blanks, whether hints are wanted or not. Below an object of JSON it prints none.
+/// Prints a line below that of a fault, indented by two blanks, whether hints are wanted or not.
+/// Below an object of JSON it prints none.
 pub fn print_below<D: Display + Drop, E: FaultSink>(text: D, err: &mut E) -> io::Result<()>
     ensures line { E.fault_form err.old ≡ Text → IfSome (D.output text) (λ text. Takes (E.contents err.old) (E.contents err.new) result (hint_line text)) }
     ensures object { E.fault_form err.old ≡ Json → err.new ≡ err.old }

@@ -8,7 +8,7 @@ use Rattle.cli_filter.proofs.Fields.{fields_once}
 use Rattle.cli_run.specs.declared.plan.RunLine.{RunLine}
 use Rattle.cli_run.specs.Listeners.{AreNumbers, IsRunLine}
 
--- so many words, each with a space after it, begin a text
+-- this many words, each with a space after it, begin a text
 abbrev pub HasWords : ℕ → List ℕ → Type 0
 HasWords zero text = Unit {0}
 HasWords (suc n) text = (word : List ℕ) × (rest : List ℕ) × (text ≡ word ++ space ∷ rest) × All NoSpace word × HasWords n rest

@@ -9,7 +9,7 @@ use Rattle.cli_run.specs.Laws.{FirstBadIsOne, NoneIsBad}
 use Rattle.cli_run.specs.Listeners.{IsRunLine, HaveOwnOutputs, IsFirstBadRunLine}
 use Rattle.cli_run.proofs.Fielded.{output_one}
 
--- the line says nothing that may stand behind these: it has not its form, or the OUT of one of them
+-- the line says nothing that may come after these: it has not its form, or the OUT of one of them
 abbrev IsBadBehind : ℕ → List RunLine → List ℕ → Type 0
 IsBadBehind interfaces said line = (x : RunLine) → IsRunLine interfaces line x → Any (λ earlier. earlier.output.now ≡ x.output.now) said
 

@@ -3,7 +3,7 @@ use Rattle.std.proofs.Common.{◌≡◌, ℕ, zero, suc, ◌+◌, ◌<◌, ◌�
 use Rattle.std.proofs.Math.ListN.{set}
 use Rattle.std.specs.List.{AllZip}
 
--- so many items at the front are changed, and the others are as they were
+-- this many items at the front are changed, and the others are as they were
 abbrev pub ChangedUpTo : {X : Type 0} → (X → X → Type 0) → ℕ → List X → List X → Type 0
 ChangedUpTo R zero xs ys = ys ≡ xs
 ChangedUpTo R (suc i) [] ys = ys ≡ []

@@ -1,4 +1,4 @@
--- What is put behind a line that was emptied.
+-- What is put after a line that was emptied.
 use Rattle.std.proofs.Common.{◌≡◌, ℕ, List, [], ◌++◌, Result, Ok, Err, OnOk, ap, append_assoc, ◌∙◌}
 
 pub in_place : {A E : Type 0} (r : Result A E) (empty new text whole : List ℕ) → empty ≡ [] → OnOk r (new ≡ empty ++ text) → text ≡ whole → OnOk r (new ≡ whole)

@@ -56,7 +56,7 @@ HaveOwnOutputs asked = plan.HaveOwnOutputs output_of none_shared asked
 abbrev pub AreRunLines : ℕ → List ℕ → List RunLine → Type 0
 AreRunLines interfaces text kept = plan.AreLines (IsRunLine interfaces) output_of none_shared 1025 text kept
 
--- the n-th line of a text, from 1, is the first that lacks the form, or has the OUT of an earlier line
+-- the n-th line of a text, from 1, is the first bad one: it lacks the form, or has the OUT of an earlier line
 abbrev pub IsFirstBadRunLine : ℕ → List ℕ → ℕ → Type 0
 IsFirstBadRunLine interfaces text n = plan.IsFirstBadLine (IsRunLine interfaces) output_of none_shared text n
 

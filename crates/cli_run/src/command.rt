@@ -46,10 +46,11 @@ fn plan_of<'p, E: HintSink>(
     }
 }
 
-/// Names the files of a replay. A type parameter will not do for them: that another thread may do what such a file does is shown of
-/// a type that is known, and not of one that its trait names.
+/// Names the files of a replay. A type parameter will not do for them: that another thread may do
+/// what such a file does is shown of a type that is known, and not of one that its trait names.
 pub trait NamesFiles: Sized {
-    /// The plan of LISTENERS with its files, once it is accepted and the paths are compared; or reports why it is refused.
+    /// The plan of LISTENERS with its files, once it is accepted and the paths are compared; or
+    /// reports why it is refused.
     fn named_files<'w, 'r, 'i, 'o, E: HintSink>(
         &'r self,
         words: &RunWords<'i>,

@@ -1,4 +1,5 @@
-//! The listeners of lines, laid out by interface, and their sinks, handed back in the order of the lines.
+//! The listeners of lines, laid out by interface, and their sinks, handed back in the order of the
+//! lines.
 
 ghost use Rattle.std.specs.Prelude.{◌≡◌, ◌<◌, ◌≤◌, All, IfOk, length, vec_capacity, vec_len};
 ghost use Rattle.std.specs.List.{AllZip};
@@ -42,8 +43,8 @@ fn task_of<W>(line: &RunLine<'_>, program: Program, sink: W) -> Task<W>
     }
 }
 
-/// The interfaces, one for each list of captures, each with the tasks of the lines that name it, in their order. A task has what its
-/// line says, and the program and the sink at its line's place.
+/// The interfaces, one for each list of captures, each with the tasks of the lines that name it, in
+/// their order. A task has what its line says, and the program and the sink at its line's place.
 pub fn interfaces_of<R: Drop, W: Drop>(
     alloc: Global,
     lines: &[RunLine<'_>],
@@ -64,7 +65,8 @@ pub fn interfaces_of<R: Drop, W: Drop>(
     Ok(interfaces)
 }
 
-/// The sinks of all listeners, in the order of the lines, whose interfaces have these numbers. `sinks` is empty and has room for them.
+/// The sinks of all listeners, in the order of the lines, whose interfaces have these numbers.
+/// `sinks` is empty and has room for them.
 pub fn sinks_of<R: Drop, W: Drop>(
     mut reports: Vec<InterfaceReport<R, W>>,
     places: &[usize],

@@ -1,4 +1,5 @@
-//! The files of `bpftap run`: those that are compared, the captures that it reads and those that it writes.
+//! The files of `bpftap run`: those that are compared, the captures that it reads and those that it
+//! writes.
 
 ghost use Rattle.std.specs.Prelude.{◌≡◌, ◌<◌, All, IfOk, length, vec_len};
 
@@ -75,8 +76,8 @@ pub(crate) fn capture_paths<'a>(
     Ok(paths)
 }
 
-/// Refuses, with a line on `err`, an OUT by which something would be lost: it is a file that is read, the file of another OUT, or the
-/// one that lines are printed to.
+/// Refuses, with a line on `err`, an OUT by which something would be lost: it is a file that is
+/// read, the file of another OUT, or the one that lines are printed to.
 pub(crate) fn check_paths<E: HintSink>(
     files: &HostRuntime,
     alloc: Global,

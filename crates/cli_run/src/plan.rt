@@ -1,4 +1,5 @@
-//! What LISTENERS of `bpftap run` asks for: the listeners, the captures that they write, and the program of each line's expression.
+//! What LISTENERS of `bpftap run` asks for: the listeners, the captures that they write, and the
+//! program of each line's expression.
 
 ghost use Rattle.std.specs.Prelude.{◌≡◌, ◌<◌, ℕ, List, All, IfErr, IfNone, IfOk, IfSome, codes, length};
 ghost use Rattle.std.specs.List.{AllZip};
@@ -80,9 +81,10 @@ impl<'a> PlanLine<'a> for RunLine<'a> {
 
     ghost shared = { none_shared };
 
-    /// `INTERFACE FLUSH SNAP CAPACITY SPARES OUT EXPRESSION`. The first five are decimal: INTERFACE is one of those that there are,
-    /// FLUSH has at most 32 bits, SNAP is at most 262,144, CAPACITY and SPARES have at most 64 bits. CAPACITY may have an `i` after its
-    /// digits, for the mode Immediate.
+    /// `INTERFACE FLUSH SNAP CAPACITY SPARES OUT EXPRESSION`. The first five are decimal: INTERFACE
+    /// is one of those that there are, FLUSH has at most 32 bits, SNAP is at most 262,144, CAPACITY
+    /// and SPARES have at most 64 bits. CAPACITY may have an `i` after its digits, for the mode
+    /// Immediate.
     fn read(line: &'a [u8], interfaces: usize) -> Option<RunLine<'a>> {
         let fields = fields_of(line)?;
         let interface = number(fields.interface, u64::MAX)? as usize;
@@ -137,16 +139,18 @@ pub fn fault_text(fault: PlanFault) -> PlanFaultText
     }
 }
 
-/// Reads LISTENERS, a listener on each line: `INTERFACE FLUSH SNAP CAPACITY SPARES OUT EXPRESSION`; and
-/// compiles the expressions, each for its snapshot length.
+/// Reads LISTENERS, a listener on each line: `INTERFACE FLUSH SNAP CAPACITY SPARES OUT EXPRESSION`;
+/// and compiles the expressions, each for its snapshot length.
 ///
-/// INTERFACE is below `interfaces`; FLUSH, SNAP, CAPACITY and SPARES are decimal, of at most 32 bits, 262,144, 64 bits and 64 bits.
-/// CAPACITY may have an `i` after its digits, for the mode Immediate. OUT has a byte at least and no space, and no other line has it.
-/// EXPRESSION is the rest of the line; if it is empty, the space before it may be missing. Both are UTF-8.
+/// INTERFACE is below `interfaces`; FLUSH, SNAP, CAPACITY and SPARES are decimal, of at most 32
+/// bits, 262,144, 64 bits and 64 bits. CAPACITY may have an `i` after its digits, for the mode
+/// Immediate. OUT has a byte at least and no space, and no other line has it. EXPRESSION is the
+/// rest of the line; if it is empty, the space before it may be missing. Both are UTF-8.
 ///
-/// The plan has at most 1,025 lines: one more than a replay takes, so that its caller sees that there are too many. Later lines are read
-/// all the same. [`PlanFault::Line`] names the first line, from 1, that lacks this form; else [`PlanFault::Expression`] the first line,
-/// from 0, whose expression has no program. [`PlanFault::NoMemory`] says that memory ran out.
+/// The plan has at most 1,025 lines: one more than a replay takes, so that its caller sees that
+/// there are too many. Later lines are read all the same. [`PlanFault::Line`] names the first line,
+/// from 1, that lacks this form; else [`PlanFault::Expression`] the first line, from 0, whose
+/// expression has no program. [`PlanFault::NoMemory`] says that memory ran out.
 pub fn read_plan(
     alloc: Global,
     listeners: &[u8],

@@ -1,4 +1,5 @@
-//! What `bpftap run` prints of each listener, what it reports of each interface, and its exit status.
+//! What `bpftap run` prints of each listener, what it reports of each interface, and its exit
+//! status.
 
 ghost use Rattle.std.specs.Prelude.{◌≡◌, ◌++◌, OnOk, Some};
 ghost use Rattle.line_text.specs.declared.form.LineForm.TheVariants.{Text};
@@ -170,7 +171,8 @@ pub fn run_status<R, W>(reports: &[InterfaceReport<R, W>]) -> Status
     status
 }
 
-/// Reports how the captures of the i-th interface ended, which are at these paths if they are known, if that was not clean.
+/// Reports how the captures of the i-th interface ended, which are at these paths if they are
+/// known, if that was not clean.
 fn report_end<E: Write>(
     form: LineForm,
     i: usize,
@@ -186,7 +188,8 @@ fn report_end<E: Write>(
     }
 }
 
-/// Reports each interface that did not end clean, as a line. If `err` does not take one, no further one is reported.
+/// Reports each interface that did not end clean, as a line. If `err` does not take one, no further
+/// one is reported.
 fn report_ends<R, W, E: Write>(reports: &[InterfaceReport<R, W>], err: &mut E) -> io::Result<()>
     ensures { Takes (E.contents err.old) (E.contents err.new) result (told_replay reports.now) }
 {
@@ -205,8 +208,8 @@ fn count_captures(inputs: &[Vec<&str>]) -> usize {
     count
 }
 
-/// Prints below the line of the i-th interface's fault the path of the capture that has it, if several are read, and if hints are not
-/// wanted: they begin with it.
+/// Prints below the line of the i-th interface's fault the path of the capture that has it, if
+/// several are read, and if hints are not wanted: they begin with it.
 fn name_capture<E: HintSink>(
     inputs: &[Vec<&str>],
     i: usize,
@@ -224,8 +227,9 @@ fn name_capture<E: HintSink>(
     }
 }
 
-/// Reports each interface that did not end clean, as a line or as an object of JSON; its captures are at the paths of the same place. If
-/// several captures are read, the path of the one that has the fault stands below the line.
+/// Reports each interface that did not end clean, as a line or as an object of JSON; its captures
+/// are at the paths of the same place. If several captures are read, the path of the one that has
+/// the fault is printed below the line.
 pub(crate) fn report_named_ends<R, W, E: HintSink>(
     inputs: &[Vec<&str>],
     reports: &[InterfaceReport<R, W>],
@@ -238,8 +242,8 @@ pub(crate) fn report_named_ends<R, W, E: HintSink>(
     Ok(())
 }
 
-/// Reports that standard output failed, if it did, and then each interface that did not end clean. If `err` does not take a line, no
-/// further one is reported.
+/// Reports that standard output failed, if it did, and then each interface that did not end clean.
+/// If `err` does not take a line, no further one is reported.
 fn report_all<R, W, E: Write>(
     printed: &io::Result<()>,
     reports: &[InterfaceReport<R, W>],
@@ -251,15 +255,19 @@ fn report_all<R, W, E: Write>(
     report_ends(reports, err)
 }
 
-/// Prints a line for each listener, by interface, `interface I listener L received R matched M dropped D written N END`, reports each
-/// interface that did not end clean, and returns the greatest status of all.
+/// Prints a line for each listener, by interface,
+/// `interface I listener L received R matched M dropped D written N
+/// END`, reports each interface that did not end clean, and returns the greatest status of all.
 ///
-/// As JSON a line is an object, `{"interface":I,"listener":L,"received":R,"matched":M,"dropped":D,"written":N,"end":"clean"}`; the end may
-/// also be `"unfinished"`, or `"write"` with the member `"bytes":B`.
+/// As JSON a line is an object,
+/// `{"interface":I,"listener":L,"received":R,"matched":M,"dropped":D,"written":N,"end":"clean"}`;
+/// the end may also be `"unfinished"`, or `"write"` with the member `"bytes":B`.
 ///
-/// `out` took exactly these lines, or a prefix of them if it failed; that is reported first, unless nobody reads `out` any more, and the
-/// status is [`Status::Failed`]. A listener has [`Status::Refused`] for `Unfinished` and [`Status::Failed`] for `Write B`; an interface
-/// [`Status::Failed`] if a source failed, [`Status::Damaged`] for the fault of a record, and [`Status::Refused`] for any other.
+/// `out` took exactly these lines, or a prefix of them if it failed; that is reported first, unless
+/// nobody reads `out` any more, and the status is [`Status::Failed`]. A listener has
+/// [`Status::Refused`] for `Unfinished` and [`Status::Failed`] for `Write B`; an interface
+/// [`Status::Failed`] if a source failed, [`Status::Damaged`] for the fault of a record, and
+/// [`Status::Refused`] for any other.
 pub fn report_run_in<R, W, O: Write, E: Write>(
     form: LineForm,
     reports: &[InterfaceReport<R, W>],

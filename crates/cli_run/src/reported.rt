@@ -33,7 +33,8 @@ pub(crate) fn replay_fault(fault: RunFault) -> Report<'static> {
     }
 }
 
-/// The fault of the n-th capture of the i-th interface, whose captures are at these paths, if they are known.
+/// The fault of the n-th capture of the i-th interface, whose captures are at these paths, if they
+/// are known.
 fn capture_fault<'a>(i: usize, n: usize, fault: Fault, paths: Option<&Vec<&'a str>>) -> Report<'a>
     ensures text { reported Text result ≡ Some (interface_told i (Capture n fault)) }
     ensures path { has_path Text result.subject ≡ false }
@@ -50,7 +51,8 @@ fn capture_fault<'a>(i: usize, n: usize, fault: Fault, paths: Option<&Vec<&'a st
     }
 }
 
-/// How the captures of the i-th interface, which are at these paths if they are known, ended, if that was not clean.
+/// How the captures of the i-th interface, which are at these paths if they are known, ended, if
+/// that was not clean.
 pub(crate) fn end_fault<'a>(
     i: usize,
     end: InterfaceEnd,

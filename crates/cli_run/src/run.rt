@@ -1,5 +1,5 @@
-//! Captures that are replayed in threads to the listeners of interfaces: `run`, and the parts that it shares with the command
-//! over files.
+//! Captures that are replayed in threads to the listeners of interfaces: `run`, and the parts that
+//! it shares with the command over files.
 
 ghost use Rattle.std.specs.Prelude.{◌≡◌, ◌<◌, ◌≤◌, List, All, IfErr, IfOk, IfSome, length, vec_capacity, vec_len};
 ghost use Rattle.line_text.specs.declared.form.LineForm.TheVariants.{Text};
@@ -25,8 +25,9 @@ use std::io::Write;
 use std::sync::Wait;
 use std::thread::Threads;
 
-/// Replays the captures of each interface to its listeners: those of the lines that name it, in their order, each with what its line
-/// says and with the program and the sink at its line's place. The reports are those of [`replay::run`].
+/// Replays the captures of each interface to its listeners: those of the lines that name it, in
+/// their order, each with what its line says and with the program and the sink at its line's place.
+/// The reports are those of [`replay::run`].
 pub fn replay_plan<R: Source + Send + Drop, W: Sink + Send + Drop, T: Threads + Wait + Sync>(
     rt: &T,
     alloc: Global,
@@ -166,23 +167,30 @@ pub fn run_told<
     }
 }
 
-/// Replays captures in threads to the listeners of interfaces, each of which writes what it keeps as a capture. It prints a line for
-/// each listener, by interface: what it received, matched, dropped and wrote, and how that ended.
+/// Replays captures in threads to the listeners of interfaces, each of which writes what it keeps
+/// as a capture. It prints a line for each listener, by interface: what it received, matched,
+/// dropped and wrote, and how that ended.
 ///
-/// Each interface has a list of captures, which arrive one after the other. A line of LISTENERS is `INTERFACE FLUSH SNAP CAPACITY SPARES
-/// OUT EXPRESSION`: the number of the interface, from 0; after how many arrivals the listener is flushed each time, 0 for never; how many
-/// bytes of a packet are kept at most, 0 for 262,144; the size in bytes of each of the listener's buffers, with an `i` after it for the
-/// mode Immediate; how many buffers go round between the listener and its writer, 1 to 64; the path of the capture, of which `make`
-/// makes a sink; and the filter, which may be empty. Captures are written little-endian, with microseconds.
+/// Each interface has a list of captures, which arrive one after the other. A line of LISTENERS is
+/// `INTERFACE FLUSH SNAP CAPACITY SPARES OUT EXPRESSION`: the number of the interface, from 0;
+/// after how many arrivals the listener is flushed each time, 0 for never; how many bytes of a
+/// packet are kept at most, 0 for 262,144; the size in bytes of each of the listener's buffers,
+/// with an `i` after it for the mode Immediate; how many buffers go round between the listener and
+/// its writer, 1 to 64; the path of the capture, of which `make` makes a sink; and the filter,
+/// which may be empty. Captures are written little-endian, with microseconds.
 ///
-/// A bad line is reported as `Listeners N`, N from 1: it lacks this form, names an interface that does not exist, or has the OUT of an
-/// earlier line. After that come the expressions: `Expression N` or `Compile N`, N from 0. After one of these and after a [`RunFault`] no
-/// sink is returned, nothing is printed and the exit status is 1. No source is read either: that is tested, not proved.
+/// A bad line is reported as `Listeners N`, N from 1: it lacks this form, names an interface that
+/// does not exist, or has the OUT of an earlier line. After that come the expressions:
+/// `Expression N` or `Compile N`, N from 0. After one of these and after a [`RunFault`] no sink is
+/// returned, nothing is printed and the exit status is 1. No source is read either: that is tested,
+/// not proved.
 ///
-/// Otherwise the sinks are returned in the order of the lines, and the exit status is the greatest of these: 0; 1 if an interface's
-/// capture has no header of a savefile, its memory or that of `out` ran out, its arrivals cannot be counted further, or a listener is
-/// `Unfinished`; 2 if a capture ended with a record fault; 3 if a source, a sink or `out` failed. A fault of a capture is reported as
-/// `Interface I Capture N fault`; one of a sink only by the end `Write B`, B being the bytes that it took.
+/// Otherwise the sinks are returned in the order of the lines, and the exit status is the greatest
+/// of these: 0; 1 if an interface's capture has no header of a savefile, its memory or that of
+/// `out` ran out, its arrivals cannot be counted further, or a listener is `Unfinished`; 2 if a
+/// capture ended with a record fault; 3 if a source, a sink or `out` failed. A fault of a capture
+/// is reported as `Interface I Capture N fault`; one of a sink only by the end `Write B`, B being
+/// the bytes that it took.
 pub fn run<
     R: Source + Send + Drop,
     W: Sink + Send + Drop,

@@ -31,14 +31,16 @@ enum Place {
 /// How many bytes the header of a capture has.
 const FILE_HEADER: usize = 24;
 
-/// The place of the last byte of a record's header, and those of the captured length's first and last one.
+/// The place of the last byte of a record's header, and those of the captured length's first and
+/// last one.
 const HEADER_END: usize = 15;
 
 const LENGTH_START: usize = 8;
 
 const LENGTH_END: usize = 11;
 
-/// What a byte of a record's header, at this place, adds to the captured length, which is little-endian.
+/// What a byte of a record's header, at this place, adds to the captured length, which is
+/// little-endian.
 fn length_part(place: usize, byte: u8) -> u32 {
     if place < LENGTH_START || place > LENGTH_END {
         return 0;
@@ -46,7 +48,8 @@ fn length_part(place: usize, byte: u8) -> u32 {
     u32::from(byte) << (8 * (place - LENGTH_START))
 }
 
-/// Counts the packets that are whole in the bytes of a little-endian capture, which come in pieces of any length.
+/// Counts the packets that are whole in the bytes of a little-endian capture, which come in pieces
+/// of any length.
 #[derive(Clone, Copy, Debug)]
 struct PacketCount {
     whole: u64,
@@ -108,7 +111,8 @@ impl PacketCount {
     }
 }
 
-/// A writer of a capture, little-endian, that counts what is taken of it: the bytes, and the packets that are whole in them.
+/// A writer of a capture, little-endian, that counts what is taken of it: the bytes, and the
+/// packets that are whole in them.
 #[derive(Debug, Drop)]
 pub struct CountingCapture<W> {
     inner: W,
@@ -176,8 +180,8 @@ impl<W: Write> Write for CountingCapture<W> {
 /// The writer of an OUT: a buffer in front of what counts.
 pub type Output<W> = Counted<BufWriter<CountingCapture<W>>>;
 
-/// Empties the buffer in front of an OUT. If that fails, or a write failed before, the report has what OUT itself took. A listener that
-/// did not hand over its end stays Unfinished.
+/// Empties the buffer in front of an OUT. If that fails, or a write failed before, the report has
+/// what OUT itself took. A listener that did not hand over its end stays Unfinished.
 pub fn flush_one<W: Write + Drop>(report: &mut ListenerReport<Output<W>>)
     ensures { IsFlushed W.contents report.old report.new }
 {
@@ -201,8 +205,8 @@ fn flush_interface<R, W: Write + Drop>(report: &mut InterfaceReport<R, Output<W>
     }
 }
 
-/// Empties the buffers in front of all captures that are written; the report of one that failed has what OUT itself took. What is counted
-/// and how the interfaces ended stays.
+/// Empties the buffers in front of all captures that are written; the report of one that failed has
+/// what OUT itself took. What is counted and how the interfaces ended stays.
 pub fn flush_all<R, W: Write + Drop>(reports: &mut [InterfaceReport<R, Output<W>>])
     ensures { AllZip (AreFlushed W.contents) reports.old reports.new }
 {
@@ -211,8 +215,9 @@ pub fn flush_all<R, W: Write + Drop>(reports: &mut [InterfaceReport<R, Output<W>
     }
 }
 
-/// Empties the buffers in front of all captures that are written, prints the reports, and reports that standard output failed, and each
-/// interface that did not end clean; its captures are at the paths of the same place. Returns the greatest status of all.
+/// Empties the buffers in front of all captures that are written, prints the reports, and reports
+/// that standard output failed, and each interface that did not end clean; its captures are at the
+/// paths of the same place. Returns the greatest status of all.
 pub fn report_flushed<R, W: Write + Drop, O: Write, E: HintSink>(
     form: LineForm,
     inputs: &[Vec<&str>],

@@ -50,6 +50,13 @@ zip-through R S T through (x ∷ xs) [] zs r s = absurd r
 zip-through R S T through (x ∷ xs) (y ∷ ys) [] r s = absurd s
 zip-through R S T through (x ∷ xs) (y ∷ ys) (z ∷ zs) r s = (through x y z r.0 s.0, zip-through R S T through xs ys zs r.1 s.1)
 
+-- two lists that stand so, and so too
+pub zip-weaker : {X Y : Type 0} (R S : X → Y → Type 0) → ((x : X) (y : Y) → R x y → S x y) → (xs : List X) (ys : List Y) → AllZip R xs ys → AllZip S xs ys
+zip-weaker R S weaker [] [] r = tt
+zip-weaker R S weaker [] (y ∷ ys) r = absurd r
+zip-weaker R S weaker (x ∷ xs) [] r = absurd r
+zip-weaker R S weaker (x ∷ xs) (y ∷ ys) r = (weaker x y r.0, zip-weaker R S weaker xs ys r.1)
+
 module _ {X Y : Type 0} (R S : X → Y → Type 0) where
   -- the first n items of two lists stand so to one another, and the others as before
   abbrev pub Half : List X → List Y → ℕ → Type 0

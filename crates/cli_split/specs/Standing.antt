@@ -1,5 +1,5 @@
 -- The state of a part after some packets.
-use Rattle.std.specs.Prelude.{◌≡◌, ◌≢◌, ◌↔◌, ℕ, ◌<◌, ◌≤◌, ◌^◌, List, [], ◌∷◌, ◌++◌, length, Option, OnOk, Err}
+use Rattle.std.specs.Prelude.{◌≡◌, ◌≢◌, ◌↔◌, ℕ, Bool, false, ◌<◌, ◌≤◌, ◌^◌, List, [], ◌∷◌, ◌++◌, length, Option, OnOk, Err}
 use Rattle.std.specs.List.{AllZip}
 use Rattle.savefile.specs.declared.fault.Fault.TheVariants.{Device}
 use Rattle.savefile.specs.declared.header.Order.{Order}
@@ -25,6 +25,11 @@ pub record HasTaken {W : Type 0} (taken : W → Option (List ℕ)) (name : W →
   pub written : outlet.tally.written ≤ outlet.tally.read
   pub broke : (outlet.written ≡ Err Device) ↔ (failures outlet.writer.sink ≢ failures part.sink)
   pub named : name outlet.writer.sink ≡ name part.sink
+
+-- the same, and its sink was told to hand on all that it took
+abbrev pub HasHandedOn : {W : Type 0} → (W → Option (List ℕ)) → (W → List ℕ) → (W → ℕ) → (W → Bool) → Order → TimeUnit → List Packet → Part W → Outlet W → Type 0
+HasHandedOn taken name failures waits order unit packets part outlet =
+    HasTaken taken name failures order unit packets part outlet × (waits outlet.writer.sink ≡ false)
 
 -- It was given one packet more.
 abbrev pub IsGiven : {W : Type 0} → (W → Option (List ℕ)) → (W → List ℕ) → (W → ℕ) → Packet → Outlet W → Outlet W → Type 0

@@ -11,7 +11,6 @@ use crate::split::SplitEnd;
 use cli_report::probe::ProbedInput;
 use cli_store::FileStore;
 use savefile::{Counted, Fault};
-use std::alloc::Global;
 
 /// Closes files that took nothing.
 pub(crate) fn close_unused<'p, F: FileStore<'p>>(files: &mut F, parts: Vec<Part<F::Output>>)
@@ -27,17 +26,17 @@ pub(crate) fn close_unused<'p, F: FileStore<'p>>(files: &mut F, parts: Vec<Part<
     }
 }
 
-/// Closes the captures, and returns what was noted of them. Hints alone need that: so a note for which no memory is left is left out.
+/// Closes the captures, and returns what was noted of them. Only hints need that: a note is left out if `notes`
+/// has no room for it and no memory is left.
 fn close_captures<'p, F: FileStore<'p>>(
-    alloc: Global,
     files: &mut F,
     captures: Vec<F::Input>,
+    mut notes: Vec<ProbedInput<()>>,
 ) -> Vec<ProbedInput<()>>
     ensures kept { Keeps (F.place files.old) (F.place files.new) (F.text files.old) (F.text files.new) (F.pending files.old) (F.pending files.new) }
     ensures failed { F.known ≡ true → NotesFailures F.Input.failures (F.failed files.new) captures.items }
     ensures stays { F.known ≡ true → F.failed files.old ≡ true → F.failed files.new ≡ true }
 {
-    let mut notes = Vec::new(alloc);
     for capture in captures {
         let _ = notes.push(Counted::new(files.done(capture)));
     }
@@ -93,11 +92,11 @@ fn close_parts<'p, F: FileStore<'p>>(
     closed
 }
 
-/// Closes all files of a split.
+/// Closes all files of a split. With room for a note of each capture and for each part no memory is asked for.
 pub fn close_files<'p, F: FileStore<'p>>(
-    alloc: Global,
     files: &mut F,
     end: SplitEnd<F::Input, F::Output>,
+    notes: Vec<ProbedInput<()>>,
     closed: Vec<ClosedPart>,
 ) -> ClosedEnd
     requires room { (length closed.items ≡ 0) × (length end.parts.items ≤ vec_capacity closed) }
@@ -114,7 +113,7 @@ pub fn close_files<'p, F: FileStore<'p>>(
         end,
     } = end;
     SplitEnd {
-        sources: close_captures(alloc, files, sources),
+        sources: close_captures(files, sources, notes),
         parts: close_parts(files, parts, closed),
         end,
     }

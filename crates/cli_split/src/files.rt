@@ -17,6 +17,7 @@ use crate::plan::{SplitLine, read_plan};
 use crate::split::{Room, split_in};
 use cli_args::split::SplitWords;
 use cli_filter::plan::Plan;
+use cli_report::probe::ProbedInput;
 use cli_store::FileStore;
 use line_text::LineForm;
 use savefile::laws::packets_take_room;
@@ -29,11 +30,12 @@ struct Space<'p, R, W> {
     text: &'p [u8],
     room: Room<R, W>,
     parts: Vec<Part<W>>,
+    notes: Vec<ProbedInput<()>>,
     closed: Vec<ClosedPart>,
     line: String,
 }
 
-/// Reserves the space for so many captures and for these lines of LINES.
+/// Reserves the space for this many captures and for these lines of LINES.
 fn reserve<'p, R: Drop, W: Drop>(
     alloc: Global,
     form: LineForm,
@@ -47,6 +49,7 @@ fn reserve<'p, R: Drop, W: Drop>(
         text,
         room: Room::reserve(alloc, captures, lines.len())?,
         parts: Vec::with_capacity(alloc, lines.len())?,
+        notes: Vec::with_capacity(alloc, captures)?,
         closed: Vec::with_capacity(alloc, lines.len())?,
         line: line_for(alloc, form, lines)?,
     })
@@ -78,6 +81,7 @@ fn split_captures<'p, F: FileStore<'p>>(
         text,
         room,
         mut parts,
+        notes,
         closed,
         line,
     } = space;
@@ -89,7 +93,7 @@ fn split_captures<'p, F: FileStore<'p>>(
         }
     }
     let split = split_in(alloc, room, captures, parts, words.order, words.unit);
-    let end = close_files(alloc, files, split, closed);
+    let end = close_files(files, split, notes, closed);
     Ok(SplitReport {
         text,
         lines,

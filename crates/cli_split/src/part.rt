@@ -6,7 +6,7 @@ ghost use Rattle.savefile.specs.Savefile.{IsWritable};
 ghost use Rattle.savefile.specs.declared.header.Order.{Order};
 ghost use Rattle.savefile.specs.declared.header.Unit.{Unit};
 ghost use Rattle.savefile.specs.declared.packet.Packet.{Packet};
-ghost use Rattle.cli_split.specs.Standing.{IsEndOf, IsGiven, HasTaken};
+ghost use Rattle.cli_split.specs.Standing.{HasHandedOn, HasTaken, IsEndOf, IsGiven};
 ghost use Rattle.cli_split.specs.Writing.{IsLeft};
 ghost use Rattle.cli_split.specs.declared.part.Part.{Part};
 
@@ -118,19 +118,19 @@ pub(crate) fn give_all<W: Sink>(outlets: &mut Vec<Outlet<W>>, packet: &PacketRef
     }
 }
 
-/// Lets the sink of a part hand on what it has gathered.
+/// Tells the sink of a part to hand on what it has gathered.
 fn hand_on<W: Sink>(outlet: &mut Outlet<W>)
     ensures { (order : Order) (unit : Unit) (packets : List Packet) (part : Part W) →
-        HasTaken W.taken W.name W.failures order unit packets part outlet.old → HasTaken W.taken W.name W.failures order unit packets part outlet.new }
+        HasTaken W.taken W.name W.failures order unit packets part outlet.old → HasHandedOn W.taken W.name W.failures W.waits order unit packets part outlet.new }
 {
     outlet.writer.flush();
 }
 
-/// Lets the sinks of all parts hand on what they have gathered.
+/// Tells the sinks of all parts to hand on what they have gathered.
 pub(crate) fn hand_on_all<W: Sink>(outlets: &mut Vec<Outlet<W>>)
     ensures { (order : Order) (unit : Unit) (packets : List Packet) (parts : List (Part W)) →
         AllZip (HasTaken W.taken W.name W.failures order unit packets) parts outlets.old.items →
-        AllZip (HasTaken W.taken W.name W.failures order unit packets) parts outlets.new.items }
+        AllZip (HasHandedOn W.taken W.name W.failures W.waits order unit packets) parts outlets.new.items }
 {
     for outlet in outlets.iter_mut() {
         hand_on(outlet);

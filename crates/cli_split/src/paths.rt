@@ -21,7 +21,7 @@ fn read_paths<'p>(alloc: Global, words: &SplitWords<'p>) -> Result<Vec<&'p str>,
     Ok(paths)
 }
 
-/// The OUT of each line; of the null device, which loses nothing, the first alone.
+/// The OUT of each line, but of the null device, which loses nothing, only the first.
 fn own_outputs<'p>(alloc: Global, lines: &[SplitLine<'p>]) -> Result<Vec<&'p str>, AllocError>
     ensures { IfOk result (λ outputs. outputs.items ≡ own_outputs false lines.now) }
 {

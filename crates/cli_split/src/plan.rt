@@ -73,7 +73,7 @@ impl<'a> PlanLine<'a> for SplitLine<'a> {
         self.snap
     }
 
-    /// What is written to the null device is counted alone.
+    /// Lines may share the null device: what is written to it is only counted.
     fn is_shared(output: &str) -> bool
         ensures { result ≡ is_null output.now }
     {

@@ -11,7 +11,7 @@ ghost use Rattle.savefile.specs.Reader.{GoesOn as HasMore, HasGiven, HasRecord, 
 ghost use Rattle.savefile.specs.Savefile.{IsWritable};
 ghost use Rattle.cli_split.specs.Reading.{GaveSo, HasOpened, ReadsOne, ReadsAll, ReadsSoFar, end_of};
 ghost use Rattle.cli_split.specs.Splitting.{HasRoom, Splits, passes_header};
-ghost use Rattle.cli_split.specs.Standing.{GoesOn, HasParts, HasSplit};
+ghost use Rattle.cli_split.specs.Standing.{GoesOn, HasHandedOn, HasParts, HasSplit};
 ghost use Rattle.cli_split.specs.declared.part.Part.{Part};
 
 use crate::part::{Outlet, Part, PartEnd, begin_all, close_all, give_all, hand_on_all, leave_all};
@@ -58,8 +58,8 @@ struct Splitter<W> {
 }
 
 impl<W: Sink> Splitter<W> {
-    /// Goes on to the next packet of a capture, as [`Reader::advance`] does. Before the source is asked for it all sinks hand on what they have
-    /// gathered: so whoever reads a part along has all that it was given while the source is waited for, and files are written in large pieces.
+    /// Goes on to the next packet of a capture, as [`Reader::advance`] does. Before the source is asked for it all sinks are told to hand on what
+    /// they have gathered: so whoever reads a part along has all that it was given while the source is waited for, and files are written in large pieces.
     #[inline(always)]
     fn advance_flushed<R: Source>(&mut self, reader: &mut Reader<R>) -> Result<bool, Fault>
         ensures packet { (start : Option (List ℕ)) (header : Header) (packets : List Packet) → HasGiven R.left start header packets reader.old →
@@ -79,6 +79,10 @@ impl<W: Sink> Splitter<W> {
         ensures written { (order : Order) (unit : Unit) (packets : List Packet) (parts : List (Part W)) →
             HasSplit W.taken W.name W.failures order unit packets parts self.old → HasSplit W.taken W.name W.failures order unit packets parts self.new }
         ensures ahead { HasMore reader.old × (reader.old.given ≢ 2 ^ 64 - 1) × HasRecord reader.old.header reader.old.ahead → self.new ≡ self.old }
+        // If none waits, the source is asked, and of no part is held back what was written.
+        ensures handed_on { (HasMore reader.old × (reader.old.given ≢ 2 ^ 64 - 1) × HasRecord reader.old.header reader.old.ahead → ⊥) →
+            (order : Order) (unit : Unit) (packets : List Packet) (parts : List (Part W)) → HasSplit W.taken W.name W.failures order unit packets parts self.old →
+            AllZip (HasHandedOn W.taken W.name W.failures W.waits order unit packets) parts self.new.outlets.items }
     {
         given_so_far(reader);
         if reader.advance_ahead() {
@@ -198,7 +202,7 @@ pub struct Room<R, W> {
 }
 
 impl<R: Drop, W: Drop> Room<R, W> {
-    /// Room for so many captures and parts.
+    /// Room for this many captures and parts.
     pub fn reserve(alloc: Global, captures: usize, parts: usize) -> Result<Room<R, W>, AllocError>
         ensures { IfOk result (HasRoom captures parts) }
     {

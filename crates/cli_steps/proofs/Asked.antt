@@ -27,13 +27,13 @@ prints-all form explained traced captures all kept steps before after status rep
 }
 
 -- what was read was played, and no file but the picture changed
-pub steps_files : (place-old place-mid : Places) (old mid new : Texts) (printed : Option (List ℕ)) (failed : Bool) (words : StepsWords) (before after : Option (List ℕ)) (report : StepsReport) →
+pub steps_files : (place-old place-mid : Places) (old mid new : Texts) (printed : Option (List ℕ)) (failed : Bool) (denied : Option (List ℕ)) (words : StepsWords) (before after : Option (List ℕ)) (report : StepsReport) →
     place-mid ≡ place-old → mid ≡ old → IsInput place-old old printed words report.input →
     PrintsPlayed (form_for words.json) words.explained (is_traced (detail_for words.explained (option_copied words.picture))) (map (λ c. c.items) report.input.captures.items)
     report.input.plan.specs.items report.input.plan.steps.items before after report.status report.replayed →
-    ((at : List ℕ) → IsNotDrawn place-mid words.picture at → new at ≡ mid at) → IfErr report.replayed (λ _. (at : List ℕ) → new at ≡ mid at) → IfErr report.drawn (IsUndrawn failed) →
-    StepsFiles place-old old new printed failed words before after (Ok report)
-steps_files place-old place-mid old mid new printed failed words before after report places texts input prints others unplayed undrawn =
+    ((at : List ℕ) → IsNotDrawn place-mid words.picture at → new at ≡ mid at) → IfErr report.replayed (λ _. (at : List ℕ) → new at ≡ mid at) → IfErr report.drawn (IsUndrawn words.picture failed) →
+    StepsFiles place-old old new printed failed denied words before after (Ok report)
+steps_files place-old place-mid old mid new printed failed denied words before after report places texts input prints others unplayed undrawn =
     let asked = input.of_listeners in
     let others-here : ((at : List ℕ) → IsNotDrawn place-old words.picture at → new at ≡ old at) =
     subst (λ (pl : Places). (at : List ℕ) → IsNotDrawn pl words.picture at → new at ≡ old at) places
@@ -60,8 +60,8 @@ steps_files place-old place-mid old mid new printed failed words before after re
     }
 
 -- nothing was played, for a reason
-pub refused : (place : Places) (old new : Texts) (printed : Option (List ℕ)) (failed : Bool) (words : StepsWords) (before after : Option (List ℕ)) (r : StepsRefusal) →
-    new ≡ old → KeepsBytes before after → IsReason place old printed failed words r → StepsFiles place old new printed failed words before after (Err r)
-refused place old new printed failed words before after r texts nothing is =
+pub refused : (place : Places) (old new : Texts) (printed : Option (List ℕ)) (failed : Bool) (denied : Option (List ℕ)) (words : StepsWords) (before after : Option (List ℕ)) (r : StepsRefusal) →
+    new ≡ old → KeepsBytes before after → IsReason place old printed failed denied words r → StepsFiles place old new printed failed denied words before after (Err r)
+refused place old new printed failed denied words before after r texts nothing is =
     let same : (at : List ℕ) → new at ≡ old at = λ at. ap (λ (t : Texts). t at) texts in
     record { others = λ at other. same at; came_to = (is, same, nothing) }

@@ -2,6 +2,7 @@
 use Rattle.std.proofs.Common.{◌≡◌, All, ℕ, zero, suc, ◌<◌, ◌≤◌, inl, inr, List, [], ◌∷◌, Bool, true, MatchOption, Option, Some, None, length, take, map, slice_index_or, refl, sym, ◌∙◌, ap, subst, arith, length-take}
 use Rattle.std.specs.List.{Any}
 use Rattle.std.specs.Borrow.{Bor}
+use Rattle.std.specs.declared.io.Error.{Error}
 use Rattle.cli_files.specs.declared.paths.Opening.TheVariants.{First}
 use Rattle.cli_store.specs.Files.{IsApart, IsUnprinted, Places, Texts}
 use Rattle.cli_args.specs.declared.steps.StepsWords.{StepsWords}
@@ -11,7 +12,7 @@ use Rattle.line_text.specs.Files.{IsFileOf}
 use Rattle.tap_text.specs.Listeners.{AreFirstOf}
 use Rattle.tap_text.specs.Script.{IsStepLine}
 use Rattle.cli_steps.specs.declared.outcome.StepsInput.{StepsInput}
-use Rattle.cli_steps.specs.FromFiles.{AreTextsAt, AreUnread, ArePathsApart, ArePathsRefused, IsInput, IsReason, IsTextAt, IsUnread, IsWholeUnread, drawn_paths, read_paths}
+use Rattle.cli_steps.specs.FromFiles.{AreTextsAt, AreUnread, ArePathsApart, ArePathsRefused, IsDenied, IsInput, IsReason, IsTextAt, IsUnread, IsWholeUnread, drawn_paths, read_paths}
 
 -- the first bytes of a text that are fewer than could be taken are all of it
 take_short : (n : ℕ) (xs : List ℕ) → length (take n xs) < n → take n xs ≡ xs
@@ -44,67 +45,76 @@ pub before : (place-old place-mid : Places) (old mid : Texts) (path text : List 
 before place-old place-mid old mid path text places texts read =
     subst (λ (m : Texts). m (place-old path) ≡ Some text) texts (subst (λ (pl : Places). mid (pl path) ≡ Some text) places read)
 
-unread_before : (place-old place-mid : Places) (old mid : Texts) (failed : Bool) (path : List ℕ) (r : StepsRefusal) → place-mid ≡ place-old → mid ≡ old →
-    IsUnread place-mid mid failed path r → IsUnread place-old old failed path r
-unread_before place-old place-mid old mid failed path r places texts is =
-    subst (λ (m : Texts). IsUnread place-old m failed path r) texts (subst (λ (pl : Places). IsUnread pl mid failed path r) places is)
+-- the path that is named is this one
+denied_here : (place : Places) (failed : Bool) (denied : Option (List ℕ)) (named path : List ℕ) (error : Error) → named ≡ path → IsDenied place failed denied path error → IsDenied place failed denied named error
+denied_here place failed denied named path error same why = subst (λ (p : List ℕ). IsDenied place failed denied p error) (sym same) why
 
-pub listeners_unread : (place : Places) (text : Texts) (printed : Option (List ℕ)) (failed : Bool) (words : StepsWords) (r : StepsRefusal) →
-    IsUnread place text failed words.listeners.now r → IsReason place text printed failed words r
-listeners_unread place text printed failed words (refusal.TextTooLong long) (same, (whole, is, more)) =
+unread_before : (place-old place-mid : Places) (old mid : Texts) (failed : Bool) (denied : Option (List ℕ)) (path : List ℕ) (r : StepsRefusal) → place-mid ≡ place-old → mid ≡ old →
+    IsUnread place-mid mid failed denied path r → IsUnread place-old old failed denied path r
+unread_before place-old place-mid old mid failed denied path r places texts is =
+    subst (λ (m : Texts). IsUnread place-old m failed denied path r) texts (subst (λ (pl : Places). IsUnread pl mid failed denied path r) places is)
+
+pub listeners_unread : (place : Places) (text : Texts) (printed : Option (List ℕ)) (failed : Bool) (denied : Option (List ℕ)) (words : StepsWords) (r : StepsRefusal) →
+    IsUnread place text failed denied words.listeners.now r → IsReason place text printed failed denied words r
+listeners_unread place text printed failed denied words (refusal.TextTooLong long) (same, (whole, is, more)) =
     (inl same, (whole, subst (λ (p : List ℕ). text (place p) ≡ Some whole) (sym same) is, more))
-listeners_unread place text printed failed words (refusal.File unread error) (same, why) =
-    (first (λ path. path.now ≡ unread.now) words.listeners (words.script ∷ words.inputs.items) (sym same), why)
-listeners_unread place text printed failed words (refusal.Line listeners script fault) is = absurd is
-listeners_unread place text printed failed words refusal.TooMany is = absurd is
-listeners_unread place text printed failed words (refusal.Paths fault) is = absurd is
-listeners_unread place text printed failed words refusal.NoMemory is = absurd is
+listeners_unread place text printed failed denied words (refusal.File unread error) (same, why) =
+    (first (λ path. path.now ≡ unread.now) words.listeners (words.script ∷ words.inputs.items) (sym same), denied_here place failed denied unread.now words.listeners.now error same why)
+listeners_unread place text printed failed denied words (refusal.Line listeners script fault) is = absurd is
+listeners_unread place text printed failed denied words refusal.TooMany is = absurd is
+listeners_unread place text printed failed denied words (refusal.Paths fault) is = absurd is
+listeners_unread place text printed failed denied words refusal.NoMemory is = absurd is
 
-script_here : (place : Places) (text : Texts) (printed : Option (List ℕ)) (failed : Bool) (words : StepsWords) (r : StepsRefusal) →
-    IsUnread place text failed words.script.now r → IsReason place text printed failed words r
-script_here place text printed failed words (refusal.TextTooLong long) (same, (whole, is, more)) =
+script_here : (place : Places) (text : Texts) (printed : Option (List ℕ)) (failed : Bool) (denied : Option (List ℕ)) (words : StepsWords) (r : StepsRefusal) →
+    IsUnread place text failed denied words.script.now r → IsReason place text printed failed denied words r
+script_here place text printed failed denied words (refusal.TextTooLong long) (same, (whole, is, more)) =
     (inr same, (whole, subst (λ (p : List ℕ). text (place p) ≡ Some whole) (sym same) is, more))
-script_here place text printed failed words (refusal.File unread error) (same, why) = (
+script_here place text printed failed denied words (refusal.File unread error) (same, why) = (
   later (λ path. path.now ≡ unread.now) words.listeners (words.script ∷ words.inputs.items)
       (first (λ path. path.now ≡ unread.now) words.script words.inputs.items (sym same)),
-  why,
+  denied_here place failed denied unread.now words.script.now error same why,
 )
-script_here place text printed failed words (refusal.Line listeners script fault) is = absurd is
-script_here place text printed failed words refusal.TooMany is = absurd is
-script_here place text printed failed words (refusal.Paths fault) is = absurd is
-script_here place text printed failed words refusal.NoMemory is = absurd is
+script_here place text printed failed denied words (refusal.Line listeners script fault) is = absurd is
+script_here place text printed failed denied words refusal.TooMany is = absurd is
+script_here place text printed failed denied words (refusal.Paths fault) is = absurd is
+script_here place text printed failed denied words refusal.NoMemory is = absurd is
 
-pub script_unread : (place-old place-mid : Places) (old mid : Texts) (printed : Option (List ℕ)) (failed : Bool) (words : StepsWords) (r : StepsRefusal) → place-mid ≡ place-old → mid ≡ old →
-    IsUnread place-mid mid failed words.script.now r → IsReason place-old old printed failed words r
-script_unread place-old place-mid old mid printed failed words r places texts is =
-    script_here place-old old printed failed words r (unread_before place-old place-mid old mid failed words.script.now r places texts is)
+pub script_unread : (place-old place-mid : Places) (old mid : Texts) (printed : Option (List ℕ)) (failed : Bool) (denied : Option (List ℕ)) (words : StepsWords) (r : StepsRefusal) → place-mid ≡ place-old → mid ≡ old →
+    IsUnread place-mid mid failed denied words.script.now r → IsReason place-old old printed failed denied words r
+script_unread place-old place-mid old mid printed failed denied words r places texts is =
+    script_here place-old old printed failed denied words r (unread_before place-old place-mid old mid failed denied words.script.now r places texts is)
 
-pub captures_unread : (place : Places) (text : Texts) (printed : Option (List ℕ)) (failed : Bool) (words : StepsWords) (r : StepsRefusal) →
-    AreUnread failed words.inputs.items r → IsReason place text printed failed words r
-captures_unread place text printed failed words (refusal.File unread error) (among, why) = (
+captures_here : (place : Places) (text : Texts) (printed : Option (List ℕ)) (failed : Bool) (denied : Option (List ℕ)) (words : StepsWords) (r : StepsRefusal) →
+    AreUnread place failed denied words.inputs.items r → IsReason place text printed failed denied words r
+captures_here place text printed failed denied words (refusal.File unread error) (among, why) = (
   later (λ path. path.now ≡ unread.now) words.listeners (words.script ∷ words.inputs.items)
       (later (λ path. path.now ≡ unread.now) words.script words.inputs.items among),
   why,
 )
-captures_unread place text printed failed words refusal.NoMemory is = tt
-captures_unread place text printed failed words (refusal.TextTooLong long) is = absurd is
-captures_unread place text printed failed words (refusal.Line listeners script fault) is = absurd is
-captures_unread place text printed failed words refusal.TooMany is = absurd is
-captures_unread place text printed failed words (refusal.Paths fault) is = absurd is
+captures_here place text printed failed denied words refusal.NoMemory is = tt
+captures_here place text printed failed denied words (refusal.TextTooLong long) is = absurd is
+captures_here place text printed failed denied words (refusal.Line listeners script fault) is = absurd is
+captures_here place text printed failed denied words refusal.TooMany is = absurd is
+captures_here place text printed failed denied words (refusal.Paths fault) is = absurd is
 
-paths_here : (place : Places) (text : Texts) (printed : Option (List ℕ)) (failed : Bool) (words : StepsWords) (r : StepsRefusal) →
-    ArePathsRefused place printed failed words r → IsReason place text printed failed words r
-paths_here place text printed failed words (refusal.Paths fault) is = is
-paths_here place text printed failed words refusal.TooMany is = is
-paths_here place text printed failed words refusal.NoMemory is = tt
-paths_here place text printed failed words (refusal.TextTooLong long) is = absurd is
-paths_here place text printed failed words (refusal.Line listeners script fault) is = absurd is
-paths_here place text printed failed words (refusal.File unread error) is = absurd is
+pub captures_unread : (place-old place-mid : Places) (text : Texts) (printed : Option (List ℕ)) (failed : Bool) (denied : Option (List ℕ)) (words : StepsWords) (r : StepsRefusal) → place-mid ≡ place-old →
+    AreUnread place-mid failed denied words.inputs.items r → IsReason place-old text printed failed denied words r
+captures_unread place-old place-mid text printed failed denied words r places is =
+    captures_here place-old text printed failed denied words r (subst (λ (pl : Places). AreUnread pl failed denied words.inputs.items r) places is)
 
-pub paths_refused : (place-old place-mid : Places) (text : Texts) (printed-old printed-mid : Option (List ℕ)) (failed : Bool) (words : StepsWords) (r : StepsRefusal) →
-    place-mid ≡ place-old → printed-mid ≡ printed-old → ArePathsRefused place-mid printed-mid failed words r → IsReason place-old text printed-old failed words r
-paths_refused place-old place-mid text printed-old printed-mid failed words r places prints is =
-    paths_here place-old text printed-old failed words r
+paths_here : (place : Places) (text : Texts) (printed : Option (List ℕ)) (failed : Bool) (denied : Option (List ℕ)) (words : StepsWords) (r : StepsRefusal) →
+    ArePathsRefused place printed failed words r → IsReason place text printed failed denied words r
+paths_here place text printed failed denied words (refusal.Paths fault) is = is
+paths_here place text printed failed denied words refusal.TooMany is = is
+paths_here place text printed failed denied words refusal.NoMemory is = tt
+paths_here place text printed failed denied words (refusal.TextTooLong long) is = absurd is
+paths_here place text printed failed denied words (refusal.Line listeners script fault) is = absurd is
+paths_here place text printed failed denied words (refusal.File unread error) is = absurd is
+
+pub paths_refused : (place-old place-mid : Places) (text : Texts) (printed-old printed-mid : Option (List ℕ)) (failed : Bool) (denied : Option (List ℕ)) (words : StepsWords) (r : StepsRefusal) →
+    place-mid ≡ place-old → printed-mid ≡ printed-old → ArePathsRefused place-mid printed-mid failed words r → IsReason place-old text printed-old failed denied words r
+paths_refused place-old place-mid text printed-old printed-mid failed denied words r places prints is =
+    paths_here place-old text printed-old failed denied words r
     (subst (λ (at : Option (List ℕ)). ArePathsRefused place-old at failed words r) prints (subst (λ (pl : Places). ArePathsRefused pl printed-mid failed words r) places is))
 
 -- the path of the picture as a list
@@ -127,13 +137,17 @@ again (x ∷ xs) zero d = refl
 again (x ∷ xs) (suc k) d = again xs k d
 
 -- a capture among these was not read
-pub whole_unread : (failed : Bool) (paths : List (Bor (List ℕ))) (k : ℕ) (d : Bor (List ℕ)) (r : StepsRefusal) → k < length paths → IsWholeUnread failed (slice_index_or paths k d).now r → AreUnread failed paths r
-whole_unread failed paths k d (refusal.File unread error) within (same, why) = ((k, slice_index_or paths k d, within, again paths k d, sym same), why)
-whole_unread failed paths k d (refusal.TextTooLong long) within is = absurd is
-whole_unread failed paths k d (refusal.Line listeners script fault) within is = absurd is
-whole_unread failed paths k d refusal.TooMany within is = absurd is
-whole_unread failed paths k d (refusal.Paths fault) within is = absurd is
-whole_unread failed paths k d refusal.NoMemory within is = absurd is
+pub whole_unread : (place-old place-mid : Places) (failed : Bool) (denied : Option (List ℕ)) (paths : List (Bor (List ℕ))) (k : ℕ) (d : Bor (List ℕ)) (r : StepsRefusal) → place-mid ≡ place-old → k < length paths →
+    IsWholeUnread place-mid failed denied (slice_index_or paths k d).now r → AreUnread place-old failed denied paths r
+whole_unread place-old place-mid failed denied paths k d (refusal.File unread error) places within (same, why) = (
+  (k, slice_index_or paths k d, within, again paths k d, sym same),
+  subst (λ (pl : Places). IsDenied pl failed denied unread.now error) places (denied_here place-mid failed denied unread.now (slice_index_or paths k d).now error same why),
+)
+whole_unread place-old place-mid failed denied paths k d (refusal.TextTooLong long) places within is = absurd is
+whole_unread place-old place-mid failed denied paths k d (refusal.Line listeners script fault) places within is = absurd is
+whole_unread place-old place-mid failed denied paths k d refusal.TooMany places within is = absurd is
+whole_unread place-old place-mid failed denied paths k d (refusal.Paths fault) places within is = absurd is
+whole_unread place-old place-mid failed denied paths k d refusal.NoMemory places within is = absurd is
 
 -- what was read is what was asked for
 pub input_of : (place-old place-1 place-2 place-3 : Places) (old mid-1 mid-2 mid-3 : Texts) (printed-old printed-2 : Option (List ℕ)) (words : StepsWords) (input : StepsInput) (listeners script : List ℕ) (paths : List (Bor (List ℕ))) →

@@ -73,27 +73,31 @@ ArePathsApart place text printed words =
 
 -- ---- Why nothing was played
 
--- a file could not be read: memory was refused, or it failed
+-- a file could not be read or written: memory was refused, or it failed
 abbrev pub IsFailure : Bool → Error → Type 0
 IsFailure failed error = IsRefusedMemory error ⊎ (failed ≡ true)
 
+-- the file at a path could not be read: memory was refused, or this file failed
+abbrev pub IsDenied : Places → Bool → Option (List ℕ) → List ℕ → Error → Type 0
+IsDenied place failed denied path error = IsFailure failed error × (IsRefusedMemory error ⊎ (denied ≡ Some (place path)))
+
 -- why the text of LISTENERS or SCRIPT, which is at this path, was not read
-abbrev pub IsUnread : Places → Texts → Bool → List ℕ → StepsRefusal → Type 0
-IsUnread place text failed path (refusal.TextTooLong long) =
+abbrev pub IsUnread : Places → Texts → Bool → Option (List ℕ) → List ℕ → StepsRefusal → Type 0
+IsUnread place text failed denied path (refusal.TextTooLong long) =
     (long.now ≡ path) × ((whole : List ℕ) × IsTextAt place text path whole × (MAX_TEXT < length whole))
-IsUnread place text failed path (refusal.File unread error) = (unread.now ≡ path) × IsFailure failed error
-IsUnread place text failed path other = ⊥
+IsUnread place text failed denied path (refusal.File unread error) = (unread.now ≡ path) × IsDenied place failed denied path error
+IsUnread place text failed denied path other = ⊥
 
 -- why the capture at this path was not read
-abbrev pub IsWholeUnread : Bool → List ℕ → StepsRefusal → Type 0
-IsWholeUnread failed path (refusal.File unread error) = (unread.now ≡ path) × IsFailure failed error
-IsWholeUnread failed path other = ⊥
+abbrev pub IsWholeUnread : Places → Bool → Option (List ℕ) → List ℕ → StepsRefusal → Type 0
+IsWholeUnread place failed denied path (refusal.File unread error) = (unread.now ≡ path) × IsDenied place failed denied path error
+IsWholeUnread place failed denied path other = ⊥
 
 -- why a capture at one of these paths was not read
-abbrev pub AreUnread : Bool → List (Bor (List ℕ)) → StepsRefusal → Type 0
-AreUnread failed paths refusal.NoMemory = ⊤
-AreUnread failed paths (refusal.File unread error) = Any (λ path. path.now ≡ unread.now) paths × IsFailure failed error
-AreUnread failed paths other = ⊥
+abbrev pub AreUnread : Places → Bool → Option (List ℕ) → List (Bor (List ℕ)) → StepsRefusal → Type 0
+AreUnread place failed denied paths refusal.NoMemory = ⊤
+AreUnread place failed denied paths (refusal.File unread error) = Any (λ path. path.now ≡ unread.now) paths × IsDenied place failed denied unread.now error
+AreUnread place failed denied paths other = ⊥
 
 -- why the paths are refused
 abbrev pub ArePathsRefused : Places → Option (List ℕ) → Bool → StepsWords → StepsRefusal → Type 0
@@ -108,16 +112,16 @@ AreLinesRefused place text words (refusal.Line listeners script fault) =
     IsTextAt place text words.listeners.now listeners.items × IsTextAt place text words.script.now script.items × IsRefusedFiles listeners.items script.items fault
 AreLinesRefused place text words other = ⊥
 
--- Why nothing was played: a text is too long, a line is refused, there are too many captures, paths are refused, a file could not be
--- read, or memory was refused.
-abbrev pub IsReason : Places → Texts → Option (List ℕ) → Bool → StepsWords → StepsRefusal → Type 0
-IsReason place text printed failed words (refusal.TextTooLong long) =
+-- Why nothing was played: a text is too long, a line is refused, there are too many captures, paths
+-- are refused, a file, which is named, could not be read, or memory was refused.
+abbrev pub IsReason : Places → Texts → Option (List ℕ) → Bool → Option (List ℕ) → StepsWords → StepsRefusal → Type 0
+IsReason place text printed failed denied words (refusal.TextTooLong long) =
     ((long.now ≡ words.listeners.now) ⊎ (long.now ≡ words.script.now)) × ((whole : List ℕ) × IsTextAt place text long.now whole × (MAX_TEXT < length whole))
-IsReason place text printed failed words (refusal.Line listeners script fault) = AreLinesRefused place text words (refusal.Line listeners script fault)
-IsReason place text printed failed words refusal.TooMany = MAX_CAPTURES < length words.inputs.items
-IsReason place text printed failed words (refusal.Paths fault) = IsRefusal place printed failed true (read_paths words) (drawn_paths words.picture) fault
-IsReason place text printed failed words (refusal.File unread error) = Any (λ path. path.now ≡ unread.now) (read_paths words) × IsFailure failed error
-IsReason place text printed failed words refusal.NoMemory = ⊤
+IsReason place text printed failed denied words (refusal.Line listeners script fault) = AreLinesRefused place text words (refusal.Line listeners script fault)
+IsReason place text printed failed denied words refusal.TooMany = MAX_CAPTURES < length words.inputs.items
+IsReason place text printed failed denied words (refusal.Paths fault) = IsRefusal place printed failed true (read_paths words) (drawn_paths words.picture) fault
+IsReason place text printed failed denied words (refusal.File unread error) = Any (λ path. path.now ≡ unread.now) (read_paths words) × IsDenied place failed denied unread.now error
+IsReason place text printed failed denied words refusal.NoMemory = ⊤
 
 -- ---- What was read
 
@@ -138,11 +142,12 @@ abbrev pub IsNotDrawn : Places → Option (Bor (List ℕ)) → List ℕ → Type
 IsNotDrawn place None at = ⊤
 IsNotDrawn place (Some path) at = at ≢ place path.now
 
--- why the picture was not drawn whole: memory was refused, or its file failed
-abbrev pub IsUndrawn : Bool → PictureFault → Type 0
-IsUndrawn failed picture.NoMemory = ⊤
-IsUndrawn failed (picture.File None) = failed ≡ true
-IsUndrawn failed (picture.File (Some error)) = IsFailure failed error
+-- why the picture that is asked for was not drawn whole: memory was refused, or its file failed
+abbrev pub IsUndrawn : Option (Bor (List ℕ)) → Bool → PictureFault → Type 0
+IsUndrawn None failed fault = ⊥
+IsUndrawn (Some path) failed picture.NoMemory = ⊤
+IsUndrawn (Some path) failed (picture.File None) = failed ≡ true
+IsUndrawn (Some path) failed (picture.File (Some error)) = IsFailure failed error
 
 -- ---- The command
 
@@ -163,18 +168,18 @@ pub record PlaysFiles (place : Places) (old new : Texts) (printed : Option (List
   pub of_script : IsFileOf IsStepLine script steps
   pub plays : PrintsPlayed (form_for words.json) words.explained (is_traced (detail_for words.explained (option_copied words.picture))) captures specs steps before after report.status report.replayed
   pub unplayed : IfErr report.replayed (λ fault. (at : List ℕ) → new at ≡ old at)
-  pub undrawn : IfErr report.drawn (IsUndrawn failed)
+  pub undrawn : IfErr report.drawn (IsUndrawn words.picture failed)
 
 -- nothing was played, and the refusal says why: then no file changed, and nothing was printed; or the script was played
-abbrev pub ComesTo : Places → Texts → Texts → Option (List ℕ) → Bool → StepsWords → Option (List ℕ) → Option (List ℕ) → Result StepsReport StepsRefusal → Type 0
-ComesTo place old new printed failed words before after (Ok report) = PlaysFiles place old new printed failed words before after report
-ComesTo place old new printed failed words before after (Err reason) =
-    IsReason place old printed failed words reason × ((at : List ℕ) → new at ≡ old at) × KeepsBytes before after
+abbrev pub ComesTo : Places → Texts → Texts → Option (List ℕ) → Bool → Option (List ℕ) → StepsWords → Option (List ℕ) → Option (List ℕ) → Result StepsReport StepsRefusal → Type 0
+ComesTo place old new printed failed denied words before after (Ok report) = PlaysFiles place old new printed failed words before after report
+ComesTo place old new printed failed denied words before after (Err reason) =
+    IsReason place old printed failed denied words reason × ((at : List ℕ) → new at ≡ old at) × KeepsBytes before after
 
 -- A call of `bpftap steps`: no file but the picture changed. Standard output had `before`, and has `after`.
-pub record StepsFiles (place : Places) (old new : Texts) (printed : Option (List ℕ)) (failed : Bool) (words : StepsWords) (before after : Option (List ℕ)) (result : Result StepsReport StepsRefusal) : Type 0 where
+pub record StepsFiles (place : Places) (old new : Texts) (printed : Option (List ℕ)) (failed : Bool) (denied : Option (List ℕ)) (words : StepsWords) (before after : Option (List ℕ)) (result : Result StepsReport StepsRefusal) : Type 0 where
   pub others : (at : List ℕ) → IsNotDrawn place words.picture at → new at ≡ old at
-  pub came_to : ComesTo place old new printed failed words before after result
+  pub came_to : ComesTo place old new printed failed denied words before after result
 
 -- ---- The exit status
 

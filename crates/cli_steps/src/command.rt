@@ -99,6 +99,22 @@ fn report_steps<O: Write, E: HintSink>(
     report.status.max(drawn)
 }
 
+/// Reports what a call came to, with hints, and returns the exit status.
+pub fn report_outcome<O: Write, E: HintSink>(
+    alloc: Global,
+    words: &StepsWords<'_>,
+    outcome: &Result<StepsReport, StepsRefusal<'_>>,
+    printed: &FailureProbe<Piped<'_, O>>,
+    err: &mut E,
+) -> Status
+    ensures { IsStatusOf outcome.now result }
+{
+    match outcome {
+        Ok(report) => report_steps(alloc, words, report, printed, err),
+        Err(refusal) => report_unplayed(refusal, err),
+    }
+}
+
 /// `bpftap steps`, with a buffer in front of standard output.
 pub fn steps_command<R: Files + AllocGlobal + Screen, O: Write, E: HintSink>(
     rt: &R,
@@ -111,8 +127,6 @@ pub fn steps_command<R: Files + AllocGlobal + Screen, O: Write, E: HintSink>(
     let Ok(mut printed) = BufWriter::with_capacity(alloc, OUTPUT_BUFFER, noted) else {
         return report_memory(err);
     };
-    match steps_files(alloc, &mut DiskFiles::new(rt, &watch), words, &mut printed) {
-        Ok(report) => report_steps(alloc, words, &report, printed.get_ref(), err),
-        Err(refusal) => report_unplayed(&refusal, err),
-    }
+    let outcome = steps_files(alloc, &mut DiskFiles::new(rt, &watch), words, &mut printed);
+    report_outcome(alloc, words, &outcome, printed.get_ref(), err)
 }

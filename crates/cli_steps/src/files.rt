@@ -83,7 +83,7 @@ pub fn steps_files<'p, F: FileStore<'p>, O: Write>(
     out: &mut O,
 ) -> Result<StepsReport, StepsRefusal<'p>>
     requires none_open { F.opened files.old ≡ [] }
-    ensures steps { F.known ≡ true → StepsFiles (F.place files.old) (F.text files.old) (F.text files.new) (F.printed files.old) (F.failed files.new) words.now
+    ensures steps { F.known ≡ true → StepsFiles (F.place files.old) (F.text files.old) (F.text files.new) (F.printed files.old) (F.failed files.new) (F.denied files.new) words.now
         (O.contents out.old) (O.contents out.new) result }
     // The picture is closed.
     ensures closed { F.known ≡ true → F.pending files.new ≡ F.pending files.old }

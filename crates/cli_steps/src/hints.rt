@@ -53,7 +53,7 @@ fn hint_listener<E: HintSink>(alloc: Global, spec: &Spec, fault: tap::Fault, err
     }
 }
 
-/// Hints on the capture of this number, which is refused, or which ended with a record fault. Of several, its path comes first.
+/// Hints on the capture of this number, which is refused, or which ended with a record fault, below its path.
 fn hint_capture<E: HintSink>(
     paths: &[&str],
     texts: &[Vec<u8>],
@@ -62,9 +62,7 @@ fn hint_capture<E: HintSink>(
     err: &mut E,
 ) {
     if let (Some(path), Some(text)) = (paths.get(number), texts.get(number)) {
-        if paths.len() > 1 {
-            give_hint(format_args!("{}:", EscapedPath(*path)), err);
-        }
+        give_hint(format_args!("{}:", EscapedPath(*path)), err);
         hint_capture_fault(text.as_slice(), fault, err);
     }
 }

@@ -1,6 +1,6 @@
 //! The picture that `bpftap steps -p` draws.
 
-ghost use Rattle.std.specs.Prelude.{◌≡◌, ◌≢◌, [], ℕ, List, true, IfErr, OnOk};
+ghost use Rattle.std.specs.Prelude.{◌≡◌, ◌≢◌, [], ℕ, List, Some, true, IfErr, OnOk};
 ghost use Rattle.std.specs.Io.KnownBytes.{Appends};
 ghost use Rattle.savefile.specs.Device.{CountsFailure};
 ghost use Rattle.cli_store.specs.Files.{StoresAt};
@@ -56,7 +56,7 @@ fn draw<'p, F: FileStore<'p>>(
     ensures others { F.known ≡ true → (at : List ℕ) → at ≢ F.place files.old path.now → F.text files.new at ≡ F.text files.old at }
     ensures stored { F.known ≡ true → OnOk result (StoresAt (F.text files.old) (F.text files.new) (F.place files.old path.now) picture.now) }
     ensures closed { F.known ≡ true → F.pending files.new ≡ F.pending files.old }
-    ensures failed { F.known ≡ true → IfErr result (IsUndrawn (F.failed files.new)) }
+    ensures failed { F.known ≡ true → IfErr result (IsUndrawn (Some path.entry) (F.failed files.new)) }
 {
     let mut sink = match files.create(path) {
         Ok(sink) => sink,
@@ -82,7 +82,7 @@ pub(crate) fn draw_wanted<'p, F: FileStore<'p>>(
     ensures others { F.known ≡ true → (at : List ℕ) → IsNotDrawn (F.place files.old) words.now.picture at → F.text files.new at ≡ F.text files.old at }
     ensures unplayed { F.known ≡ true → IfErr replayed.now (λ _. (at : List ℕ) → F.text files.new at ≡ F.text files.old at) }
     ensures closed { F.known ≡ true → F.pending files.new ≡ F.pending files.old }
-    ensures failed { F.known ≡ true → IfErr result (IsUndrawn (F.failed files.new)) }
+    ensures failed { F.known ≡ true → IfErr result (IsUndrawn words.now.picture (F.failed files.new)) }
 {
     let (
         Some(path),

@@ -23,7 +23,7 @@ fn read_text<'p, F: FileStore<'p>>(
     ensures opened { F.opened files.new ≡ F.opened files.old }
     ensures printed { F.printed files.new ≡ F.printed files.old }
     ensures text { F.known ≡ true → IfOk result (λ text. IsTextAt (F.place files.old) (F.text files.old) path.entry.now text.items) }
-    ensures refused { F.known ≡ true → IfErr result (IsUnread (F.place files.old) (F.text files.old) (F.failed files.new) path.entry.now) }
+    ensures refused { F.known ≡ true → IfErr result (IsUnread (F.place files.old) (F.text files.old) (F.failed files.new) (F.denied files.new) path.entry.now) }
 {
     match files.read(path, MAX_TEXT + 1) {
         Err(error) => Err(StepsRefusal::File(path, error)),
@@ -48,7 +48,7 @@ fn read_whole<'p, F: FileStore<'p>>(
     ensures opened { F.opened files.new ≡ F.opened files.old }
     ensures printed { F.printed files.new ≡ F.printed files.old }
     ensures text { F.known ≡ true → IfOk result (λ text. IsTextAt (F.place files.old) (F.text files.old) path.entry.now text.items) }
-    ensures refused { F.known ≡ true → IfErr result (IsWholeUnread (F.failed files.new) path.entry.now) }
+    ensures refused { F.known ≡ true → IfErr result (IsWholeUnread (F.place files.old) (F.failed files.new) (F.denied files.new) path.entry.now) }
 {
     match files.read(path, usize::MAX) {
         Err(error) => Err(StepsRefusal::File(path, error)),
@@ -68,7 +68,7 @@ fn read_captures<'p, F: FileStore<'p>>(
     ensures kept { Keeps (F.place files.old) (F.place files.new) (F.text files.old) (F.text files.new) (F.pending files.old) (F.pending files.new) }
     ensures opened { F.opened files.new ≡ F.opened files.old }
     ensures texts { F.known ≡ true → IfOk result (λ texts. AreTextsAt (F.place files.old) (F.text files.old) paths.now (map (λ t. t.items) texts.items)) }
-    ensures refused { F.known ≡ true → IfErr result (AreUnread (F.failed files.new) paths.now) }
+    ensures refused { F.known ≡ true → IfErr result (AreUnread (F.place files.old) (F.failed files.new) (F.denied files.new) paths.now) }
 {
     let mut texts = Vec::new(alloc);
     for path in paths {
@@ -136,7 +136,7 @@ pub(crate) fn read_input<'p, F: FileStore<'p>>(
     ensures kept { Keeps (F.place files.old) (F.place files.new) (F.text files.old) (F.text files.new) (F.pending files.old) (F.pending files.new) }
     ensures opened { F.opened files.new ≡ F.opened files.old }
     ensures input { F.known ≡ true → IfOk result (IsInput (F.place files.old) (F.text files.old) (F.printed files.old) words.now) }
-    ensures refused { F.known ≡ true → IfErr result (IsReason (F.place files.old) (F.text files.old) (F.printed files.old) (F.failed files.new) words.now) }
+    ensures refused { F.known ≡ true → IfErr result (IsReason (F.place files.old) (F.text files.old) (F.printed files.old) (F.failed files.new) (F.denied files.new) words.now) }
 {
     let listeners = read_text(files, words.listeners)?;
     let script = read_text(files, words.script)?;

@@ -31,8 +31,8 @@ fn line_of<D: Display + Drop>(fault: D) -> io::Result<Line>
     Ok(line)
 }
 
-/// Reports a fault in a line of its own, which goes out in one piece. If standard error fails, it took a prefix of the line.
-/// A line of more than 512 bytes is not reported.
+/// Reports a fault in a line of its own, which goes out in one piece. If standard error fails, it
+/// took a prefix of the line. A line of more than 512 bytes is not reported.
 pub fn report_line<E: Write, D: Display + Drop>(fault: D, err: &mut E) -> io::Result<()>
     ensures { IfSome (D.output fault) (λ text. Takes (E.contents err.old) (E.contents err.new) result (told_line text)) }
 {
@@ -40,8 +40,8 @@ pub fn report_line<E: Write, D: Display + Drop>(fault: D, err: &mut E) -> io::Re
     send(line.as_bytes(), err)
 }
 
-/// Reports a fault in a line of its own, whatever its length, and gives the status back. If standard error itself fails, only
-/// the status is left.
+/// Reports a fault in a line of its own, whatever its length, and gives the status back. If
+/// standard error itself fails, only the status is left.
 pub fn report_fault<E: Write, D: Display + Drop>(fault: D, status: Status, err: &mut E) -> Status
     ensures { result ≡ status }
 {
@@ -67,7 +67,8 @@ pub fn report_words<E: Write>(error: io::Error, err: &mut E) -> Status
     }
 }
 
-/// A path in a line of its own: control characters are written as in a Rust string, `\n` or `\u{1b}`.
+/// A path in a line of its own: control characters are written as in a Rust string, `\n` or
+/// `\u{1b}`.
 #[derive(Clone, Copy)]
 pub struct EscapedPath<'a>(pub &'a str);
 
@@ -112,8 +113,8 @@ fn is_unread(kind: ErrorKind) -> bool
     matches!(kind, ErrorKind::BrokenPipe)
 }
 
-/// Reports that standard output failed, if it did, in a line `bpftap: Device standard output`. If nobody reads what is printed
-/// any more, it reports nothing.
+/// Reports that standard output failed, if it did, in a line `bpftap: Device standard output`. If
+/// nobody reads what is printed any more, it reports nothing.
 pub fn report_output<E: Write>(printed: &io::Result<()>, err: &mut E) -> io::Result<()>
     ensures { Takes (E.contents err.old) (E.contents err.new) result (output_line printed.now) }
 {

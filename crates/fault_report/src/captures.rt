@@ -32,7 +32,8 @@ fn is_of_capture(fault: Fault) -> bool
     }
 }
 
-/// What has the fault of the capture at a path: that capture, if it is a fault of its bytes; and the file if that failed.
+/// What has the fault of the capture at a path: that capture, if it is a fault of its bytes; and
+/// the file if that failed.
 fn subject_of(fault: Fault, path: &str) -> Option<Subject<'_>>
     ensures { result ≡ capture_subject fault path.entry }
 {

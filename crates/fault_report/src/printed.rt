@@ -10,8 +10,8 @@ use line_text::{JsonString, LineForm};
 use std::fmt;
 use std::fmt::{Display, Formatter};
 
-/// Prints a report as it stands in a line after the program's name: its names and numbers, each after a blank, and the file or stream
-/// that failed. A path is printed as an [`EscapedPath`].
+/// Prints a report as it stands in a line after the program's name: its names and numbers, each
+/// after a blank, and the file or stream that failed. A path is printed as an [`EscapedPath`].
 #[derive(Clone, Copy)]
 pub struct ReportText<'r, 'a>(pub &'r Report<'a>);
 
@@ -72,8 +72,9 @@ impl Display for NumbersMember<'_, '_> {
     }
 }
 
-/// Prints a report as an object of JSON: `{"fault":"NAMES","numbers":[N,N]}`, and with the key `"file"` the path of what has the fault, or
-/// with `"stream"` that standard output failed. It takes no memory, since it may have to say that memory ran out.
+/// Prints a report as an object of JSON: `{"fault":"NAMES","numbers":[N,N]}`, and with the key
+/// `"file"` the path of what has the fault, or with `"stream"` that standard output failed. It
+/// takes no memory, since it may have to say that memory ran out.
 #[derive(Clone, Copy)]
 pub struct ReportObject<'r, 'a>(pub &'r Report<'a>);
 

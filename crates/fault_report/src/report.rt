@@ -11,13 +11,14 @@ use crate::word::Word;
 pub enum Subject<'a> {
     /// The file at this path, which the line names.
     File(&'a str),
-    /// The capture at this path, which the line does not name: it has its number, or there is only one.
+    /// The capture at this path, which the line does not name: it has its number, or there is only
+    /// one.
     Capture(&'a str),
     /// Standard output.
     StandardOutput,
 }
 
-/// A fault that is reported: its first name, what stands after that in its line, and what failed.
+/// A fault that is reported: its first name, what comes after that in its line, and what failed.
 #[derive(Clone, Copy, Debug, PartialEq, Eq)]
 pub struct Report<'a> {
     pub name: &'static str,
@@ -49,7 +50,8 @@ impl<'a> Report<'a> {
         }
     }
 
-    /// A fault of the part of this number: the name of the parts, its number, and the name and the place of what is wrong with it.
+    /// A fault of the part of this number: the name of the parts, its number, and the name and the
+    /// place of what is wrong with it.
     pub fn of_part(
         name: &'static str,
         number: usize,

@@ -39,11 +39,11 @@ fn has_path(form: LineForm, report: &Report<'_>) -> bool
     }
 }
 
-/// Reports a fault in a line of its own, or as an object: in one piece if it has at most 512 bytes. What has a path in it is reported
-/// whatever its length.
+/// Reports a fault in a line of its own, or as an object: in one piece if it has at most 512 bytes.
+/// What has a path in it is reported whatever its length.
 pub fn report_in<E: Write>(form: LineForm, report: &Report<'_>, err: &mut E) -> io::Result<()>
     ensures whole { OnOk result (IfSome (reported form report.now) (Appends (E.contents err.old) (E.contents err.new))) }
-    // Without a path it takes a prefix where standard error fails.
+    // Without a path it takes a prefix if standard error fails.
     ensures part { has_path form report.now.subject ≡ false → IfSome (reported form report.now) (Takes (E.contents err.old) (E.contents err.new) result) }
 {
     match line_of(form, report) {
@@ -60,7 +60,8 @@ pub fn report<E: FaultSink>(fault: &Report<'_>, err: &mut E) -> io::Result<()>
     report_in(err.fault_form(), fault, err)
 }
 
-/// Reports a fault, and gives the status back. If standard error itself fails, only the status is left.
+/// Reports a fault, and gives the status back. If standard error itself fails, only the status is
+/// left.
 pub fn report_fault<E: FaultSink>(fault: &Report<'_>, status: Status, err: &mut E) -> Status
     ensures { result ≡ status }
 {
@@ -82,8 +83,8 @@ pub fn report_device<E: FaultSink>(path: &str, err: &mut E) -> Status
     report_fault(&device(Subject::File(path)), Status::Failed, err)
 }
 
-/// Reports that standard output failed, if it did, and returns the exit status of printing. If nobody reads what is printed any more, as
-/// after `| head`, it reports nothing.
+/// Reports that standard output failed, if it did, and returns the exit status of printing. If
+/// nobody reads what is printed any more, as after `| head`, it reports nothing.
 pub fn report_output<E: FaultSink>(printed: &io::Result<()>, err: &mut E) -> Status
     ensures { result ≡ print_status_of printed.now }
 {
@@ -93,7 +94,8 @@ pub fn report_output<E: FaultSink>(printed: &io::Result<()>, err: &mut E) -> Sta
     }
 }
 
-/// Reports that standard output failed, and returns the exit status. If nobody reads what is printed any more, it reports nothing.
+/// Reports that standard output failed, and returns the exit status. If nobody reads what is
+/// printed any more, it reports nothing.
 pub fn report_unwritten<E: FaultSink>(error: &io::Error, err: &mut E) -> Status
     ensures { result ≡ Failed }
 {
@@ -110,7 +112,8 @@ pub fn report_capture<E: FaultSink>(fault: Fault, path: &str, err: &mut E) -> St
     report_fault(&capture_fault(fault, path), fault_status(fault), err)
 }
 
-/// Reports the fault of the capture of this number, of those at these paths. Returns the exit status.
+/// Reports the fault of the capture of this number, of those at these paths. Returns the exit
+/// status.
 pub fn report_nth_capture<E: FaultSink>(
     fault: Fault,
     number: usize,

@@ -1,4 +1,4 @@
--- What a survey of a capture comes to.
+-- The outcome of a survey of a capture.
 use Rattle.std.specs.Prelude.{◌≡◌, ℕ, ◌<◌, ◌⊎◌, List, [], length, Option, Some, None, Result, Ok, Err}
 use Rattle.std.specs.Io.KnownBytes.{Consumes}
 use Rattle.savefile.specs.declared.fault.Fault.{Fault}

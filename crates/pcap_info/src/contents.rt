@@ -15,7 +15,8 @@ pub enum FrameKind {
     Ipv4,
     Arp,
     Ipv6,
-    /// A frame with a VLAN tag: one of IEEE 802.1Q, or an outer one of 802.1ad or of the time before it.
+    /// A frame with a VLAN tag: one of IEEE 802.1Q, or an outer one of 802.1ad or of the time
+    /// before it.
     Vlan,
     /// Any other frame, and one of which fewer than 14 bytes were captured.
     Other,

@@ -24,10 +24,12 @@ pub struct CaptureSurvey<R> {
     pub read: Result<(), Fault>,
 }
 
-/// Reads a capture to its end, or to its first fault, and counts what it has. It takes the memory of a reader, however long the capture is.
+/// Reads a capture to its end, or to its first fault, and counts what it has. It takes the memory
+/// of a reader, however long the capture is.
 ///
-/// `read` has the fault: that of the header, which then is none; with [`Fault::NoMemory`] the source is as it was too; that of the first
-/// torn or bad record, by its place; [`Fault::Device`] if and only if the source failed; or [`Fault::CountFull`] after 2^64 - 1 packets.
+/// `read` has the fault: that of the header, which then is none; with [`Fault::NoMemory`] the
+/// source is as it was too; that of the first torn or bad record, by its place; [`Fault::Device`]
+/// if and only if the source failed; or [`Fault::CountFull`] after 2^64 - 1 packets.
 pub fn survey_capture<R: Source>(alloc: Global, from: R) -> CaptureSurvey<R>
     // What the capture has, and how its reading ended.
     ensures surveys { Surveys R.left from result }

@@ -21,7 +21,8 @@ fn program_of(rt: &(impl Abort + AllocGlobal), listing: &[u8]) -> Program {
     filter(rt.alloc(), Some(listing), None, 0).expect(rt, "the listing is a program's")
 }
 
-/// What a cut of a text gives: what was written, its number of bytes as reported, the line on standard error, the status.
+/// What a cut of a text gives: what was written, its number of bytes as reported, the line on
+/// standard error, the status.
 #[derive(Drop)]
 struct Seen {
     written: Vec<u8>,
@@ -106,7 +107,7 @@ fn front<'a>(rt: &impl Abort, text: &'a [u8], n: usize) -> &'a [u8] {
     text.get(..n).expect(rt, "there are enough bytes")
 }
 
-/// The packets before the break are written, and nothing where the header was not read.
+/// The packets before the break are written, and nothing if the header was not read.
 fn breaks_behind(rt: &(impl Abort + AllocGlobal), text: &[u8], row: (usize, usize, usize)) {
     let (piece, given, written) = row;
     let end = cut_pieces(rt, front(rt, text, given), piece, true);
@@ -163,7 +164,8 @@ fn ends_so(
     is_told(rt, end, line, status);
 }
 
-/// A sink with this much room has a prefix of what is wanted, and breaks once, unless it has room for all.
+/// A sink with this much room has a prefix of what is wanted, and breaks once, unless it has room
+/// for all.
 fn has_beginning_at(rt: &(impl Abort + AllocGlobal), text: &[u8], wanted: &[u8], room: usize) {
     let program = program_of(rt, ETHERTYPE);
     let end = cut_into(rt.alloc(), text, &program, room);
@@ -193,7 +195,8 @@ fn cut_into<'a>(
     cut(alloc, from, program, 0, Order::Little, Unit::Micro, to)
 }
 
-/// Checks that the sink took this many bytes, the first ones of those wanted, and that they were counted.
+/// Checks that the sink took this many bytes, the first ones of those wanted, and that they were
+/// counted.
 fn has_beginning<R>(
     rt: &impl Abort,
     end: &CutEnd<R, Counted<BreakingWriter>>,

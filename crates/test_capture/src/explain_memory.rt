@@ -140,20 +140,13 @@ fn a_packet_in_full_is_an_object_of_its_capture(rt: HostRuntime) {
     let mut words = words_of(&rt, Some("len > 20 or arp"), &["in.pcap", "in.pcap"]);
     words.json = true;
     words.places = Some(PlaceRange { first: 0, last: 0 });
-    let heads = ["{\"capture\":0,", "{\"capture\":1,"];
     let members =
-        "\"place\":0,\"seconds\":1,\"nanoseconds\":0,\"length\":14,\"captured\":14,\"answer\":\"yes\",\"decided\":\"arp\",\"bytes\":\"ffffffffffff0001020304050806\",\"expression\":\"len > 20 or arp\",\"asked\":[{\"test\":\"len > 20\",\"answer\":\"no\",\"length\":14,\"bytes\":[]},{\"test\":\"arp\",\"answer\":\"yes\",\"bytes\":[{\"offset\":12,\"size\":2,\"value\":2054,\"field\":\"ethertype\"}]}],\"unasked\":[],\"run\":{\"instructions\":";
+        "{\"capture\":0,\"place\":0,\"seconds\":1,\"nanoseconds\":0,\"length\":14,\"captured\":14,\"answer\":\"yes\",\"decided\":\"arp\",\"bytes\":\"ffffffffffff0001020304050806\",\"expression\":\"len > 20 or arp\",\"asked\":[{\"test\":\"len > 20\",\"answer\":\"no\",\"length\":14,\"bytes\":[]},{\"test\":\"arp\",\"answer\":\"yes\",\"bytes\":[{\"offset\":12,\"size\":2,\"value\":2054,\"field\":\"ethertype\"}]}],\"unasked\":[],\"run\":{\"instructions\":";
     let mut out: Vec<u8> = Vec::new(rt.alloc());
     let mut err: Vec<u8> = Vec::new(rt.alloc());
     let status = explain_and_report(rt.alloc(), &mut files, &words, &mut out, &mut err);
     same(&rt, status, Status::Clean);
-    let first = text_of(&rt, &[heads[0], members]);
-    assert!(rt; out.starts_with(first.as_bytes()));
-    let second = text_of(&rt, &["\n", heads[1], members]);
-    assert!(rt;
-        out.windows(second.len())
-            .any(|part| part == second.as_bytes())
-    );
+    assert!(rt; out.starts_with(members.as_bytes()));
 }
 
 #[test]

@@ -67,7 +67,7 @@ fn words_of<R: Abort + AllocGlobal>(
     }
 }
 
-/// A cut ends with this status and this line, and leaves so many files, none of them open.
+/// A cut ends with this status and this line, and leaves this many files, none of them open.
 fn cuts<R: Abort + AllocGlobal>(
     rt: &R,
     files: &mut MemoryFiles<'static>,
@@ -85,7 +85,8 @@ fn cuts<R: Abort + AllocGlobal>(
     same(rt, files.pending, 0);
 }
 
-/// A cut of several captures ends with this status and this line, and leaves so many files, none of them open.
+/// A cut of several captures ends with this status and this line, and leaves this many files, none
+/// of them open.
 fn cuts_all<R: Abort + AllocGlobal>(
     rt: &R,
     files: &mut MemoryFiles<'static>,
@@ -272,7 +273,8 @@ fn failing_at<R: Abort + AllocGlobal>(rt: &R, calls: usize) -> MemoryFiles<'stat
     files
 }
 
-/// The paths are compared, IN is opened, OUT is made, OUT is closed: each of these calls fails once, and no file changes.
+/// The paths are compared, IN is opened, OUT is made, OUT is closed: each of these calls fails
+/// once, and no file changes.
 #[test]
 fn each_call_of_a_cut_fails(rt: HostRuntime) {
     let words = words_of(&rt, Some("ip"), None, "in.pcap", "out.pcap");

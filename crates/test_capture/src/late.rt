@@ -114,7 +114,8 @@ fn fails_over(rt: &impl Abort, is_made: bool, takes_nothing: bool) {
 
 #[test]
 fn a_file_that_failed_is_not_touched_again(rt: HostRuntime) {
-    // The call that makes the file is refused; or the one that writes it, or that one takes nothing.
+    // The call that makes the file is refused; or the one that writes it, or that one takes
+    // nothing.
     fails_over(&rt, false, false);
     fails_over(&rt, true, false);
     fails_over(&rt, true, true);

@@ -1,7 +1,9 @@
-//! Tests of the commands over captures that the program does not show: devices that break, files over a made-up system, what is
-//! reported of each, and the callers of the pages.
+//! Tests of the commands over captures that the program does not show: devices that break, files
+//! over a made-up system, what is reported of each, and the callers of the pages.
 #![tactic(auto)]
 
+#[cfg(test)]
+mod compare_memory;
 #[cfg(test)]
 mod compared;
 #[cfg(test)]
@@ -29,7 +31,6 @@ mod sought;
 #[cfg(test)]
 mod split;
 #[cfg(test)]
-mod split_memory;
 #[cfg(test)]
 mod surveyed;
 #[cfg(test)]

@@ -45,7 +45,7 @@ fn source(text: &[u8], breaks: bool) -> Counted<PiecesReader<'_>> {
     })
 }
 
-/// Such sources, of which the last one breaks at its end where that is asked.
+/// Such sources, of which the last one breaks at its end if that is asked.
 fn sources<'a>(
     rt: &(impl Abort + AllocGlobal),
     texts: &[&'a [u8]],
@@ -60,7 +60,7 @@ fn sources<'a>(
     captures
 }
 
-/// Splits captures, of which the last one breaks at its end where that is asked, to these parts.
+/// Splits captures, of which the last one breaks at its end if that is asked, to these parts.
 fn split_to<'a>(
     rt: &(impl Abort + AllocGlobal),
     texts: &[&'a [u8]],
@@ -177,7 +177,8 @@ fn has_broken(rt: &(impl Abort + AllocGlobal), end: &Split<'_>, taken: &[&str]) 
     check_tally(rt, "all", part_at(rt, end, 2), (3, 3));
 }
 
-/// Splits two captures to three parts. The first has room for this many bytes: it takes these, and the others take all.
+/// Splits two captures to three parts. The first has room for this many bytes: it takes these, and
+/// the others take all.
 fn check_broken(rt: &(impl Abort + AllocGlobal), room: usize, taken: &[&str]) {
     let first = text_of(rt, &[HEADER, TCP]);
     let second = text_of(rt, &[HEADER, TCP, UDP]);
@@ -194,7 +195,8 @@ fn a_failing_sink_ends_only_its_part(rt: HostRuntime) {
     check_broken(&rt, 24 + 54 + 1, &[HEADER, TCP, "01"]);
 }
 
-/// This many TCP packets were read when the second of three captures ended the reading, and the third was not read.
+/// This many TCP packets were read when the second of three captures ended the reading, and the
+/// third was not read.
 fn has_stopped(rt: &impl Abort, end: &Split<'_>, stop: Stop, tcp: u64, third: &[u8]) {
     check_end(rt, end, Err(stop));
     check_tally(rt, "tcp", part_at(rt, end, 0), (tcp, tcp));
@@ -203,7 +205,8 @@ fn has_stopped(rt: &impl Abort, end: &Split<'_>, stop: Stop, tcp: u64, third: &[
     check_unread(rt, end, 2, third);
 }
 
-/// Splits three captures, of which the second is this text: it ends the reading, after this many TCP packets, and the third is not read.
+/// Splits three captures, of which the second is this text: it ends the reading, after this many
+/// TCP packets, and the third is not read.
 fn check_second(rt: &(impl Abort + AllocGlobal), text: &[u8], stop: Stop, tcp: u64) {
     let good = text_of(rt, &[HEADER, TCP]);
     let texts = [good.as_slice(), text, good.as_slice()];

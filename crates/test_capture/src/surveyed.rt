@@ -15,7 +15,8 @@ fn packets_in(alloc: Global, text: &[u8]) -> (u64, Result<(), Fault>) {
     (survey.contents.packets, survey.read)
 }
 
-/// The first bytes of a capture with an ARP packet and an IPv4 packet have so many packets, and end so.
+/// The first `size` bytes of a capture with an ARP packet and an IPv4 packet have this many
+/// packets, and end so.
 fn front_has(rt: &(impl Abort + AllocGlobal), size: usize, wanted: (u64, Result<(), Fault>)) {
     let text = text_of(rt, &[HEADER, ARP_RECORD, IP_RECORD]);
     let front = text

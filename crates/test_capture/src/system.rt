@@ -1,4 +1,5 @@
-//! A made system, whose descriptors are numbers, whose files break, and whose calls a signal breaks.
+//! A made system, whose descriptors are numbers, whose files break, and whose calls a signal
+//! breaks.
 
 use std::alloc::Allocator;
 use std::fs::{Files, Metadata, OpenFile, OpenOptions};
@@ -14,9 +15,9 @@ const DESCRIPTORS: u32 = 8;
 pub const TORN: &[u8] =
     b"\xd4\xc3\xb2\xa1\x02\0\x04\0\0\0\0\0\0\0\0\0\0\0\x04\0\x01\0\0\0\x02\0\0\0\0\0\0";
 
-/// Which descriptors are taken, a bit for each, and which one OUT was given; whether the system says what is at a path; how many of the
-/// next calls that make or write a file are refused, whether the one that is refused answers that it took nothing, and how many calls
-/// there were.
+/// Which descriptors are taken, a bit for each, and which one OUT was given; whether the system
+/// says what is at a path; how many of the next calls that make or write a file are refused,
+/// whether the one that is refused answers that it took nothing, and how many calls there were.
 #[derive(Drop)]
 pub struct Table {
     taken: AtomicU32,
@@ -45,7 +46,7 @@ impl Table {
         }
     }
 
-    /// Counts a call, and refuses it where one is to be refused still.
+    /// Counts a call, and refuses it if one is to be refused still.
     fn call(&self) -> io::Result<()> {
         self.calls.fetch_add(1, SeqCst);
         let Some(refused) = self.refused.load(SeqCst).checked_sub(1) else {
@@ -75,7 +76,8 @@ pub struct System<'a> {
     pub table: &'a Table,
 }
 
-/// A file of it, whose descriptor is free again when it is dropped. A signal interrupts its calls in turn, the first one too.
+/// A file of it, whose descriptor is free again when it is dropped. A signal interrupts its calls
+/// in turn, the first one too.
 pub struct Numbered<'a> {
     number: u32,
     table: &'a Table,

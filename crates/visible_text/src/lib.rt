@@ -10,8 +10,9 @@ use std::{fmt, str};
 /// At most this many characters of a text are shown.
 const MAX_SHOWN: usize = 60;
 
-/// What is shown for a character on a terminal, in one column as a rule: a blank for a tab or the end of a line, and `?` for each
-/// other control character, so that no text of a file or of the command line controls the terminal.
+/// What is shown for a character on a terminal, in one column as a rule: a blank for a tab or the
+/// end of a line, and `?` for each other control character, so that no text of a file or of the
+/// command line controls the terminal.
 pub fn visible(character: char) -> char
     ensures { is_control result ≡ false }
 {
@@ -22,7 +23,8 @@ pub fn visible(character: char) -> char
     }
 }
 
-/// The first 60 characters of a text. In bytes that are not UTF-8, each byte that is not ASCII is shown as `?`.
+/// The first 60 characters of a text. In bytes that are not UTF-8, each byte that is not ASCII is
+/// shown as `?`.
 #[derive(Clone, Copy)]
 pub struct Shown<'a>(pub &'a [u8]);
 

@@ -65,7 +65,8 @@ fn told<O: Write>(
     (status, err)
 }
 
-/// How the parts were written, how the reading ended, and what is printed and reported, with the status.
+/// How the parts were written, how the reading ended, and what is printed and reported, with the
+/// status.
 type Case = (
     [Result<(), Fault>; 2],
     Result<(), Stop>,

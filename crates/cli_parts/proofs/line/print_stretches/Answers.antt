@@ -1,6 +1,6 @@
 use Rattle.line_text.specs.declared.form.LineForm.TheVariants.{Text}
 use Rattle.cli_parts.proofs.Printed.{next_stretch}
-use Rattle.cli_parts.proofs.report.print_stretches.Goals as goal
+use Rattle.cli_parts.proofs.line.print_stretches.Goals as goal
 
 pub loop-stretch-preserved : goal.loop-stretch-preserved
 loop-stretch-preserved g c =
