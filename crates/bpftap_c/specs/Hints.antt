@@ -37,7 +37,7 @@ with_second said (Some line) = said ++ 10 ∷ line
 abbrev pub Says : Advice → List ℕ → Type 0
 Says advice line = (said : List ℕ) → sentence advice ≡ Some said → line ≡ with_second said (second_line advice)
 
--- what helps at a fault of which the number alone says it: a text that is too long, a program that is too long, a relation that is too deep
+-- what helps at a fault whose number is enough to say it: a text that is too long, a program that is too long, a relation that is too deep
 abbrev pub IsAdviceOn : ℕ → Option Advice → Type 0
 IsAdviceOn code None = (code ≢ text_code misread.TextTooLong) × (code ≢ tree_code uncompiled.TooLong) × (code ≢ tree_code uncompiled.TooDeep)
 IsAdviceOn code (Some advice) =
@@ -45,7 +45,7 @@ IsAdviceOn code (Some advice) =
     × (code ≡ tree_code uncompiled.TooLong → advice ≡ LongProgram)
     × (code ≡ tree_code uncompiled.TooDeep → IsSaying deep_relation advice)
 
--- the text of a hint at a fault of which the number alone says it
+-- the text of a hint at a fault whose number is enough to say it
 abbrev pub IsSettled : ℕ → List ℕ → Type 0
 IsSettled code line =
     (code ≡ text_code misread.TextTooLong → line ≡ long_text)

@@ -59,7 +59,8 @@ fn fill_answers_in(program: &Program, memory: &[u8], spans: &[BpftapSpan], answe
     }
 }
 
-/// Fills an array with what a program answers to each packet of a memory in which they lie one after the other.
+/// Fills an array with what a program answers to each packet of a memory in which they lie one
+/// after the other.
 fn fill_answers_joined(program: &Program, memory: &[u8], sizes: &[u32], answers: &mut [u32])
     requires { length answers.old ≡ length sizes.now }
     ensures { answers.new ≡ answers_joined program.now memory.now sizes.now }
@@ -73,8 +74,9 @@ fn fill_answers_joined(program: &Program, memory: &[u8], sizes: &[u32], answers:
     }
 }
 
-/// Puts what a program answers to each of some packets into the front of the caller's array. The packets come first, so that their lifetime
-/// has one number here and in the export that calls this, whose proof is by hand.
+/// Puts what a program answers to each of some packets into the front of the caller's array. The
+/// packets come first, so that their lifetime has one number here and in the export that calls
+/// this, whose proof is by hand.
 pub(crate) fn put_answers(
     packets: &[BpftapPacket<'_>],
     program: &Program,
@@ -107,7 +109,8 @@ pub(crate) fn put_answers_in(
     done(size)
 }
 
-/// Puts what a program answers to each packet of a memory, in which they lie one after the other, into the front of the caller's array.
+/// Puts what a program answers to each packet of a memory, in which they lie one after the other,
+/// into the front of the caller's array.
 #[tactic(auto, using(crate::proofs::Joined::length_joined))]
 pub(crate) fn put_answers_joined(
     program: &Program,
@@ -125,7 +128,8 @@ pub(crate) fn put_answers_joined(
     done(size)
 }
 
-/// Validates instructions once, and puts what they answer to each packet into the front of the caller's array.
+/// Validates instructions once, and puts what they answer to each packet into the front of the
+/// caller's array.
 #[unsafe(no_mangle)]
 pub extern "C" fn bpftap_run_each(
     insns: &[BpftapInsn],
@@ -140,7 +144,8 @@ pub extern "C" fn bpftap_run_each(
     }
 }
 
-/// Validates instructions once, and puts what they answer to each packet of a memory into the front of the caller's array.
+/// Validates instructions once, and puts what they answer to each packet of a memory into the front
+/// of the caller's array.
 #[unsafe(no_mangle)]
 pub extern "C" fn bpftap_run_spans(
     insns: &[BpftapInsn],
@@ -156,8 +161,9 @@ pub extern "C" fn bpftap_run_spans(
     }
 }
 
-/// Validates instructions once, and puts what they answer to each packet of a memory into the front of the caller's array. The packets lie
-/// in the memory one after the other, and each has all its bytes.
+/// Validates instructions once, and puts what they answer to each packet of a memory into the front
+/// of the caller's array. The packets lie in the memory one after the other, and each has all its
+/// bytes.
 #[unsafe(no_mangle)]
 pub extern "C" fn bpftap_run_joined(
     insns: &[BpftapInsn],

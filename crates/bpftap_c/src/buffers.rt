@@ -33,7 +33,8 @@ fn write_at(to: &mut [u8], at: usize, more: &[u8])
 }
 
 impl BpftapBuffer<'_> {
-    /// Puts a message of these bytes after the others if there is room for it, and returns whether there is.
+    /// Puts a message of these bytes after the others if there is room for it, and returns whether
+    /// there is.
     pub(crate) fn put(&mut self, capture: u32, packet: &BpftapRecord, data: &[u8]) -> bool
         requires buffer { IsBuffer self.old }
         requires writable { length data.now ≤ MAX_SNAP }

@@ -19,7 +19,7 @@ use savefile::{
 pub struct BpftapReader {
     /// Where the next record begins.
     pub offset: usize,
-    /// How many records stand before it.
+    /// How many records come before it.
     pub place: u64,
     /// 0, or the number of the fault for which the header is refused.
     pub fault: u32,
@@ -37,9 +37,10 @@ pub struct BpftapReader {
 pub struct BpftapRecord {
     /// Where the captured bytes begin.
     pub offset: usize,
-    /// How many records stand before it.
+    /// How many records come before it.
     pub place: u64,
-    /// 0, or the number of a fault: that there is no further record, or why it cannot be read, or why the header was refused.
+    /// 0, or the number of a fault: that there is no further record, or why it cannot be read, or
+    /// why the header was refused.
     pub fault: u32,
     pub seconds: u32,
     pub nanos: u32,
@@ -149,8 +150,8 @@ fn record_found(reader: &BpftapReader, packet: &PacketRef<'_>) -> BpftapRecord
     }
 }
 
-/// Reads the next record, and moves the reader past it. A reader whose next record can't be read stays where it is. If its header was
-/// refused, that fault is returned again.
+/// Reads the next record, and moves the reader past it. A reader whose next record can't be read
+/// stays where it is. If its header was refused, that fault is returned again.
 #[unsafe(no_mangle)]
 pub extern "C" fn bpftap_next(memory: &[u8], reader: &mut BpftapReader) -> BpftapRecord
     ensures { GivesNext memory.now reader.old reader.new result }
@@ -184,7 +185,8 @@ pub extern "C" fn bpftap_put_header(order: u32, unit: u32, snap: u32, to: &mut [
     put_bytes(&file_header(order_of(order), unit_of(unit), snap), to)
 }
 
-/// Writes the record of a packet: the time and the wire length of `packet`, and these captured bytes.
+/// Writes the record of a packet: the time and the wire length of `packet`, and these captured
+/// bytes.
 #[unsafe(no_mangle)]
 pub extern "C" fn bpftap_put(
     order: u32,

@@ -20,7 +20,8 @@ pub struct BpftapComparison {
     pub number: u32,
     /// 0 Same, 1 SameAsCaptured, 2 Short, 3 Differ, 4 NotDecided.
     pub answer: u32,
-    /// Why nothing is claimed: 1 Graphs, 2 Budget, also for an expression of too many levels; 0 with any other answer. Earlier versions had 3.
+    /// Why nothing is claimed: 1 Graphs, 2 Budget, 4 Product, 5 Quotient, 6 Load, 7 Far, 8 Levels;
+    /// 0 with any other answer. Earlier versions had 3.
     pub cause: u32,
     /// The length on the wire of the packet that shows the answer.
     pub wire: u32,
@@ -37,7 +38,7 @@ struct Refused {
     failure: Failure,
 }
 
-/// The number of an answer, which stays from version to version.
+/// The number for an answer, which stays from version to version.
 fn answer_code(sameness: &Sameness) -> u32
     ensures { result ≡ answer_code sameness.now }
 {
@@ -141,8 +142,9 @@ fn no_comparison(refused: Refused) -> BpftapComparison
     }
 }
 
-/// Decides whether two expressions accept the same packets, of all that there can be, and puts a packet that shows a difference into the
-/// caller's memory. `budget` is how many nodes a graph may have, and how many pairs of them it may join.
+/// Decides whether two expressions accept the same packets, of all that there can be, and puts a
+/// packet that shows a difference into the caller's memory. `budget` is how many nodes the diagrams
+/// of one header length may have, and half of the steps that are taken in all.
 #[unsafe(no_mangle)]
 pub extern "C" fn bpftap_compare(
     alloc: Global,

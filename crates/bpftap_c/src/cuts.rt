@@ -12,7 +12,8 @@ use pcap_cut::cut::{End, cut};
 use savefile::{Counted, Fault, header_of};
 use std::alloc::Global;
 
-/// Whether all that a capture holds was written: it was read to its end, or to a torn or bad record.
+/// Whether all that a capture holds was written: it was read to its end, or to a torn or bad
+/// record.
 fn is_whole(end: End) -> bool
     ensures { result ≡ is_whole end }
 {
@@ -43,8 +44,9 @@ fn ended(told: BpftapResult, end: End) -> BpftapResult
     }
 }
 
-/// Cuts a capture in memory by a program, as `bpftap cut` does, into the front of the caller's memory. The packets before a torn or bad
-/// record are written, and that fault is returned beside their size.
+/// Cuts a capture in memory by a program, as `bpftap cut` does, into the front of the caller's
+/// memory. The packets before a torn or bad record are written, and that fault is returned beside
+/// their size.
 #[unsafe(no_mangle)]
 pub extern "C" fn bpftap_cut(
     alloc: Global,

@@ -68,7 +68,8 @@ fn advice_on<'a>(
     }
 }
 
-/// The sentence of an advice, and on a line below it the way over libpcap's compiler, if it has one.
+/// The sentence of an advice, and on a line below it the way over libpcap's compiler, if it has
+/// one.
 fn hint_of(alloc: Global, advice: Advice<'_>) -> Result<String, AllocError>
     ensures { IfOk result (λ line. Says advice.entry (string_bytes line)) }
 {
@@ -96,7 +97,8 @@ fn advice_text(alloc: Global, text: &str, code: u32, place: usize) -> Result<Str
     }
 }
 
-/// What helps at a fault, as a text that is empty exactly if nothing helps at faults with this number.
+/// What helps at a fault, as a text that is empty exactly if nothing helps at faults with this
+/// number.
 fn hint_on(alloc: Global, text: &str, code: u32, place: usize) -> Result<String, AllocError>
     ensures { IfOk result (λ line. IsHintOn code (string_bytes line)) }
 {
@@ -126,7 +128,8 @@ fn hint(alloc: Global, text: &[u8], code: u32, place: usize) -> Result<String, F
     }
 }
 
-/// Writes what helps to fix an expression that is refused for a fault with this number, at this place; nothing for a number of no such fault.
+/// Writes what helps to fix an expression that is refused for a fault with this number, at this
+/// place; nothing for a number of no such fault.
 #[unsafe(no_mangle)]
 pub extern "C" fn bpftap_hint(
     alloc: Global,

@@ -1,7 +1,8 @@
 //! bpftap as a library for C: the functions that `include/bpftap.h` declares.
 //!
-//! Each export states again what the function below it promises, by that function's own definitions. In C a slice is a pointer and then
-//! a length, and nothing is passed for a `Global`, which has no bytes.
+//! Each export states again what the function below it promises, by that function's own
+//! definitions. In C a slice is a pointer and then a length, and nothing is passed for a `Global`,
+//! which has no bytes.
 #![tactic(auto)]
 
 mod batches;

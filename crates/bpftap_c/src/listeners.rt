@@ -114,7 +114,8 @@ fn arrive(
     Fed::Rotated
 }
 
-/// A packet arrives, with the place, time and wire length of `packet`, to which a filter answers this.
+/// A packet arrives, with the place, time and wire length of `packet`, to which a filter answers
+/// this.
 #[unsafe(no_mangle)]
 pub extern "C" fn bpftap_listener_arrive(
     listener: &mut BpftapListener<'_>,

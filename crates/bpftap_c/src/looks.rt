@@ -16,8 +16,8 @@ use filter_meaning::{Look, looks_of};
 use filter_tree::Expr;
 use std::alloc::Global;
 
-/// What a primitive or a relation looked at: `size` bytes from byte `offset` of the frame on, or the length on the wire, with both
-/// numbers 0.
+/// What a primitive or a relation looked at: `size` bytes from byte `offset` of the frame on, or
+/// the length on the wire, with both numbers 0.
 #[repr(C)]
 #[derive(Clone, Copy, Debug, PartialEq, Eq)]
 pub struct BpftapLook {
@@ -85,8 +85,9 @@ fn looks_at(alloc: Global, text: &[u8], packet: &[u8], wire: u32) -> Result<Vec<
     }
 }
 
-/// Puts what an expression looks at of a packet into the front of the caller's array: what each primitive or relation does that is
-/// asked, from left to right. A look may come more than once, and its bytes need not have been captured.
+/// Puts what an expression looks at of a packet into the front of the caller's array: what each
+/// primitive or relation does that is asked, from left to right. A look may come more than once,
+/// and its bytes need not have been captured.
 #[unsafe(no_mangle)]
 pub extern "C" fn bpftap_looks(
     alloc: Global,

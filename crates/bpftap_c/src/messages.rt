@@ -71,8 +71,8 @@ fn next_message(text: &[u8], offset: &mut usize) -> BpftapMessage
     }
 }
 
-/// Reads the next message of a batch, and moves `offset` past its record. Whatever the bytes of the batch are, a message lies within its
-/// first `size` bytes, or in all of them if there are fewer.
+/// Reads the next message of a batch, and moves `offset` past its record. Whatever the bytes of the
+/// batch are, a message lies within its first `size` bytes, or in all of them if there are fewer.
 #[unsafe(no_mangle)]
 pub extern "C" fn bpftap_listener_next(
     batch: &BpftapBuffer<'_>,

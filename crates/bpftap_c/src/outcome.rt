@@ -14,7 +14,8 @@ use listener::OpenFault;
 pub struct BpftapResult {
     /// 0, or the number of a fault.
     pub fault: u32,
-    /// How many items the call put into the caller's memory, or how many there are, if they found no room.
+    /// How many items the call put into the caller's memory, or how many there are, if they found
+    /// no room.
     pub size: usize,
     /// Where the fault is.
     pub place: usize,

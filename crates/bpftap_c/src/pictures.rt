@@ -11,7 +11,8 @@ use tap::trace;
 use tap_picture::write_picture;
 use tap_text::plan::read_plan;
 
-/// A picture, and the record fault that a capture ended with, with the number of that capture; or why there is none.
+/// A picture, and the record fault that a capture ended with, with the number of that capture; or
+/// why there is none.
 fn picture(
     alloc: Global,
     listeners: &[u8],
@@ -37,8 +38,9 @@ fn picture(
     }
 }
 
-/// Plays a script to listeners over captures, and puts the picture that `bpftap steps -p` draws of it, SVG, into the caller's memory. The
-/// result is that of `bpftap_steps`. No clause says what the picture shows.
+/// Plays a script to listeners over captures, and puts the picture that `bpftap steps -p` draws of
+/// it, SVG, into the caller's memory. The result is that of `bpftap_steps`. No clause says what the
+/// picture shows.
 #[unsafe(no_mangle)]
 pub extern "C" fn bpftap_picture(
     alloc: Global,

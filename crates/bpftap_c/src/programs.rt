@@ -65,8 +65,9 @@ fn fault_in(insns: &[BpftapInsn]) -> u32
     }
 }
 
-/// Puts the program that instructions are into the caller's memory, of `bpftap_program_size` bytes, and returns 0; or the number of what
-/// is wrong with them, and then the program in the memory rejects every packet.
+/// Puts the program that instructions are into the caller's memory, of `bpftap_program_size` bytes,
+/// and returns 0; or the number of what is wrong with them, and then the program in the memory
+/// rejects every packet.
 #[unsafe(no_mangle)]
 pub unsafe extern "C" fn bpftap_program_init(at: *mut BpftapProgram, insns: &[BpftapInsn]) -> u32
     requires* { sem 𝓛 (room_at the_row at) }
@@ -86,7 +87,8 @@ fn answer(program: &Program, packet: &[u8], wire: u32) -> u32
     run(program, packet, wire)
 }
 
-/// What the program in the caller's memory answers to a packet. It only reads the program, as others may do at the same time.
+/// What the program in the caller's memory answers to a packet. It only reads the program, as
+/// others may do at the same time.
 #[unsafe(no_mangle)]
 pub unsafe extern "C" fn bpftap_program_run(
     program: *const BpftapProgram,
@@ -101,8 +103,8 @@ pub unsafe extern "C" fn bpftap_program_run(
     answer(&*at, packet, wire)
 }
 
-/// Puts what the program in the caller's memory answers to each packet into the front of the caller's array. As with
-/// [`bpftap_program_run`], the program is only read.
+/// Puts what the program in the caller's memory answers to each packet into the front of the
+/// caller's array. As with [`bpftap_program_run`], the program is only read.
 #[unsafe(no_mangle)]
 pub unsafe extern "C" fn bpftap_program_run_each(
     program: *const BpftapProgram,
@@ -118,7 +120,8 @@ pub unsafe extern "C" fn bpftap_program_run_each(
     put_answers(packets, &*at, answers)
 }
 
-/// Puts what the program in the caller's memory answers to each packet of another memory into the front of the caller's array.
+/// Puts what the program in the caller's memory answers to each packet of another memory into the
+/// front of the caller's array.
 #[unsafe(no_mangle)]
 pub unsafe extern "C" fn bpftap_program_run_spans(
     program: *const BpftapProgram,
@@ -135,8 +138,9 @@ pub unsafe extern "C" fn bpftap_program_run_spans(
     put_answers_in(&*at, memory, spans, answers)
 }
 
-/// Puts what the program in the caller's memory answers to each packet of another memory into the front of the caller's array. The packets
-/// lie in that memory one after the other, and each has all its bytes.
+/// Puts what the program in the caller's memory answers to each packet of another memory into the
+/// front of the caller's array. The packets lie in that memory one after the other, and each has
+/// all its bytes.
 #[unsafe(no_mangle)]
 pub unsafe extern "C" fn bpftap_program_run_joined(
     program: *const BpftapProgram,

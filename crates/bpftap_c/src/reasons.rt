@@ -72,7 +72,8 @@ fn reason(told: BpftapResult, verdict: u32) -> BpftapReason
     }
 }
 
-/// Says what an expression answers to a packet, and writes the answer and the primitive or relation that decides.
+/// Says what an expression answers to a packet, and writes the answer and the primitive or relation
+/// that decides.
 #[unsafe(no_mangle)]
 pub extern "C" fn bpftap_why(
     alloc: Global,

@@ -29,8 +29,9 @@ fn stopped(size: usize, record: &BpftapRecord) -> BpftapResult
     }
 }
 
-/// Reads the next records, as many as there is room for or up to the first that can't be read, and puts where their packets lie into the
-/// front of the caller's array. The reader is moved past them.
+/// Reads the next records, until there is no room for another one or one can't be read, and
+/// puts where their packets lie into the front of the caller's array. The reader is moved past
+/// them.
 #[unsafe(no_mangle)]
 pub extern "C" fn bpftap_spans(
     memory: &[u8],

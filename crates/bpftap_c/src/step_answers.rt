@@ -13,7 +13,8 @@ use tap::trace;
 use tap_text::answers::{answer_cursors, line_for, write_answers};
 use tap_text::plan::read_plan;
 
-/// The answers in this form, and the record fault that a capture ended with, with the number of that capture; or why there are none.
+/// The answers in this form, and the record fault that a capture ended with, with the number of
+/// that capture; or why there are none.
 fn answers_text(
     alloc: Global,
     form: LineForm,
@@ -50,7 +51,8 @@ fn answers_text(
     }
 }
 
-/// Plays a script to listeners over captures, and puts the answers in this form into the caller's memory.
+/// Plays a script to listeners over captures, and puts the answers in this form into the caller's
+/// memory.
 fn put_steps_answers(
     alloc: Global,
     form: LineForm,
@@ -71,9 +73,9 @@ fn put_steps_answers(
     }
 }
 
-/// Plays a script to listeners over captures, and puts what `bpftap steps -v` prints before its reports into the caller's memory: a line for
-/// each step, and below it one for each listener that the step reaches, with what it answered, and why. The result is that of
-/// `bpftap_steps`.
+/// Plays a script to listeners over captures, and puts what `bpftap steps -v` prints before its
+/// reports into the caller's memory: a line for each step, and below it one for each listener that
+/// the step reaches, with what it answered, and why. The result is that of `bpftap_steps`.
 #[unsafe(no_mangle)]
 pub extern "C" fn bpftap_steps_answers(
     alloc: Global,
@@ -87,7 +89,8 @@ pub extern "C" fn bpftap_steps_answers(
     put_steps_answers(alloc, LineForm::Text, listeners, script, captures, to)
 }
 
-/// Does what [`bpftap_steps_answers`] does, and puts the answers as JSON Lines, as `bpftap steps -v --json` prints them.
+/// Does what [`bpftap_steps_answers`] does, and puts the answers as JSON Lines, as
+/// `bpftap steps -v --json` prints them.
 #[unsafe(no_mangle)]
 pub extern "C" fn bpftap_steps_answers_json(
     alloc: Global,

@@ -27,7 +27,8 @@ pub struct BpftapReplay {
     pub fault: u32,
     /// Which listener or capture the fault is of.
     pub number: u32,
-    /// How many bytes the call put into the caller's memory, or how many there are, if they found no room.
+    /// How many bytes the call put into the caller's memory, or how many there are, if they found
+    /// no room.
     pub size: usize,
     /// Where the fault is.
     pub place: usize,
@@ -47,7 +48,8 @@ pub(crate) fn slices_of<'a>(
     Ok(slices)
 }
 
-/// The reports in this form, and the record fault that a capture ended with, with the number of that capture; or why there are no reports.
+/// The reports in this form, and the record fault that a capture ended with, with the number of
+/// that capture; or why there are no reports.
 fn reports_text(
     alloc: Global,
     form: LineForm,
@@ -78,7 +80,8 @@ fn reports_text(
     }
 }
 
-/// The result of a call that put a text: the record fault that a capture ended with, if the text found room, and else what `put` says.
+/// The result of a call that put a text: the record fault that a capture ended with, if the text
+/// found room, and else what `put` says.
 pub(crate) fn replay_of(
     put: BpftapResult,
     record_fault: Option<(u32, savefile::Fault)>,
@@ -117,7 +120,8 @@ pub(crate) fn no_replay(failure: Failure) -> BpftapReplay
     }
 }
 
-/// Plays a script to listeners over captures, and puts the reports in this form into the caller's memory.
+/// Plays a script to listeners over captures, and puts the reports in this form into the caller's
+/// memory.
 fn put_reports(
     alloc: Global,
     form: LineForm,
@@ -138,9 +142,11 @@ fn put_reports(
     }
 }
 
-/// Plays a script to listeners over captures, and puts what `bpftap steps` prints of it, the reports, into the caller's memory. If a
-/// capture ends with a record fault, the packets before it are played, and that fault is returned beside the size. If there are no
-/// reports, the fault that `bpftap steps` prints is returned, with the number of its listener or capture, and nothing is put.
+/// Plays a script to listeners over captures, and puts what `bpftap steps` prints of it, the
+/// reports, into the caller's memory. If a capture ends with a record fault, the packets before it
+/// are played, and that fault is returned beside the size. If there are no reports, the fault that
+/// `bpftap steps` prints is returned, with the number of its listener or capture, and nothing is
+/// put.
 #[unsafe(no_mangle)]
 pub extern "C" fn bpftap_steps(
     alloc: Global,
@@ -154,7 +160,8 @@ pub extern "C" fn bpftap_steps(
     put_reports(alloc, LineForm::Text, listeners, script, captures, to)
 }
 
-/// Does what [`bpftap_steps`] does, and puts the reports as JSON Lines, as `bpftap steps --json` prints them.
+/// Does what [`bpftap_steps`] does, and puts the reports as JSON Lines, as `bpftap steps --json`
+/// prints them.
 #[unsafe(no_mangle)]
 pub extern "C" fn bpftap_steps_json(
     alloc: Global,

@@ -39,7 +39,7 @@ pub extern "C" fn bpftap_print(alloc: Global, text: &[u8], to: &mut [u8]) -> Bpf
 }
 
 /// The version of the library, and the processor that it is made for.
-const VERSION: &str = "2.5.0 x86-64-v2";
+const VERSION: &str = "2.6.0 x86-64-v2";
 
 /// Writes the version, and after a blank the processor that the library is made for.
 #[unsafe(no_mangle)]
@@ -130,7 +130,7 @@ fn has_place(fault: u32) -> bool {
     matches!(fault, 3 | 18..=21 | 24 | 33..=43 | 68..=70 | 88 | 89 | 91)
 }
 
-/// The line of a fault: its name, and its place where it has one.
+/// The line of a fault: its name, and its place if it has one.
 fn fault_line(alloc: Global, fault: u32, place: usize) -> Result<String, AllocError> {
     let mut line = String::new(alloc);
     let name = fault_name(fault);
@@ -142,8 +142,9 @@ fn fault_line(alloc: Global, fault: u32, place: usize) -> Result<String, AllocEr
     Ok(line)
 }
 
-/// Writes the name of a fault, and its place where it has one, as the program prints it; but a name stands for one number, so that what the
-/// program prints as `TooLong` of a record is `RecordTooLong`, and as `TooMany` of steps `StepsTooMany`.
+/// Writes the name of a fault, and its place if it has one, as the program prints it; but a name
+/// stands for one number, so that what the program prints as `TooLong` of a record is
+/// `RecordTooLong`, and as `TooMany` of steps `StepsTooMany`.
 #[unsafe(no_mangle)]
 pub extern "C" fn bpftap_fault_text(
     alloc: Global,

@@ -120,9 +120,9 @@ fn traced(told: BpftapResult, answer: u32) -> BpftapTraced
     }
 }
 
-/// Runs a program on a packet, and puts each instruction that it executes, in order, into the front of the caller's array, with both
-/// registers after it and what it stored. The last one ends the run. There are at most 512. The answer is returned also where the array
-/// has no room.
+/// Runs a program on a packet, and puts each instruction that it executes, in order, into the front
+/// of the caller's array, with both registers after it and what it stored. The last one ends the
+/// run. There are at most 512. The answer is returned also if the array has no room.
 #[unsafe(no_mangle)]
 pub extern "C" fn bpftap_trace(
     alloc: Global,
