@@ -24,7 +24,7 @@ class Sameness(enum.IntEnum):
     NOT_DECIDED = 4
 
     def __bool__(self) -> bool:
-        """`SAME` is 0: an `assert` of an answer would hold where the expressions differ."""
+        """Raises `TypeError`: `SAME` is 0, so `assert answer` would hold if the expressions differ."""
         raise TypeError("a Sameness is neither true nor false: compare it, as in `answer is Sameness.SAME`")
 
 
