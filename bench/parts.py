@@ -1,7 +1,7 @@
 #!/usr/bin/env python3
 """Compares cuts of parts, joined, with one cut of the whole capture.
 
-  bench/parts.py [COUNT]       so many random captures, 10,000 if none is given: torn and damaged ones and some that carry captures, in parts as `parts`
+  bench/parts.py [COUNT]       COUNT random captures, 10,000 by default: torn and damaged ones and some that carry captures, in parts as `parts`
                                guesses them or that begin anywhere. The last line is `N passed, M failed`; as many are tried side by side as there are processors
   bench/parts.py --time SIZE   of a capture of SIZE megabytes, the real one repeated, and a filter that keeps few packets: how many times the processor
                                time of one cut four parts and their join take together, and how many times as fast four processes are; medians of 9
@@ -38,7 +38,7 @@ def try_group(seed, count):
 
 
 def try_captures(count):
-    """Tries so many captures, a hundred of each seed, and returns the exit status."""
+    """Tries `count` captures, a hundred of each seed, and returns the exit status."""
     passed = failed = 0
     sizes = [min(100, count - begun) for begun in range(0, count, 100)]
     with concurrent.futures.ProcessPoolExecutor(len(os.sched_getaffinity(0))) as pool:

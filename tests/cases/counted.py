@@ -48,8 +48,38 @@ def each_capture_is_counted(scene):
         scene.expect(["explain", "-c", *words, "one.pcap", "in.pcap"], out=f"one.pcap {text_of(one)}in.pcap {text_of(mixed)}{text_of(total)}")
         seen = scene.run(["explain", "-c", "--json", *words, "in.pcap", "one.pcap"])
         wanted = [{"file": "in.pcap"} | object_of(mixed), {"file": "one.pcap"} | object_of(one), object_of(total)]
-        scene.check(f"objects of {words[1][:40]}", [json.loads(line) for line in seen.out.splitlines()], wanted)
+        objects = [json.loads(line) for line in seen.out.splitlines()]
+        scene.check(f"last members of {words[1][:40]}", [list(one)[-1] for one in objects], ["instructions"] * 3)
+        scene.check(f"objects of {words[1][:40]}", [{name: one[name] for name in one if name != "instructions"} for one in objects], wanted)
     scene.expect("explain -c -e ip empty.pcap", out="empty.pcap " + text_of((0, 0, 0)))
+
+
+# A filter, and how many instructions its program takes for the four packets and for the one: each run was followed by hand.
+TAKEN = [
+    (["-e", ""], 4, 1), (["-e", "arp"], 12, 3), (["-e", "not tcp"], 16, 3), (["-e", "udp or arp"], 17, 3), (["-e", "1 / (len - 38) = 0"], 24, 7),
+    (["-e", LONG], None, None), (["-e", f"not ({LONG})"], None, None), (["-f", "ip.bpf"], 12, 3), (["-f", "protocol.bpf"], 8, 1),
+]
+
+
+@case
+def instructions_are_summed(scene):
+    """The objects have how many instructions the program took, null if there is none, and the last one the sum; as many as the runs of `-p` have."""
+    start(scene)
+    for words, mixed, one in TAKEN:
+        seen = scene.run(["explain", "-c", "--json", *words, "in.pcap", "one.pcap"])
+        total = None if mixed is None else mixed + one
+        scene.check(f"instructions of {words[1][:40]}", [json.loads(line)["instructions"] for line in seen.out.splitlines()], [mixed, one, total])
+    scene.expect("explain -c --json -e arp in.pcap", out='{"file":"in.pcap","packets":4,"yes":1,"no":3,"abort":0,"instructions":12}\n')
+    scene.expect("explain -c --json -e arp one.pcap empty.pcap", out=(
+        '{"file":"one.pcap","packets":1,"yes":0,"no":1,"abort":0,"instructions":3}\n{"file":"empty.pcap","packets":0,"yes":0,"no":0,"abort":0,"instructions":0}\n'
+        '{"packets":1,"yes":0,"no":1,"abort":0,"instructions":3}\n'))
+    # Up to the fault, and of no capture whose header is refused.
+    seen = scene.run("explain -c --json -e arp torn.pcap")
+    scene.check("of a torn capture", (json.loads(seen.out)["instructions"], seen.status), (3, 2))
+    for expr in ("tcp port 8080", "tcp port 80 or 53", "ip[8] < 3 and not udp"):
+        runs = [json.loads(line)["run"]["instructions"] for line in scene.run(["explain", "--json", "-p", "0-252", "-e", expr, str(VETH)]).out.splitlines()]
+        counted = json.loads(scene.run(["explain", "-c", "--json", "-e", expr, str(VETH)]).out)
+        scene.check(f"runs of {expr}", (len(runs), counted["instructions"]), (253, sum(runs)))
 
 
 @case

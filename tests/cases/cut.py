@@ -64,7 +64,7 @@ def out_is_no_file_that_is_read(scene):
 def the_count_comes_after_the_hints(scene):
     """With -c the count is the last line: below a fault come its hints first."""
     scene.put({"torn.pcap": TORN})
-    hint = "  the file ends inside this record: was it cut off, or is it still being written?\n"
+    hint = "  torn.pcap:\n  the file ends inside this record: was it cut off, or is it still being written?\n"
     scene.expect("--hints cut -s 0 -c torn.pcap out.pcap", 2, fault_lines("TornRecord 1") + hint + "1 of 1 packets\n")
     scene.expect("cut -s 0 -c torn.pcap out.pcap", 2, fault_lines("TornRecord 1") + "1 of 1 packets\n")
 

@@ -3,7 +3,7 @@ import re
 import subprocess
 import sys
 
-from .common import LIMIT, ROOT, VETH, case, records
+from .common import IP_RECORD, LIMIT, PROGRAM, ROOT, VETH, WHOLE, case, records
 
 EXAMPLES = ROOT / "examples"
 
@@ -69,6 +69,20 @@ def the_programs_of_the_lesson_on_libpcap(scene):
     for options, name in commands:
         printed = subprocess.run(["tcpdump", *options.split(), text], stdout=subprocess.PIPE, timeout=LIMIT).stdout
         scene.check(name, printed, (lessons / name).read_bytes())
+
+
+@case
+def the_commands_of_ci(scene):
+    """The commands of both workflows pass if the captures are whole and have what is asked for, and each fails if one is not."""
+    for name in ["github.yml", "gitlab-ci.yml"]:
+        commands = re.findall(r"^ +- (?:run: )?bpftap (.*)$", (EXAMPLES / "ci" / name).read_text(), re.M)
+        scene.check(f"commands of {name}", len(commands), 2)
+        scene.start({})
+        (scene.folder / "captures").mkdir()
+        for capture, failed in [(VETH.read_bytes(), [False, False]), (WHOLE + IP_RECORD[:7], [True, True])]:
+            scene.put({"captures/web.pcap": capture})
+            ended = [subprocess.run(["bash", "-c", f'"$0" {command}', PROGRAM], cwd=scene.folder, capture_output=True, timeout=LIMIT) for command in commands]
+            scene.check(f"failures of {name}, {len(capture)} bytes", [one.returncode != 0 for one in ended], failed)
 
 
 def cooked(link, head, order):

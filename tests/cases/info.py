@@ -154,9 +154,9 @@ def as_capinfos_counts(scene):
     if not scene.has("capinfos"):
         return
     for path in sorted((ROOT / "examples").glob("*.pcap")):
-        told = subprocess.run(["capinfos", "-M", "-c", "-d", "-S", "-a", "-e", path], capture_output=True, text=True).stdout
+        printed = subprocess.run(["capinfos", "-M", "-c", "-d", "-S", "-a", "-e", path], capture_output=True, text=True).stdout
         facts = survey(path.read_bytes())
-        packets = int(re.search(r"Number of packets:\s+(\d+)", told)[1])
-        size = int(re.search(r"Data size:\s+(\d+)", told)[1])
+        packets = int(re.search(r"Number of packets:\s+(\d+)", printed)[1])
+        size = int(re.search(r"Data size:\s+(\d+)", printed)[1])
         scene.check(f"{path.name} by capinfos", (packets, size), (facts["packets"], facts["length"]))
         scene.expect(["info", path], out=line_of(path, facts))

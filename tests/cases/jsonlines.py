@@ -176,7 +176,7 @@ def answer_of(answer, rest, is_program=False):
 
 
 def differences_of(text, is_program):
-    """The facts of the lines of `compare`, of which the second filter may be a program. Captures can't be told apart in the text: the number is left out."""
+    """The facts of the lines of `compare`, of which the second filter may be a program. The text does not say which capture a packet is of: the number is left out."""
     for line in text.splitlines():
         if found := DIFFERENCES.fullmatch(line):
             yield dict(zip(("packets", "differ", "first", "second"), map(int, found.groups())))

@@ -10,7 +10,7 @@ SOON = 10
 
 
 def read_until(output, size, until):
-    """The bytes that come up to a moment, at most so many."""
+    """The bytes that come up to a moment, at most `size`."""
     got = b""
     os.set_blocking(output.fileno(), False)
     while len(got) < size and time.monotonic() < until:
@@ -58,7 +58,7 @@ def each_line_goes_on_at_once(scene):
     """The line of each packet of `explain`, and of each difference of `compare`, in text and JSON; at the end the counts."""
     for words in (["explain", "-e", "not tcp"], ["explain", "--json", "-e", "not tcp"], ["compare", "tcp", "not arp"], ["compare", "--json", "tcp", "not arp"]):
         sent = [ARP_RECORD, UDP_RECORD, TCP_RECORD, UDP_RECORD]
-        # `compare` prints a line for both UDP packets alone.
+        # `compare` prints a line only for the two UDP packets.
         printed = sent if words[0] == "explain" else [None, UDP_RECORD, None, UDP_RECORD]
         lines, counts = lines_of(scene, words, sent)
         lines = iter(lines)

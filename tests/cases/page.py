@@ -226,6 +226,9 @@ class Below(list):
 
 def below_fault(scene, *words):
     fault, *lines = scene.run(["--hints", *words]).err.decode().splitlines()
+    # The page names the file beside its button, and not in the hint.
+    if lines[:1] == [f"  {words[-1]}:"]:
+        del lines[0]
     said = Below(line.removeprefix("  ") for line in lines)
     said.fault = fault
     return said

@@ -4,7 +4,8 @@ import re
 import shutil
 import subprocess
 
-from .common import LIMIT, PROGRAM, ROOT, VERSION, case
+from .common import LIMIT, PROGRAM, ROOT, VERSION, VETH, case
+from .examples import COOKED, cooked
 from .manual import session
 
 # Pages whose commands need no other program than the system's own; docs/SCALE.md has a group of its own.
@@ -25,14 +26,19 @@ def sessions(page):
             yield session(lines)
 
 
-def run_page(scene, page):
-    """Runs the commands of a page, one block after the other, in a folder that has `examples` and the program."""
+def start_page(scene):
+    """Puts `examples` and the program into an empty folder. Returns the variables of the shell that finds the program there."""
     scene.start({})
     (scene.folder / "bin").mkdir()
     (scene.folder / "bin" / "bpftap").symlink_to(PROGRAM)
     (scene.folder / "bpftap").symlink_to(PROGRAM)
     (scene.folder / "examples").symlink_to(ROOT / "examples")
-    environment = {**os.environ, "HOME": str(scene.folder), "PATH": f"{scene.folder}/bin:{os.environ['PATH']}"}
+    return {**os.environ, "HOME": str(scene.folder), "PATH": f"{scene.folder}/bin:{os.environ['PATH']}"}
+
+
+def run_page(scene, page):
+    """Runs the commands of a page, one block after the other, in a folder that has `examples` and the program."""
+    environment = start_page(scene)
     for script, printed in sessions(page):
         done = subprocess.run(
             ["bash", "-c", script], cwd=scene.folder, env=environment, stdin=subprocess.DEVNULL, stdout=subprocess.PIPE,
@@ -46,6 +52,34 @@ def commands_print_what_they_say(scene):
     for name in RUN:
         page = ROOT / name
         run_page(scene, page)
+
+
+# Commands of RECIPES that capture, build, or make packages: no case runs them.
+NOT_RUN = ("tcpdump -U -i ", "(cd release ", "./build", "./package", "packaging/", "podman ")
+
+
+def other_commands(page):
+    """The commands of a page in blocks without a `$`; a line that ends in a pipe goes on."""
+    for block in BLOCK.finditer(page.read_text()):
+        if block["indented"] and not block["indented"].startswith("    $ "):
+            yield from re.sub(r"\|\n +", "| ", block["indented"]).splitlines()
+
+
+@case
+def commands_with_other_tools_end_well(scene):
+    """The commands of RECIPES that take tools of others, as tcpdump's and Wireshark's, where these are there."""
+    environment = start_page(scene)
+    scene.put({name: VETH.read_bytes() for name in ("in.pcap", "one.pcap", "two.pcap")})
+    scene.put({"any.pcap": cooked(113, COOKED[113], "little")})
+    commands = [line.strip() for line in other_commands(ROOT / "docs" / "RECIPES.md")]
+    asked = [line for line in commands if not line.startswith(NOT_RUN)]
+    scene.check("ten commands or more", len(asked) >= 10, True)
+    for command in asked:
+        tools = [tool for tool in ("tcpdump", "tcprewrite", "editcap", "mergecap", "tshark") if tool in command.partition("#")[0]]
+        if scene.has(*tools):
+            script = f"set -e -o pipefail; {command}"
+            done = subprocess.run(["bash", "-c", script], cwd=scene.folder, env=environment, stdin=subprocess.DEVNULL, capture_output=True, timeout=LIMIT)
+            scene.check(command, (done.returncode, done.stderr if done.returncode else b""), (0, b""))
 
 
 @case
@@ -120,14 +154,14 @@ def pages_state_the_bounds_and_statuses_of_the_program(scene):
 
 @case
 def what_is_linked_in_has_its_notice(scene):
-    """NOTICES names each library of the toolchain that a crate uses; a file that is given away alone names the licence."""
+    """NOTICES names each library of the toolchain that a crate uses; a file that is given away by itself names the licence."""
     lines = [line.partition(":") for line in (ROOT / "crates.txt").read_text().splitlines() if re.match(r"[a-z]", line)]
     own = {name.split()[0]: uses.split() for name, _, uses in lines}
     linked = {use for name, uses in own.items() if not name.startswith("test_") for use in uses} - {*own}
     named = set(re.findall(r"\w+", (ROOT / "NOTICES").read_text()))
     scene.check("without a notice", sorted(linked - named), [])
-    alone = [path for form in ("include/bpftap.h", "bindings/**/*.py", "bindings/**/*.rs", "bindings/**/*.go") for path in ROOT.glob(form)]
-    lacking = [path for path in alone if "SPDX-License-Identifier: MIT OR Apache-2.0" not in path.read_text()]
+    single = [path for form in ("include/bpftap.h", "bindings/**/*.py", "bindings/**/*.rs", "bindings/**/*.go") for path in ROOT.glob(form)]
+    lacking = [path for path in single if "SPDX-License-Identifier: MIT OR Apache-2.0" not in path.read_text()]
     scene.check("without a licence", sorted(str(path.relative_to(ROOT)) for path in lacking), [])
 
 
@@ -157,29 +191,27 @@ def links_lead_somewhere(scene):
             scene.check(f"{page.relative_to(ROOT)} within two links of README", page in near, True)
 
 
-def public_items(crate):
-    """The names of a library's public items: those that `lib.rt` re-exports, and those of its public modules."""
-    lib = (crate / "src" / "lib.rt").read_text()
-    for names in re.findall(r"^pub use [\w:]+?(?:::(\w+)|::\{([^}]+)\});", lib, re.M):
-        yield from re.findall(r"\w+", " ".join(names))
-    for module in re.findall(r"^pub mod (\w+);", lib, re.M):
-        # Laws have one entry together.
-        if module == "laws":
-            yield module
-        else:
-            text = (crate / "src" / f"{module}.rt").read_text()
-            yield from re.findall(r"^pub (?:fn|struct|enum|trait|const|type) (\w+)", text, re.M)
+def names(page):
+    """The names of items in a page's text: what is between two backticks, a path or a call, and no other text."""
+    text = re.sub(r"^```.*?^```$", "", page.read_text(), flags=re.S | re.M)
+    for span in re.findall(r"`([^`]+)`", text):
+        item = re.sub(r"\(.*\)$", "", span)
+        if re.fullmatch(r"[A-Za-z_]\w*(?:(?:::|\.)[A-Za-z_]\w*)*", item):
+            yield from re.findall(r"\w+", item)
 
 
 @case
-def public_items_are_on_their_pages(scene):
-    """Each public item of each library is named on the library's page."""
+def names_on_pages_are_in_the_sources(scene):
+    """Each library has a page, and each name on it is in the sources: none is left of an item that is gone."""
+    known = {crate.name for crate in ROOT.glob("crates/*")} | {"md", "py", "rt", "antt"}
+    for form in ("crates/*/src/**/*.rt", "crates/*/specs/**/*.antt", "include/bpftap.h"):
+        for source in ROOT.glob(form):
+            known |= set(re.findall(r"\w+", source.read_text()))
     for lib in sorted(ROOT.glob("crates/*/src/lib.rt")):
         crate = lib.parent.parent
         if crate.name.startswith("test_") and crate.name != "test_fixtures":
             continue
-        named = set(re.findall(r"\w+", (crate / "README.md").read_text()))
-        scene.check(f"items of {crate.name} that its page lacks", sorted(set(public_items(crate)) - named), [])
+        scene.check(f"names on the page of {crate.name} that no source has", sorted(set(names(crate / "README.md")) - known), [])
 
 
 @case

@@ -252,14 +252,17 @@ def what_is_not_decided_has_its_cause(scene):
 
 @case
 def a_small_stack_suffices(scene):
-    """256 KiB are enough, for fields that are compared with one another and for texts that ask for a thousand bytes each."""
+    """256 KiB are enough, for fields that are compared with one another, for texts of thousands of signs or words in a row, and for texts
+    that ask for a thousand bytes each."""
     chance = random.Random(256)
     wide = [" or ".join(f"ether[{4 * n}:4] = {chance.randrange(1 << 32)}" for n in range(250)) for _ in range(2)]
     scene.start({})
-    pairs = [("tcp", "udp"), ("ip[12:4] = ip[16:4]", "ip[12:4] - ip[16:4] = 0"), wide]
+    signs, words = "1+" * 4090, "ip||" * 2040
+    pairs = [("tcp", "udp"), ("ip[12:4] = ip[16:4]", "ip[12:4] - ip[16:4] = 0"), (signs + "1=0", signs + "1=2"), (signs + "1=0",) * 2,
+             (words + "tcp", words + "udp"), (words + "tcp",) * 2, wide]
     seen = [scene.run(["compare", "-q", *pair], first="ulimit -s 256") for pair in pairs]
-    scene.check("statuses", [ended.status for ended in seen[:2]], [4, 0])
-    scene.check("of a thousand bytes", seen[2].status in (4, 5), True)
+    scene.check("statuses", [ended.status for ended in seen[:-1]], [4, 0, 5, 0, 5, 0])
+    scene.check("of a thousand bytes", seen[-1].status in (4, 5), True)
 
 
 @case

@@ -49,6 +49,9 @@ def without_contract(text):
         head = [line]
         while not head[-1].rstrip().endswith(("{", "{}", ";")) or re.match(r"\s*(ensures|requires|ghost)\b", head[-1]):
             head.append(next(lines))
+            # The last method of a trait may end with a clause.
+            if head[-1] == "}":
+                break
         if not of_trait and not any(re.match(r"\s*ensures\b", one) for one in head):
             names.append(found[1])
     return names

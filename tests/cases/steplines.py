@@ -41,7 +41,7 @@ REJECTED = re.compile(r"(Passed, the filter rejects it): (No|Abort) (.*)")
 
 
 def rejection_of(text):
-    """The text of an answer without what decided of a rejected packet, and that as members."""
+    """An answer's text without what decided of a rejected packet, and that as members."""
     found = REJECTED.fullmatch(text)
     return (found[1], {"verdict": found[2].lower()} | decided_of(found[3])) if found else (text, {})
 

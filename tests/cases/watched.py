@@ -24,7 +24,7 @@ def line(unseen, frames):
 
 
 def record(number, captured=14, order="little", fraction=0):
-    """The record of a frame of this type, of which so many bytes were captured."""
+    """The record of a frame of this type, with `captured` bytes captured."""
     frame = (bytes(12) + number.to_bytes(2, "big") + bytes(captured))[:captured]
     return b"".join(field.to_bytes(4, order) for field in (1, fraction, captured, max(captured, 60))) + frame
 
@@ -135,8 +135,8 @@ def wait_for_reading(started):
 
 
 def watch(words, folder, pauses=0, on_output=False):
-    """Runs the program with standard error, and standard output too if that is asked for, on a terminal, and stops it so many times for
-    more than a second while it reads. Returns all that the terminal got, what else was printed, and the status."""
+    """Runs the program with standard error, and standard output too if that is asked for, on a terminal, and stops it `pauses` times,
+    for more than a second each, while it reads. Returns all that the terminal got, what else was printed, and the status."""
     leader, follower = pty.openpty()
     started = subprocess.Popen([PROGRAM, *words], cwd=folder, stdin=subprocess.DEVNULL,
                                stdout=follower if on_output else subprocess.PIPE, stderr=follower)
@@ -187,7 +187,7 @@ def texts(shown):
 
 
 def long_capture(scene, name, millions):
-    """Makes a capture of so many million records of no bytes, which takes no room on the disk."""
+    """Makes a capture of `millions` million records of no bytes, which takes no room on the disk."""
     with open(scene.folder / name, "wb") as made:
         made.write(HEADER)
         made.truncate(len(HEADER) + millions * 1_000_000 * RECORD_LEN)
@@ -236,3 +236,20 @@ def no_progress(scene):
     scene.check("--json", (shown, status), ("", 4))
     seen = scene.run("cut -s 0 -e ip long.pcap out.pcap")
     scene.check("no terminal", (seen.err, seen.status), (b"", 0))
+
+
+@case
+def deciding_is_shown(scene):
+    """On a terminal `compare` without a capture shows that it decides, and erases that before it prints. Elsewhere, and with `--json`, it
+    shows nothing."""
+    scene.start({})
+    words, notice = ["compare", "ip", "ip and ip"], "deciding for every packet"
+    shown, printed, status = watch(words, scene.folder)
+    scene.check("a terminal", (notice in shown, screen(shown), printed, status), (True, [""], b"same\n", 0))
+    shown, _, status = watch(words, scene.folder, on_output=True)
+    scene.check("a terminal for both", (notice in shown, screen(shown), status), (True, ["same", ""], 0))
+    shown, _, status = watch(["compare", "-q", "ip", "arp"], scene.folder)
+    scene.check("only the status answers", (notice in shown, screen(shown), status), (True, [""], 4))
+    shown, printed, status = watch([*words, "--json"], scene.folder)
+    scene.check("--json", (shown, printed, status), ("", b'{"answer":"same"}\n', 0))
+    scene.expect(words, out="same\n")

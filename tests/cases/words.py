@@ -67,10 +67,17 @@ POINTED = [
     ("merge a.pcap b.pcap", b"mergecap"), ("print in.pcap", b"tcpdump -nr IN"), ("show", b"tcpdump -nr IN"), ("dump x", b"tcpdump -nr IN"),
     ("hexdump in.pcap", b"bpftap explain -p PLACE -e '' IN"), ("diff a b", b"bpftap compare EXPR1 EXPR2 IN"), ("version", b"bpftap --version"),
     ("head in.pcap", b"editcap -r -F nsecpcap IN OUT 1-10"), ("assemble x", b"bpftap check -f FILE"),
-    ("disassemble x", b"bpftap check -d -f FILE"), ("completions bash", b"./install"),
+    ("disassemble x", b"bpftap check -d -f FILE"), ("completions bash", b"./install"), ("search tcp in.pcap", b"bpftap explain -l -e EXPR IN"),
+    ("parse in.pcap", b"bpftap explain -e EXPR IN"), ("decode in.pcap", b"tcpdump -nr IN"), ("packets in.pcap", b"bpftap info IN"),
+    ("stat in.pcap", b"bpftap info IN"), ("repair in.pcap", b"bpftap info IN"), ("dot ip", b"bpftap check --dot EXPR"), ("draw ip", b"bpftap check --dot EXPR"),
+    ("slice in.pcap", b"editcap -A START -B STOP"), ("trim in.pcap", b"editcap -A START -B STOP"), ("sort in.pcap", b"reordercap IN OUT"),
+    ("export in.pcap", b"bpftap explain --json -e EXPR IN"), ("hex in.pcap", b"-p PLACE -e '' IN"), ("bytes in.pcap", b"-p PLACE -e '' IN"),
+    ("sniff", b"tcpdump -i INTERFACE -w OUT"), ("anonymize in.pcap", b"tcprewrite"), ("anonymise in.pcap", b"tcprewrite"),
 ]
 
 WITHOUT_OPTION = "captures are words without an option: IN, and for cut OUT after it, or after -w"
+
+PIECES = "in pieces: editcap -c PACKETS -F nsecpcap IN OUT, or -i SECONDS in place of -c PACKETS"
 
 # Words that are refused or that a file fails by, the status, and the hints below all else.
 WORDS_OF_OTHERS = [
@@ -82,6 +89,18 @@ WORDS_OF_OTHERS = [
     ("explain -e ip -w out.pcap in.pcap", 1, [WITHOUT_OPTION]),
     ("cut -s 0 in.pcap -w out.pcap", 0, []),
     ("compare -w out.pcap -z tcp udp", 1, []),
+    ("explain -m 10 -e ip in.pcap", 1, ["to keep the first ten packets: editcap -r -F nsecpcap IN OUT 1-10"]),
+    ("cut -s 0 -G 60 in.pcap out.pcap", 1, [PIECES]),
+    ("cut -s 0 -W 10 in.pcap out.pcap", 1, [PIECES]),
+    ("explain -d -e ip in.pcap", 1, ["to print a program: bpftap check -d EXPR"]),
+    ("compare -x ip tcp", 1, ["to print an expression as it was read: bpftap check -x EXPR"]),
+    ("explain --dot -e ip in.pcap", 1, ["to draw a program: bpftap check --dot EXPR | dot -Tsvg > OUT"]),
+    ("cut -v -s 0 in.pcap out.pcap", 1, ["explain prints why for each packet; -p PLACE prints one in full"]),
+    # These have the option themselves: it is another one that there is not.
+    ("check -d -z ip", 1, []),
+    ("check -x -z ip", 1, []),
+    ("check --dot -z ip", 1, []),
+    ("steps -v -z a.txt b.txt in.pcap", 1, []),
     ("explain -nn -e ip in.pcap", 1, ["addresses are never looked up: leave this option out"]),
     ("cut in.pcap out.pcap", 1, ["-s 0 keeps packets whole"]),
     ("cut -c -s 0 -e ip in.pcap", 1, ["to count only: bpftap explain -c -e EXPR IN, or give /dev/null as OUT"]),
