@@ -1,10 +1,13 @@
 #!/usr/bin/env python3
-"""Cuts one large capture on a Dask cluster. OUT is, byte for byte, what `bpftap cut OPTION.. IN OUT` writes.
+"""Cuts one large capture on a Dask cluster, or each capture of a list. OUT is, byte for byte, what `bpftap cut OPTION.. IN OUT` writes.
 
-  cut.py [--scheduler ADDRESS] [--parts N] [--program PATH] IN OUT [OPTION..]
+  cut.py [--scheduler ADDRESS] [--program PATH] [--parts N] IN OUT [OPTION..]
+  cut.py [--scheduler ADDRESS] [--program PATH] --trove CAPTURES FOLDER [OPTION..]
 
 Without --scheduler it starts a worker for each processor of this machine. All workers see IN, and the folder of OUT. A task is a part of IN:
 if its worker dies, another one cuts the part again, into a file of its own. The options are those of `bpftap cut`, as -s 0 -e arp.
+
+With --trove a task is a capture: CAPTURES has their paths, a line each, and FOLDER gets a file of the same name for each.
 """
 import argparse
 import os
@@ -34,18 +37,22 @@ def order_of(line):
     return first, -end
 
 
-def cut_all(client, ranges, words):
-    """Cuts parts on the cluster, and returns their lines. It shows how many are done. If one can't be cut, the others are given up."""
-    futures = [client.submit(cut_part, *words, part, retries=3, pure=False) for part in ranges]
-    lines = []
+def results_of(client, futures, what):
+    """What each task returned. It shows how many are done. If one failed, the others are given up."""
+    results = []
     try:
         for future in as_completed(futures):
-            lines.append(future.result())
-            print(f"\r{len(lines)} of {len(ranges)} parts", end="", file=sys.stderr, flush=True)
+            results.append(future.result())
+            print(f"\r{len(results)} of {len(futures)} {what}", end="", file=sys.stderr, flush=True)
     finally:
         print(file=sys.stderr)
         client.cancel(futures)
-    return lines
+    return results
+
+
+def cut_all(client, ranges, words):
+    """Cuts parts on the cluster, and returns their lines."""
+    return results_of(client, [client.submit(cut_part, *words, part, retries=3, pure=False) for part in ranges], "parts")
 
 
 def cut_and_join(client, words, ranges, to):
@@ -78,17 +85,48 @@ def cut_capture(client, program, path, to, count, options):
         shutil.rmtree(folder, ignore_errors=True)
 
 
+def cut_whole(program, options, path, to):
+    """Cuts a capture, and returns the status and what was reported. The file gets its name if all of the capture was cut."""
+    part = f"{to}.{uuid.uuid4().hex}.part"
+    done = subprocess.run([program, "cut", *options, path, part], capture_output=True, text=True)
+    if done.returncode == 0:
+        os.replace(part, to)
+    else:
+        pathlib.Path(part).unlink(missing_ok=True)
+    return done.returncode, f"{path}: {done.stderr.strip()}"
+
+
+def cut_trove(client, program, listed, folder, options):
+    """Cuts each capture of a list on the cluster. Returns the greatest status, and prints what was reported of those that failed."""
+    captures = [os.path.realpath(line) for line in pathlib.Path(listed).read_text().splitlines()]
+    to = [f"{os.path.realpath(folder)}/{os.path.basename(path)}" for path in captures]
+    if len({*captures, *to}) < 2 * len(captures):
+        print(f"{listed}: two captures have one name, or {folder} has one of them", file=sys.stderr)
+        return 1
+    os.makedirs(folder, exist_ok=True)
+    futures = [client.submit(cut_whole, program, options, *pair, retries=3, pure=False) for pair in zip(captures, to)]
+    ended = results_of(client, futures, "captures")
+    for status, report in sorted(ended):
+        if status:
+            print(report, file=sys.stderr)
+    return max((status for status, _ in ended), default=0)
+
+
 def main(words):
     parser = argparse.ArgumentParser(description=__doc__, formatter_class=argparse.RawDescriptionHelpFormatter)
     parser.add_argument("--scheduler", help="as tcp://host:8786")
     parser.add_argument("--parts", type=int, help="how many parts; by default four for each worker")
     parser.add_argument("--program", default="bpftap")
+    parser.add_argument("--trove", action="store_true", help="IN is a list of captures, and OUT a folder")
     parser.add_argument("IN")
     parser.add_argument("OUT")
     asked, options = parser.parse_known_args(words)
     with Client(asked.scheduler) if asked.scheduler else Client(threads_per_worker=1) as client:
+        options = options or ["-s", "0"]
+        if asked.trove:
+            return cut_trove(client, asked.program, asked.IN, asked.OUT, options)
         count = asked.parts or PARTS_OF_A_WORKER * len(client.scheduler_info()["workers"])
-        return cut_capture(client, asked.program, asked.IN, asked.OUT, count, options or ["-s", "0"])
+        return cut_capture(client, asked.program, asked.IN, asked.OUT, count, options)
 
 
 if __name__ == "__main__":
