@@ -52,7 +52,7 @@ from filters import program
 
 ROOT = pathlib.Path(__file__).resolve().parent.parent
 # Bytes; the program's own limit is that of the machine, mostly 8 MiB.
-STACK = 640 << 10
+STACK = 768 << 10
 # As `tcpdump -ddd udp port 53` prints it.
 UDP_PORT_53 = """20
 40 0 0 12

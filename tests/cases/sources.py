@@ -79,3 +79,23 @@ def each_function_has_a_contract_or_a_reason(scene):
     scene.check("lines of no source", sorted(set(listed) - met), [])
     # The search finds what it is for.
     scene.check("a source", without_contract("impl A {\n    fn a(\n        x: u32,\n    ) -> u32 {\n    }\n\n    fn b()\n        ensures { x }\n    {\n    }\n}\nimpl T for A {\n    fn c() {\n    }\n}\n"), ["a"])
+
+
+# ---- Two lists of the language's words
+
+# The words in quotes in a list of a source, up to the end of the list.
+LISTED = re.compile(r"\bWORDS: \[.*?\] = \[(.*?)\n\];", re.DOTALL)
+QUOTED = re.compile(r'"([a-z-]+)"')
+
+
+def words_in(source):
+    """The words of a source's list `WORDS`, sorted."""
+    return sorted(QUOTED.findall(LISTED.search((ROOT / "crates" / source).read_text())[1]))
+
+
+@case
+def hints_know_the_words_of_the_language(scene):
+    """The reader of expressions finds a word by its length, and hints suggest one by how likely it is: the words of both lists are the same."""
+    words = words_in("filterlang/src/lexer/words.rt")
+    scene.check("words", len(words), 38)
+    scene.check("words of the hints", words_in("filter_hints/src/nearest.rt"), words)
