@@ -36,7 +36,7 @@ use cli_split::command::split_command;
 use cli_steps::command::steps_command;
 use cli_text::Status;
 use cli_watch::Screen;
-use filter_hints::is_word;
+use filter_spots::is_word;
 use line_text::LineForm;
 use std::alloc::Global;
 use std::convert::AsStr;

@@ -3,7 +3,7 @@
 ghost use Rattle.std.specs.Prelude.{◌≡◌, false};
 
 use cli_report::stream::{HintSink, give_hint};
-use filter_hints::{is_expression, is_word, reads_on};
+use filter_spots::{is_expression, is_word, reads_on};
 use filterlang::{Fault, lex};
 use std::alloc::{AllocError, Global};
 use std::convert::AsStr;

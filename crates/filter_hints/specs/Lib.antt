@@ -1,3 +1,1 @@
 pub mod Advising
-pub mod Edits
-pub mod Suggestions

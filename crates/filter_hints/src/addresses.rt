@@ -1,7 +1,8 @@
 //! What helps at addresses and lists of them that are written as elsewhere.
 
 use crate::advice::{Advice, Found};
-use crate::spots::{HOST, Run, Spot, after_blanks, first_word, without_blanks};
+use crate::instead::{Instead, advise_instead};
+use filter_spots::{HOST, Run, Spot, after_blanks, first_word, without_blanks};
 use std::alloc::Global;
 use std::fmt;
 use std::fmt::{Display, Formatter};
@@ -50,6 +51,34 @@ fn write_pairs<W: fmt::Write>(address: &[u8], f: &mut Formatter<W>) -> fmt::Resu
         f.write_char(char::from(*byte))?;
     }
     Ok(())
+}
+
+/// An Ethernet address that is written otherwise: it prints as a sentence.
+#[derive(Clone, Copy)]
+pub enum EthernetAdvice<'a> {
+    /// An address without colons.
+    Colons(&'a [u8]),
+    /// A word that takes an address only after `ether`, and the address.
+    Ether(&'a [u8], &'a [u8]),
+}
+
+impl Display for EthernetAdvice<'_> {
+    fn fmt<W: fmt::Write>(&self, f: &mut Formatter<W>) -> fmt::Result {
+        match self {
+            EthernetAdvice::Colons(address) => write!(
+                f,
+                "an Ethernet address has colons: write `{}` for `{}`",
+                WithColons(*address),
+                Shown(*address)
+            ),
+            EthernetAdvice::Ether(word, address) => write!(
+                f,
+                "an Ethernet address needs `ether`: write `ether {} {}`",
+                Shown(*word),
+                WithColons(*address)
+            ),
+        }
+    }
 }
 
 /// A list with commas, as a group: with `or`, in parentheses.
@@ -199,7 +228,7 @@ fn of_signs<'a>(alloc: Global, spot: Spot<'a>, run: Run<'a>) -> Found<'a> {
     };
     let colons = format!(in alloc; "{}", WithColons(run.bytes))?;
     if gap.takes(alloc, colons.as_str())? {
-        Ok(Some(Advice::Colons(run.bytes)))
+        Ok(Some(Advice::Ethernet(EthernetAdvice::Colons(run.bytes))))
     } else {
         Ok(None)
     }
@@ -221,7 +250,7 @@ fn of_missing_ether<'a>(alloc: Global, spot: Spot<'a>, run: Run<'a>) -> Found<'a
     }
     let written = format!(in alloc; "ether {} {}", Shown(word), WithColons(run.bytes))?;
     if gap.takes(alloc, written.as_str())? {
-        Ok(Some(Advice::Ether(word, run.bytes)))
+        Ok(Some(Advice::Ethernet(EthernetAdvice::Ether(word, run.bytes))))
     } else {
         Ok(None)
     }
@@ -276,18 +305,10 @@ pub(crate) fn of_comma<'a>(alloc: Global, spot: Spot<'a>) -> Found<'a> {
     };
     let end = spot.before().len().saturating_add(list_len(spot.rest()));
     let list = spot.between(start, end);
-    let Some(gap) = spot.without(start, list.len()) else {
-        return Ok(None);
-    };
     if list.len() > MAX_LIST || !has_numbers(list) {
         return Ok(None);
     }
-    let group = format!(in alloc; "{}", AsGroup(list))?;
-    if gap.takes(alloc, group.as_str())? {
-        Ok(Some(Advice::Group(list)))
-    } else {
-        Ok(None)
-    }
+    advise_instead(alloc, spot, start, end, Instead::Group(list))
 }
 
 /// Whether a text is two numbers with `-` between them.
@@ -305,6 +326,19 @@ pub(crate) fn of_range<'a>(alloc: Global, spot: Spot<'a>) -> Found<'a> {
     match spot.without(first.start_of_last(), first.last().len()) {
         Some(gap) if gap.takes(alloc, "portrange")? => {
             Ok(Some(Advice::Round("write `portrange ", run.bytes, "`")))
+        }
+        _ => Ok(None),
+    }
+}
+
+/// What helps at a mask right after the address of a net.
+pub(crate) fn of_mask<'a>(alloc: Global, spot: Spot<'a>) -> Found<'a> {
+    if spot.second_last() != b"net".as_slice() || !is_dotted(spot.token()) {
+        return Ok(None);
+    }
+    match spot.before_word() {
+        Some(gap) if gap.takes(alloc, "mask ")? => {
+            Ok(Some(Advice::Round("write `mask` before `", spot.token(), "`")))
         }
         _ => Ok(None),
     }

@@ -1,8 +1,10 @@
 //! What helps at a colon after an address or a number.
 
 use crate::addresses::{is_dotted, is_number};
-use crate::advice::{Advice, Found, PORTRANGE};
-use crate::spots::{HOST, Run, Spot, without_blanks};
+use crate::advice::Found;
+use crate::choice::PORTRANGE;
+use crate::instead::{Instead, advise_instead};
+use filter_spots::{HOST, Run, Spot};
 use std::alloc::Global;
 use std::fmt;
 use std::fmt::{Display, Formatter};
@@ -10,9 +12,6 @@ use visible_text::Shown;
 
 /// Words that an address follows, and with which a port is written too.
 static BEFORE_ENDPOINTS: [&[u8]; 3] = [HOST, b"src", b"dst"];
-
-/// What the text before a test ends with if one more test may be joined to it by `and`.
-static BEFORE_TESTS: [&[u8]; 3] = [b"(", b"&&", b" and"];
 
 /// An address with a port, and the word before them.
 #[derive(Clone, Copy)]
@@ -41,13 +40,6 @@ fn parts_of(text: &[u8]) -> Option<(&[u8], &[u8])> {
     Some((text.get(..colon)?, text.get(colon + 1..)?))
 }
 
-/// Whether a test that begins at a place may be two, joined by `and`: nothing is before it, or what
-/// such a test follows.
-fn takes_two_tests(start: Spot<'_>) -> bool {
-    let before = without_blanks(start.before());
-    before.is_empty() || BEFORE_TESTS.iter().any(|end| before.ends_with(*end))
-}
-
 /// The address with a port around a place, if a word comes before it that both can have.
 fn endpoint_at<'a>(spot: Spot<'a>, run: Run<'a>) -> Option<Endpoint<'a>> {
     let (address, port) = parts_of(run.bytes)?;
@@ -70,16 +62,11 @@ pub(crate) fn of_endpoint<'a>(alloc: Global, spot: Spot<'a>) -> Found<'a> {
         return Ok(None);
     };
     let start = spot.at(run.start).start_of_last();
-    let original = spot.between(start, run.start.saturating_add(run.bytes.len()));
-    let Some(gap) = spot.without(start, original.len()) else {
+    if !spot.at(start).joins_tests() {
         return Ok(None);
-    };
-    let written = format!(in alloc; "{endpoint}")?;
-    if takes_two_tests(spot.at(start)) && gap.takes(alloc, written.as_str())? {
-        Ok(Some(Advice::Endpoint(endpoint, original)))
-    } else {
-        Ok(None)
     }
+    let end = run.start.saturating_add(run.bytes.len());
+    advise_instead(alloc, spot, start, end, Instead::Endpoint(endpoint))
 }
 
 /// What helps at a range with a colon, as `portrange 80:90`.
@@ -89,13 +76,9 @@ pub(crate) fn of_colon_range<'a>(alloc: Global, spot: Spot<'a>) -> Found<'a> {
         return Ok(None);
     };
     let is_range = is_number(first) && is_number(last) && spot.at(run.start).last() == PORTRANGE;
-    let Some(gap) = spot.without(run.start, run.bytes.len()) else {
+    if !is_range {
         return Ok(None);
-    };
-    let written = format!(in alloc; "{}-{}", Shown(first), Shown(last))?;
-    if is_range && gap.takes(alloc, written.as_str())? {
-        Ok(Some(Advice::Range(first, last)))
-    } else {
-        Ok(None)
     }
+    let end = run.start.saturating_add(run.bytes.len());
+    advise_instead(alloc, spot, run.start, end, Instead::Range(first, last))
 }

@@ -2,13 +2,44 @@
 //! `60 < len < 100`.
 
 use crate::advice::{Advice, Found};
-use crate::spots::{Spot, after_blanks, first_word, without_blanks};
-use crate::terms::{is_constant, is_of_comparison, last_value, without_joint};
+use crate::terms::{is_bound, is_constant, is_of_comparison, last_value, without_joint};
+use filter_spots::{Spot, after_blanks, first_word, without_blanks};
 use std::alloc::Global;
+use std::fmt;
+use std::fmt::{Display, Formatter};
 use visible_text::Shown;
 
 /// A longer value is not written out.
 const MAX_VALUE: usize = 40;
+
+/// A comparison that lacks a side: it prints as a sentence.
+#[derive(Clone, Copy)]
+pub enum SideAdvice<'a> {
+    /// The left side that it lacks, its sign, and the comparison from there on.
+    Left(&'a [u8], &'a [u8], &'a [u8]),
+    /// A value between two comparisons, and the second of these.
+    Chain(&'a [u8], &'a [u8]),
+}
+
+impl Display for SideAdvice<'_> {
+    fn fmt<W: fmt::Write>(&self, f: &mut Formatter<W>) -> fmt::Result {
+        match self {
+            SideAdvice::Left(value, sign, comparison) => write!(
+                f,
+                "write the value again before `{}`: `{} {}`",
+                Shown(*sign),
+                Shown(*value),
+                Shown(*comparison)
+            ),
+            SideAdvice::Chain(value, comparison) => write!(
+                f,
+                "a comparison has two sides: write `and {} {}`",
+                Shown(*value),
+                Shown(*comparison)
+            ),
+        }
+    }
+}
 
 /// The sign at the front of a text that compares; nothing if none is there.
 fn sign_at(text: &[u8]) -> &[u8] {
@@ -64,7 +95,7 @@ fn of_left_side<'a>(alloc: Global, spot: Spot<'a>, sign: &'a [u8]) -> Found<'a> 
     match spot.before_word() {
         Some(gap) if gap.takes(alloc, written.as_str())? => {
             let comparison = comparison_at(spot.rest(), sign);
-            Ok(Some(Advice::LeftSide(value, sign, comparison)))
+            Ok(Some(Advice::Side(SideAdvice::Left(value, sign, comparison))))
         }
         _ => Ok(None),
     }
@@ -76,10 +107,16 @@ fn of_chain<'a>(alloc: Global, spot: Spot<'a>, sign: &'a [u8]) -> Found<'a> {
     let Some(value) = last_right_side(spot.before()) else {
         return Ok(None);
     };
+    if is_bound(spot.before()) {
+        return Ok(Some(Advice::Said(
+            "a comparison has two sides: write two of them in parentheses, as `(60 < len and len < 100)`",
+        )));
+    }
     let written = format!(in alloc; " and {} ", Shown(value))?;
     match spot.before_word() {
         Some(gap) if gap.takes(alloc, written.as_str())? => {
-            Ok(Some(Advice::Chain(value, comparison_at(spot.rest(), sign))))
+            let comparison = comparison_at(spot.rest(), sign);
+            Ok(Some(Advice::Side(SideAdvice::Chain(value, comparison))))
         }
         _ => Ok(None),
     }
@@ -94,5 +131,26 @@ pub(crate) fn of_sign<'a>(alloc: Global, spot: Spot<'a>) -> Found<'a> {
     match of_left_side(alloc, spot, sign)? {
         Some(advice) => Ok(Some(advice)),
         None => of_chain(alloc, spot, sign),
+    }
+}
+
+/// What helps at a number that is joined to a comparison, as `len = 100 or 200`: the left side of
+/// that and its sign, written again.
+pub(crate) fn of_operand<'a>(alloc: Global, spot: Spot<'a>) -> Found<'a> {
+    let before = without_joint(spot.before()).unwrap_or(&[]);
+    let Some(sign) = before.iter().rposition(is_of_comparison) else {
+        return Ok(None);
+    };
+    let operand = after_blanks(without_blanks(before.get(sign + 1..).unwrap_or(&[])));
+    let left = written_again(last_value(before.get(..sign + 1).unwrap_or(&[])));
+    let (Some(left), true) = (left, first_word(operand).len() == operand.len()) else {
+        return Ok(None);
+    };
+    let written = format!(in alloc; "{} ", Shown(left))?;
+    match spot.before_word() {
+        Some(gap) if gap.takes(alloc, written.as_str())? => {
+            Ok(Some(Advice::Side(SideAdvice::Left(left, spot.word(), spot.word()))))
+        }
+        _ => Ok(None),
     }
 }

@@ -3,20 +3,20 @@
 
 mod addresses;
 mod advice;
+mod choice;
 mod colons;
-mod display_filters;
+mod comparisons;
+mod dots;
 mod excerpt;
+mod flags;
+mod instead;
 mod left_sides;
-mod nearest;
 mod other_words;
-mod ports;
-mod spots;
-mod suggestions;
+mod services;
 mod terms;
 mod values;
 
-pub use advice::{Advice, ByLibpcap, advise, advise_refusal};
+pub use advice::{Advice, ByLibpcap};
+pub use choice::{advise, advise_refusal};
 pub use colons::Endpoint;
 pub use excerpt::{Caret, Excerpt};
-pub use nearest::is_word;
-pub use suggestions::{is_expression, reads_on};

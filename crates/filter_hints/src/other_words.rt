@@ -1,7 +1,8 @@
 //! What helps at words of libpcap's language that this one lacks.
 
 use crate::advice::{Advice, Found};
-use crate::spots::{PROTO, Spot, after_blanks, first_word, without_last_word};
+use crate::instead::{Instead, advise_instead};
+use filter_spots::{PROTO, Spot, after_blanks, first_word, without_last_word};
 use std::alloc::Global;
 
 /// Words that libpcap reads on Ethernet, for what is not Ethernet with IPv4 or ARP.
@@ -14,8 +15,8 @@ static OTHER_LINKS: [&[u8]; 30] = [
 /// Words of display filters for IPv6.
 static IPV6_WORDS: [&[u8]; 2] = [b"ipv6", b"icmpv6"];
 
-/// Words of libpcap's language that mean `ether` on Ethernet.
-static MEAN_ETHER: [&[u8]; 4] = [b"link", b"wlan", b"fddi", b"tr"];
+/// Words of libpcap's language, and of other tools, that mean `ether` on Ethernet.
+static MEAN_ETHER: [&[u8]; 6] = [b"link", b"wlan", b"fddi", b"tr", b"eth", b"ethernet"];
 
 /// Words that `ether` goes before.
 static AFTER_ETHER: [&[u8]; 6] = [
@@ -69,7 +70,7 @@ struct ByNumber {
 
 /// Protocols over IPv4 that have no name after `proto`: all but the last are no words of the
 /// language.
-static BY_NUMBER: [ByNumber; 8] = [
+static BY_NUMBER: [ByNumber; 12] = [
     ByNumber {
         name: b"igmp",
         number: "2",
@@ -89,6 +90,26 @@ static BY_NUMBER: [ByNumber; 8] = [
         name: b"ah",
         number: "51",
         primitive: "proto 51",
+    },
+    ByNumber {
+        name: b"ipip",
+        number: "4",
+        primitive: "proto 4",
+    },
+    ByNumber {
+        name: b"gre",
+        number: "47",
+        primitive: "proto 47",
+    },
+    ByNumber {
+        name: b"eigrp",
+        number: "88",
+        primitive: "proto 88",
+    },
+    ByNumber {
+        name: b"ospf",
+        number: "89",
+        primitive: "proto 89",
     },
     ByNumber {
         name: b"pim",
@@ -118,7 +139,7 @@ struct OtherWord {
     written: &'static str,
 }
 
-static OTHER_WORDS: [OtherWord; 6] = [
+static OTHER_WORDS: [OtherWord; 13] = [
     OtherWord {
         word: b"length",
         written: "len",
@@ -143,7 +164,42 @@ static OTHER_WORDS: [OtherWord; 6] = [
         word: b"mac",
         written: "ether host",
     },
+    OtherWord {
+        word: b"srcport",
+        written: "src port",
+    },
+    OtherWord {
+        word: b"dstport",
+        written: "dst port",
+    },
+    OtherWord {
+        word: b"srcip",
+        written: "src host",
+    },
+    OtherWord {
+        word: b"dstip",
+        written: "dst host",
+    },
+    OtherWord {
+        word: b"protocol",
+        written: "proto",
+    },
+    OtherWord {
+        word: b"network",
+        written: "net",
+    },
+    OtherWord {
+        word: b"subnet",
+        written: "net",
+    },
 ];
+
+/// Comparisons that search in the data, of which only display filters have the words.
+static OF_TEXT: [&[u8]; 2] = [b"contains", b"matches"];
+
+/// What is said of a search in the data.
+const SEARCH: &str =
+    "a filter looks at bytes at known places: `tcp[tcp[12] >> 4 << 2:4] = 0x47455420` finds `GET ` at the front of the data";
 
 /// Units of lengths, which have no word here.
 static UNITS: [&[u8]; 4] = [b"bytes", b"byte", b"octets", b"octet"];
@@ -222,12 +278,8 @@ pub(crate) fn of_value<'a>(alloc: Global, spot: Spot<'a>) -> Found<'a> {
     for value in OTHER_VALUES.iter() {
         let prefix = value.prefix;
         if value.name == spot.word() && spot.before().ends_with(prefix.as_bytes()) {
-            return match spot.without_word_and(prefix.len()) {
-                Some(gap) if gap.takes(alloc, value.number)? => {
-                    Ok(Some(Advice::Written(value.number, prefix, spot.word())))
-                }
-                _ => Ok(None),
-            };
+            let start = spot.before().len().saturating_sub(prefix.len());
+            return advise_instead(alloc, spot, start, spot.end(), Instead::Text(value.number));
         }
     }
     Ok(None)
@@ -235,17 +287,13 @@ pub(crate) fn of_value<'a>(alloc: Global, spot: Spot<'a>) -> Found<'a> {
 
 /// What helps at a protocol that is written by its number.
 fn of_protocol<'a>(alloc: Global, spot: Spot<'a>, protocol: &ByNumber) -> Found<'a> {
-    let Some(gap) = spot.without_name() else {
-        return Ok(None);
-    };
-    let backslash = if spot.has_backslash() { "\\" } else { "" };
     let written = if spot.has_backslash() || spot.last() == PROTO {
         protocol.number
     } else {
         protocol.primitive
     };
-    if gap.takes(alloc, written)? {
-        return Ok(Some(Advice::Written(written, backslash, spot.word())));
+    if let Some(advice) = of_written(alloc, spot, written)? {
+        return Ok(Some(advice));
     }
     if spot.after_word().starts_with(b"[") {
         return Ok(Some(Advice::Said(
@@ -257,12 +305,13 @@ fn of_protocol<'a>(alloc: Global, spot: Spot<'a>, protocol: &ByNumber) -> Found<
 
 /// What helps at a word for which something else is written here, if the text reads on with that.
 pub(crate) fn of_written<'a>(alloc: Global, spot: Spot<'a>, written: &'static str) -> Found<'a> {
-    match spot.without_name() {
-        Some(gap) if gap.takes(alloc, written)? => {
-            Ok(Some(Advice::Written(written, "", spot.word())))
-        }
-        _ => Ok(None),
-    }
+    advise_instead(
+        alloc,
+        spot,
+        spot.before().len(),
+        spot.end(),
+        Instead::Text(written),
+    )
 }
 
 /// What helps at the unit of a length, if the text reads on without it.
@@ -351,6 +400,18 @@ pub(crate) fn of_sctp<'a>(spot: Spot<'a>) -> Option<Advice<'a>> {
         Some(Advice::Said(
             "no accessor of `sctp`: `ip[(ip[0] & 15) << 2]` is the first byte after the IPv4 header",
         ))
+    } else {
+        None
+    }
+}
+
+/// What helps at a word that is compared as only a field is.
+pub(crate) fn of_text<'a>(spot: Spot<'a>) -> Option<Advice<'a>> {
+    let next = after_blanks(spot.after_word());
+    let is_of_text = OF_TEXT.contains(&spot.word())
+        || OF_TEXT.iter().any(|one| next.starts_with(*one));
+    if is_of_text && !spot.takes_address() {
+        Some(Advice::Said(SEARCH))
     } else {
         None
     }

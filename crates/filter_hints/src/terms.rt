@@ -1,6 +1,6 @@
 //! The terms of an expression, as a text has them between `and`, `or` and parentheses.
 
-use crate::spots::{after_blanks, first_word, last_word, without_blanks};
+use filter_spots::{after_blanks, first_word, last_word, without_blanks};
 
 /// A word that turns the answer of a term.
 const NOT: &[u8] = b"not";
@@ -97,4 +97,12 @@ pub(crate) fn last_value(text: &[u8]) -> &[u8] {
 /// Whether a value is the same for each packet: it has no byte of one, and not its length.
 pub(crate) fn is_constant(value: &[u8]) -> bool {
     !value.contains(&b'[') && !value.windows(3).any(|word| word == b"len".as_slice())
+}
+
+/// Whether what `and` joins to the end of a text would bind otherwise than its last term does, which
+/// a `not` or an `or` comes before.
+pub(crate) fn is_bound(text: &[u8]) -> bool {
+    let term = last_term(text);
+    let before = text.strip_suffix(term).unwrap_or(text);
+    before.ends_with(b" or ") || before.ends_with(b"||") || after_not(after_blanks(term)).is_some()
 }

@@ -1,71 +1,76 @@
 //! What helps at a value that nothing compares, as `ip[6] & 0x20` or `tcp-syn`.
 
 use crate::advice::{Advice, Found};
-use crate::spots::{Spot, without_blanks};
+use crate::flags::of_both_flags;
+use crate::instead::{Instead, advise_instead};
 use crate::terms::{is_constant, last_value};
+use filter_spots::{Spot, after_blanks, without_blanks};
 use std::alloc::Global;
+
+/// A longer value is not written out.
+const MAX_VALUE: usize = 60;
 
 /// A named value, and what asks for it, or for the field that it is the place of.
 struct NamedValue {
-    name: &'static [u8],
+    name: &'static str,
     asked: &'static str,
 }
 
 static NAMED_VALUES: [NamedValue; 14] = [
     NamedValue {
-        name: b"tcp-fin",
+        name: "tcp-fin",
         asked: "tcp[tcpflags] & tcp-fin != 0",
     },
     NamedValue {
-        name: b"tcp-syn",
+        name: "tcp-syn",
         asked: "tcp[tcpflags] & tcp-syn != 0",
     },
     NamedValue {
-        name: b"tcp-rst",
+        name: "tcp-rst",
         asked: "tcp[tcpflags] & tcp-rst != 0",
     },
     NamedValue {
-        name: b"tcp-push",
+        name: "tcp-push",
         asked: "tcp[tcpflags] & tcp-push != 0",
     },
     NamedValue {
-        name: b"tcp-ack",
+        name: "tcp-ack",
         asked: "tcp[tcpflags] & tcp-ack != 0",
     },
     NamedValue {
-        name: b"tcp-urg",
+        name: "tcp-urg",
         asked: "tcp[tcpflags] & tcp-urg != 0",
     },
     NamedValue {
-        name: b"icmp-echoreply",
+        name: "icmp-echoreply",
         asked: "icmp[icmptype] = icmp-echoreply",
     },
     NamedValue {
-        name: b"icmp-unreach",
+        name: "icmp-unreach",
         asked: "icmp[icmptype] = icmp-unreach",
     },
     NamedValue {
-        name: b"icmp-redirect",
+        name: "icmp-redirect",
         asked: "icmp[icmptype] = icmp-redirect",
     },
     NamedValue {
-        name: b"icmp-echo",
+        name: "icmp-echo",
         asked: "icmp[icmptype] = icmp-echo",
     },
     NamedValue {
-        name: b"icmp-timxceed",
+        name: "icmp-timxceed",
         asked: "icmp[icmptype] = icmp-timxceed",
     },
     NamedValue {
-        name: b"tcpflags",
+        name: "tcpflags",
         asked: "tcp[tcpflags] != 0",
     },
     NamedValue {
-        name: b"icmptype",
+        name: "icmptype",
         asked: "icmp[icmptype] != 0",
     },
     NamedValue {
-        name: b"icmpcode",
+        name: "icmpcode",
         asked: "icmp[icmpcode] != 0",
     },
 ];
@@ -73,16 +78,56 @@ static NAMED_VALUES: [NamedValue; 14] = [
 /// What helps at a value that is the same for each packet: of a named one, the field that has it.
 fn of_constant<'a>(alloc: Global, spot: Spot<'a>, value: &'a [u8]) -> Found<'a> {
     let end = without_blanks(spot.before()).len();
-    let gap = spot.without(end.saturating_sub(value.len()), value.len());
-    let named = NAMED_VALUES.iter().find(|named| named.name == value);
-    match (gap, named) {
-        (Some(gap), Some(named)) if gap.is_whole_with(alloc, named.asked)? => {
-            Ok(Some(Advice::Written(named.asked, "", value)))
+    let start = end.saturating_sub(value.len());
+    let named = NAMED_VALUES
+        .iter()
+        .find(|named| named.name.as_bytes() == value);
+    let found = match named {
+        Some(named) => of_named_value(alloc, spot.at(start), end, named)?,
+        None => None,
+    };
+    Ok(Some(found.unwrap_or(Advice::Said(
+        "a number alone is the same for each packet: compare a field with it, as in `ip[8] < 5`",
+    ))))
+}
+
+/// What helps at a named value, from a place to an end: what asks for it, or the flags before it as
+/// one number with it.
+fn of_named_value<'a>(
+    alloc: Global,
+    start: Spot<'a>,
+    end: usize,
+    named: &'static NamedValue,
+) -> Found<'a> {
+    if named.name.starts_with("tcp-") {
+        if let Some(advice) = of_both_flags(alloc, start, end, named.name)? {
+            return Ok(Some(advice));
         }
-        _ => Ok(Some(Advice::Said(
-            "a number alone is the same for each packet: compare a field with it, as in `ip[8] < 5`",
-        ))),
     }
+    advise_instead(
+        alloc,
+        start,
+        start.before().len(),
+        end,
+        Instead::Text(named.asked),
+    )
+}
+
+/// What helps at a value that asks for bits by a `&`, and names several by a `|` without
+/// parentheses.
+fn of_several_bits<'a>(alloc: Global, spot: Spot<'a>, value: &'a [u8]) -> Found<'a> {
+    let Some(sign) = value.iter().position(|byte| *byte == b'&') else {
+        return Ok(None);
+    };
+    let number = without_blanks(value.get(..sign).unwrap_or(&[]));
+    let bits = after_blanks(value.get(sign + 1..).unwrap_or(&[]));
+    let is_several = bits.contains(&b'|') && is_constant(bits);
+    if !is_several || bits.contains(&b'(') || number.contains(&b'|') || value.len() > MAX_VALUE {
+        return Ok(None);
+    }
+    let end = without_blanks(spot.before()).len();
+    let start = end.saturating_sub(value.len());
+    advise_instead(alloc, spot, start, end, Instead::Bits(number, bits))
 }
 
 /// What is said of a value that nothing compares. If it is all of the text, in one word, the shell
@@ -104,8 +149,10 @@ pub(crate) fn of_comparison<'a>(alloc: Global, spot: Spot<'a>, comparison: &str)
     }
     let value = last_value(spot.before());
     if is_constant(value) {
-        of_constant(alloc, spot, value)
-    } else {
-        Ok(Some(Advice::Said(uncompared(spot))))
+        return of_constant(alloc, spot, value);
+    }
+    match of_several_bits(alloc, spot, value)? {
+        Some(advice) => Ok(Some(advice)),
+        None => Ok(Some(Advice::Said(uncompared(spot)))),
     }
 }

@@ -3,35 +3,38 @@
 use crate::suggestions::{Gap, is_no_blank};
 
 /// The word that the address of a host follows.
-pub(crate) const HOST: &[u8] = b"host";
+pub const HOST: &[u8] = b"host";
 
 /// Words that an address or a name of one follows.
-pub(crate) static BEFORE_ADDRESSES: [&[u8]; 4] = [HOST, b"net", b"src", b"dst"];
+static BEFORE_ADDRESSES: [&[u8]; 4] = [HOST, b"net", b"src", b"dst"];
 
 /// Words that only a name or a number follows.
 static BEFORE_NAMES: [&[u8]; 4] = [HOST, b"net", b"port", b"portrange"];
 
 /// The word that the number or the name of a protocol follows.
-pub(crate) const PROTO: &[u8] = b"proto";
+pub const PROTO: &[u8] = b"proto";
+
+/// What the text before a test ends with if one more test may be joined to it by `and`.
+static BEFORE_TESTS: [&[u8]; 3] = [b"(", b"&&", b" and"];
 
 /// The letters, digits and signs of names and addresses around a place: where they begin, and the
 /// bytes.
 #[derive(Clone, Copy)]
-pub(crate) struct Run<'a> {
+pub struct Run<'a> {
     pub start: usize,
     pub bytes: &'a [u8],
 }
 
 /// A place in an expression, or its end.
 #[derive(Clone, Copy)]
-pub(crate) struct Spot<'a> {
+pub struct Spot<'a> {
     text: &'a str,
     place: usize,
 }
 
 impl<'a> Spot<'a> {
     /// The place in a text; its end for a place past that.
-    pub(crate) fn new(text: &'a str, place: usize) -> Spot<'a> {
+    pub fn new(text: &'a str, place: usize) -> Spot<'a> {
         Spot {
             text,
             place: place.min(text.len()),
@@ -39,13 +42,13 @@ impl<'a> Spot<'a> {
     }
 
     /// Another place of the same text.
-    pub(crate) fn at(&self, place: usize) -> Spot<'a> {
+    pub fn at(&self, place: usize) -> Spot<'a> {
         Spot::new(self.text, place)
     }
 
     /// The letters, digits and signs of names and addresses around the place; none if none is
     /// there.
-    pub(crate) fn run(&self) -> Run<'a> {
+    pub fn run(&self) -> Run<'a> {
         let rest = self.rest();
         let len = rest.iter().position(is_outside_runs).unwrap_or(rest.len());
         let start = match self.before().iter().rposition(is_outside_runs) {
@@ -59,45 +62,45 @@ impl<'a> Spot<'a> {
     }
 
     /// The bytes from one place to another.
-    pub(crate) fn between(&self, start: usize, end: usize) -> &'a [u8] {
+    pub fn between(&self, start: usize, end: usize) -> &'a [u8] {
         self.text.as_bytes().get(start..end).unwrap_or(&[])
     }
 
     /// The text before the place.
-    pub(crate) fn before(&self) -> &'a [u8] {
+    pub fn before(&self) -> &'a [u8] {
         let text = self.text.as_bytes();
         &text[..self.place.min(text.len())]
     }
 
     /// The text from the place on.
-    pub(crate) fn rest(&self) -> &'a [u8] {
+    pub fn rest(&self) -> &'a [u8] {
         let text = self.text.as_bytes();
         &text[self.place.min(text.len())..]
     }
 
     /// The word before the place, whatever blanks are between.
-    pub(crate) fn last(&self) -> &'a [u8] {
+    pub fn last(&self) -> &'a [u8] {
         last_word(self.before())
     }
 
     /// The word before that one.
-    pub(crate) fn second_last(&self) -> &'a [u8] {
+    pub fn second_last(&self) -> &'a [u8] {
         last_word(without_last_word(self.before()))
     }
 
     /// Whether a backslash is at the place.
-    pub(crate) fn has_backslash(&self) -> bool {
+    pub fn has_backslash(&self) -> bool {
         self.rest().starts_with(b"\\")
     }
 
     /// The word at the place, without a backslash before it.
-    pub(crate) fn word(&self) -> &'a [u8] {
+    pub fn word(&self) -> &'a [u8] {
         let rest = self.rest();
         first_word(rest.strip_prefix(b"\\").unwrap_or(rest))
     }
 
     /// The word at the place, or the character there if no word begins.
-    pub(crate) fn token(&self) -> &'a [u8] {
+    pub fn token(&self) -> &'a [u8] {
         let rest = self.rest();
         let word = first_word(rest);
         match rest.first() {
@@ -107,13 +110,18 @@ impl<'a> Spot<'a> {
     }
 
     /// The text after the word at the place.
-    pub(crate) fn after_word(&self) -> &'a [u8] {
+    pub fn after_word(&self) -> &'a [u8] {
         let rest = self.rest();
         rest.get(self.len_of_name()..).unwrap_or(&[])
     }
 
+    /// Where the word at the place ends.
+    pub fn end(&self) -> usize {
+        self.place.saturating_add(self.len_of_name())
+    }
+
     /// Whether the word at the place is the whole text but for blanks.
-    pub(crate) fn is_whole_text(&self) -> bool {
+    pub fn is_whole_text(&self) -> bool {
         without_blanks(self.before()).is_empty() && after_blanks(self.after_word()).is_empty()
     }
 
@@ -128,45 +136,46 @@ impl<'a> Spot<'a> {
     }
 
     /// Whether an address, or the name of a host or a net, goes here.
-    pub(crate) fn takes_address(&self) -> bool {
+    pub fn takes_address(&self) -> bool {
         BEFORE_ADDRESSES.contains(&self.last())
     }
 
     /// Whether nothing but a name or a number goes here.
-    pub(crate) fn takes_only_name(&self) -> bool {
+    pub fn takes_only_name(&self) -> bool {
         BEFORE_NAMES.contains(&self.last()) || self.last() == PROTO
     }
 
+    /// Whether two tests that `and` joins mean the same at the place as they do in parentheses:
+    /// nothing is before it, or what such tests follow.
+    pub fn joins_tests(&self) -> bool {
+        let before = without_blanks(self.before());
+        before.is_empty() || BEFORE_TESTS.iter().any(|end| before.ends_with(*end))
+    }
+
     /// Where the word before the place begins.
-    pub(crate) fn start_of_last(&self) -> usize {
+    pub fn start_of_last(&self) -> usize {
         let before = without_blanks(self.before());
         before.len().saturating_sub(self.last().len())
     }
 
     /// The text with a gap for these bytes.
-    pub(crate) fn without(&self, start: usize, len: usize) -> Option<Gap<'a>> {
+    pub fn without(&self, start: usize, len: usize) -> Option<Gap<'a>> {
         Gap::new(self.text, start, len)
     }
 
     /// The text with a gap for the word at the place, and for a backslash before it.
-    pub(crate) fn without_name(&self) -> Option<Gap<'a>> {
+    pub fn without_name(&self) -> Option<Gap<'a>> {
         Gap::new(self.text, self.place, self.len_of_name())
     }
 
     /// The text with a gap for the word at the place: a backslash stays.
-    pub(crate) fn without_word(&self) -> Option<Gap<'a>> {
+    pub fn without_word(&self) -> Option<Gap<'a>> {
         let start = self.place.saturating_add(self.backslash_len());
         Gap::new(self.text, start, self.word().len())
     }
 
-    /// The text with a gap for the word at the place, and for `back` bytes before it.
-    pub(crate) fn without_word_and(&self, back: usize) -> Option<Gap<'a>> {
-        let start = self.place.saturating_sub(back);
-        Gap::new(self.text, start, self.word().len().saturating_add(back))
-    }
-
     /// The text with a gap before the word at the place.
-    pub(crate) fn before_word(&self) -> Option<Gap<'a>> {
+    pub fn before_word(&self) -> Option<Gap<'a>> {
         Gap::new(self.text, self.place, 0)
     }
 }
@@ -182,13 +191,13 @@ fn is_outside_runs(byte: &u8) -> bool {
 }
 
 /// The word or the name at the front of a text.
-pub(crate) fn first_word(text: &[u8]) -> &[u8] {
+pub fn first_word(text: &[u8]) -> &[u8] {
     let end = text.iter().position(is_outside_words).unwrap_or(text.len());
     &text[..end]
 }
 
 /// The word or the name at the end of a text, the blanks after it left out.
-pub(crate) fn last_word(text: &[u8]) -> &[u8] {
+pub fn last_word(text: &[u8]) -> &[u8] {
     let text = without_blanks(text);
     let start = match text.iter().rposition(is_outside_words) {
         Some(before) => before + 1,
@@ -198,13 +207,13 @@ pub(crate) fn last_word(text: &[u8]) -> &[u8] {
 }
 
 /// A text without the word or the name at its end, nor the blanks after that.
-pub(crate) fn without_last_word(text: &[u8]) -> &[u8] {
+pub fn without_last_word(text: &[u8]) -> &[u8] {
     let text = without_blanks(text);
     text.strip_suffix(last_word(text)).unwrap_or(text)
 }
 
 /// A text without the blanks at its end.
-pub(crate) fn without_blanks(text: &[u8]) -> &[u8] {
+pub fn without_blanks(text: &[u8]) -> &[u8] {
     match text.iter().rposition(is_no_blank) {
         Some(last) => &text[..last + 1],
         None => &[],
@@ -212,7 +221,7 @@ pub(crate) fn without_blanks(text: &[u8]) -> &[u8] {
 }
 
 /// A text without the blanks at its front.
-pub(crate) fn after_blanks(text: &[u8]) -> &[u8] {
+pub fn after_blanks(text: &[u8]) -> &[u8] {
     let start = text.iter().position(is_no_blank).unwrap_or(text.len());
     &text[start..]
 }

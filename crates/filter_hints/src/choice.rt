@@ -1,0 +1,466 @@
+//! Which advice helps at a fault.
+
+ghost use Rattle.std.specs.Prelude.{◌≡◌, ◌↔◌, ◌⊎◌, IfOk, IfSome, IsNone, IsSome, Some};
+ghost use Rattle.filter_hints.specs.Advising.{IsSaying, deep_relation, long_text};
+ghost use Rattle.filter_hints.specs.declared.advice.Advice.TheVariants.{LongProgram};
+ghost use Rattle.filtergen_facts.specs.declared.refusal.Refusal.TheVariants as Refusal;
+ghost use Rattle.filterlang.specs.declared.fault.Fault.TheVariants as Fault;
+
+use crate::addresses::{
+    is_number, of_comma, of_ethernet, of_ipv6, of_mask, of_masked_host, of_net, of_range,
+};
+use crate::advice::{Advice, Found};
+use crate::colons::{of_colon_range, of_endpoint};
+use crate::comparisons::of_compared;
+use crate::dots::of_dots;
+use crate::flags::{of_flag, of_layer_field};
+use crate::left_sides::{of_operand, of_sign};
+use crate::other_words::{
+    of_every_packet, of_ip_broadcast, of_left_out, of_other_word, of_sctp, of_text, of_unit,
+    of_value,
+};
+use crate::services::of_service;
+use crate::terms::is_bound;
+use crate::values::of_comparison;
+use filter_spots::{PROTO, Spot, first_word, in_small_letters, without_blanks, without_last_word};
+use filtergen_facts::Refusal;
+use filterlang::Fault;
+use std::alloc::{AllocError, Global};
+
+/// The word that the number of a port follows.
+pub(crate) const PORT: &[u8] = b"port";
+
+/// The word before `proto` if it takes an Ethernet type.
+const ETHER: &[u8] = b"ether";
+
+/// What to write after `ether proto`.
+const ETHERNET_TYPE: &str =
+    "write a number from 1501 to 65535 after `ether proto`, or `\\ip`, `\\arp` or `\\rarp`";
+
+/// The word that two ports follow.
+pub(crate) const PORTRANGE: &[u8] = b"portrange";
+
+/// What is said of one number after `portrange`.
+const TWO_PORTS: &str = "a portrange is two numbers with `-` between: `portrange 20-30`";
+
+/// Protocols over Ethernet whose packets have a length of their own.
+static OVER_ETHERNET: [&[u8]; 4] = [b"ip", b"tcp", b"udp", b"icmp"];
+
+/// Protocols over IPv4, of which a packet has one.
+static TRANSPORTS: [&[u8]; 4] = [b"tcp", b"udp", b"icmp", b"sctp"];
+
+/// Words that are names of their own, however near a word of the language is.
+static OTHER_NAMES: [&[u8]; 11] = [
+    b"sip", b"dip", b"tcp6", b"udp6", b"rip", b"rdp", b"cdp", b"rtcp", b"icp", b"xor", b"nor",
+];
+
+/// What is said of a number right after `len`.
+const LENGTH: &str = "compare `len` with the number, as in `len > 60`";
+
+/// What is said of an expression with a relation that is too deep.
+const DEEP_RELATION: &str =
+    "write long sums from the left, `a + b + c`, not `a + (b + c)`: a relation has 16 words of memory";
+
+/// What helps at a word that differs from one of the language by its capital letters, or by one
+/// edit.
+fn of_spelling<'a>(alloc: Global, spot: Spot<'a>) -> Found<'a> {
+    let Some(gap) = spot.without_word() else {
+        return Ok(None);
+    };
+    let backslash = spot.has_backslash();
+    if let Some(small) = in_small_letters(spot.word()) {
+        if gap.takes(alloc, small)? {
+            return Ok(Some(Advice::small_letters(backslash, small)));
+        }
+    }
+    if OTHER_NAMES.contains(&spot.word()) {
+        return Ok(None);
+    }
+    match gap.near_word(alloc, spot.word())? {
+        Some(near) => Ok(Some(Advice::did_you_mean(backslash, near))),
+        None => Ok(None),
+    }
+}
+
+/// What helps at what may be a name.
+fn of_name<'a>(spot: Spot<'a>) -> Advice<'a> {
+    let (before, name) = (spot.last(), spot.word());
+    if spot.has_backslash() {
+        Advice::Said("write a backslash only before `tcp`, `udp`, `icmp`, `ip`, `arp` or `rarp`")
+    } else if before == PORTRANGE {
+        Advice::Elsewhere(
+            "service names are not supported: write two numbers, as in `portrange 20-30`, for `",
+            name,
+            "`",
+        )
+    } else if before == PORT {
+        Advice::Elsewhere(
+            "service names are not supported: write a number, as in `port 80`, for `",
+            name,
+            "`",
+        )
+    } else if before == PROTO && spot.second_last() == ETHER {
+        Advice::Said(ETHERNET_TYPE)
+    } else if before == PROTO {
+        Advice::Elsewhere(
+            "protocol names are not supported here: write a number, as in `proto 17`, for `",
+            name,
+            "`",
+        )
+    } else if spot.takes_address() {
+        Advice::host(name)
+    } else {
+        Advice::Round(
+            "`",
+            name,
+            "` is no word of the language, and names are not supported",
+        )
+    }
+}
+
+/// What helps at a word for which something else is written here, or nothing.
+fn of_known_word<'a>(alloc: Global, spot: Spot<'a>) -> Found<'a> {
+    if let Some(advice) = of_compared(alloc, spot)? {
+        return Ok(Some(advice));
+    }
+    if let Some(advice) = of_value(alloc, spot)? {
+        return Ok(Some(advice));
+    }
+    if let Some(advice) = of_other_word(alloc, spot)? {
+        return Ok(Some(advice));
+    }
+    if spot.takes_only_name() && !spot.has_backslash() {
+        return Ok(None);
+    }
+    of_bare_name(alloc, spot)
+}
+
+/// What helps at a word that no number or address is to be.
+fn of_bare_name<'a>(alloc: Global, spot: Spot<'a>) -> Found<'a> {
+    if let Some(advice) = of_flag(alloc, spot)? {
+        return Ok(Some(advice));
+    }
+    if let Some(advice) = of_layer_field(alloc, spot)? {
+        return Ok(Some(advice));
+    }
+    if let Some(advice) = of_unit(alloc, spot)? {
+        return Ok(Some(advice));
+    }
+    match of_word_alone(spot) {
+        Some(advice) => Ok(Some(advice)),
+        None => of_service(alloc, spot),
+    }
+}
+
+/// What helps at a word for which the same is always said.
+fn of_word_alone<'a>(spot: Spot<'a>) -> Option<Advice<'a>> {
+    of_every_packet(spot)
+        .or_else(|| of_left_out(spot))
+        .or_else(|| of_text(spot))
+}
+
+/// What helps at a word that the language lacks.
+fn of_word<'a>(alloc: Global, spot: Spot<'a>) -> Result<Advice<'a>, AllocError> {
+    if let Some(advice) = of_known_word(alloc, spot)? {
+        return Ok(advice);
+    }
+    if let Some(advice) = of_spelling(alloc, spot)? {
+        return Ok(advice);
+    }
+    Ok(of_name(spot))
+}
+
+/// Whether a text begins with a quote: a shell's, or a printed one, U+2018 to U+201F.
+fn begins_with_quote(text: &[u8]) -> bool {
+    match text.strip_prefix(b"\xe2\x80") {
+        Some(rest) => matches!(rest.first(), Some(0x98..=0x9f)),
+        None => matches!(text.first(), Some(b'"' | b'\'' | b'`')),
+    }
+}
+
+/// What helps at a byte that begins no token.
+fn of_byte<'a>(alloc: Global, spot: Spot<'a>) -> Result<Advice<'a>, AllocError> {
+    if begins_with_quote(spot.rest()) {
+        Ok(Advice::Said("quotes are for the shell, not part of an expression"))
+    } else if spot.rest().is_empty() {
+        Ok(Advice::Said("no word, number or sign begins here"))
+    } else {
+        let list = if spot.rest().starts_with(b",") {
+            of_comma(alloc, spot)?
+        } else {
+            None
+        };
+        Ok(list.unwrap_or(Advice::Round(
+            "no word, number or sign begins with `",
+            spot.token(),
+            "`",
+        )))
+    }
+}
+
+/// What helps at a number or an address that is none.
+fn of_number<'a>(word: &[u8]) -> Advice<'a> {
+    if word.contains(&b'.') {
+        Advice::Said("an address has two to four parts of at most three digits, each up to 255")
+    } else if word.starts_with(b"0") {
+        Advice::Said(
+            "a number that begins with 0 is octal, of the digits 0 to 7; with 0x it is hexadecimal",
+        )
+    } else {
+        Advice::Said("a number is at most 4294967295, and no name begins with a digit")
+    }
+}
+
+/// What to write after a word that takes a number or an address; nothing for other words.
+fn operand_at(spot: Spot<'_>) -> Option<&'static str> {
+    let last = spot.last();
+    if last == PORTRANGE {
+        Some("write two numbers after `portrange`, as in `portrange 20-30`")
+    } else if last == PORT {
+        Some("write a number after `port`, as in `port 80`")
+    } else if last == b"host".as_slice() {
+        Some("write an address after `host`, as in `host 192.0.2.1`")
+    } else if last == b"net".as_slice() {
+        Some("write an address after `net`, as in `net 192.0.2.0/24`")
+    } else if last == PROTO && spot.second_last() == ETHER {
+        Some(ETHERNET_TYPE)
+    } else if spot.second_last() == PORTRANGE && !last.contains(&b'-') {
+        Some(TWO_PORTS)
+    } else if last == PROTO {
+        Some(
+            "write a number after `proto`, as in `proto 17`, or a name with a backslash, as in `proto \\udp`",
+        )
+    } else if spot.takes_address() {
+        Some("write an address after `src` and `dst`, or `host`, `net` or `port` before it")
+    } else if last == b"len".as_slice() && is_number(spot.word()) {
+        Some(LENGTH)
+    } else {
+        None
+    }
+}
+
+/// What helps at a word after `proto`.
+fn of_proto<'a>(alloc: Global, spot: Spot<'a>) -> Found<'a> {
+    match spot.before_word() {
+        Some(gap) if gap.takes(alloc, "\\")? => Ok(Some(Advice::Round(
+            "after `proto` a name has a backslash: write `\\",
+            spot.word(),
+            "`",
+        ))),
+        _ => of_other_word(alloc, spot),
+    }
+}
+
+/// What is said where `and` would join what is not meant: `len` after a protocol, and a second
+/// protocol.
+fn said_of_joint(spot: Spot<'_>) -> Option<&'static str> {
+    if spot.word() == b"len".as_slice() && OVER_ETHERNET.contains(&spot.last()) {
+        Some(
+            "`len` is the length of the frame, and `ip[2:2]` that of the IPv4 packet: neither goes after a protocol",
+        )
+    } else if TRANSPORTS.contains(&spot.word()) && TRANSPORTS.contains(&spot.last()) {
+        Some("a packet has one of these protocols: write `(tcp or udp) and port 53`")
+    } else {
+        None
+    }
+}
+
+/// What helps at a term that nothing joins to the one before it.
+fn of_joint<'a>(alloc: Global, spot: Spot<'a>) -> Found<'a> {
+    if let Some(said) = said_of_joint(spot) {
+        return Ok(Some(Advice::Said(said)));
+    }
+    if spot.token() == b"-".as_slice() {
+        return Ok(None);
+    }
+    let after = if is_bound(spot.before()) {
+        "`, and parentheses round what it joins"
+    } else {
+        "`"
+    };
+    match spot.before_word() {
+        Some(gap) if gap.takes(alloc, "and ")? => Ok(Some(Advice::Round(
+            "write `and` or `or` before `",
+            spot.token(),
+            after,
+        ))),
+        _ => Ok(None),
+    }
+}
+
+/// What helps at a token after which, or before which, something is written otherwise here.
+fn of_other_form<'a>(alloc: Global, spot: Spot<'a>) -> Found<'a> {
+    if let Some(advice) = of_comparison(alloc, spot, "!= 0 ")? {
+        return Ok(Some(advice));
+    }
+    if let Some(advice) = of_ip_broadcast(spot) {
+        return Ok(Some(advice));
+    }
+    if let Some(advice) = of_range(alloc, spot)? {
+        return Ok(Some(advice));
+    }
+    if let Some(advice) = of_net(alloc, spot)? {
+        return Ok(Some(advice));
+    }
+    if let Some(advice) = of_mask(alloc, spot)? {
+        return Ok(Some(advice));
+    }
+    if let Some(advice) = of_missing_part(alloc, spot)? {
+        return Ok(Some(advice));
+    }
+    of_joint(alloc, spot)
+}
+
+/// What helps at a colon that no token follows here, or at a comparison without its left side.
+fn of_missing_part<'a>(alloc: Global, spot: Spot<'a>) -> Found<'a> {
+    if let Some(advice) = of_endpoint(alloc, spot)? {
+        return Ok(Some(advice));
+    }
+    if let Some(advice) = of_colon_range(alloc, spot)? {
+        return Ok(Some(advice));
+    }
+    of_sign(alloc, spot)
+}
+
+/// What helps at a token with which no expression can go on.
+fn of_token<'a>(alloc: Global, spot: Spot<'a>) -> Result<Advice<'a>, AllocError> {
+    if let Some(advice) = of_compared(alloc, spot)? {
+        return Ok(advice);
+    }
+    let advice = if spot.last() == PROTO {
+        of_proto(alloc, spot)?
+    } else {
+        of_other_form(alloc, spot)?
+    };
+    Ok(match (advice, operand_at(spot)) {
+        (Some(advice), _) => advice,
+        (None, Some(said)) => Advice::Said(said),
+        (None, None) => Advice::Round("unexpected `", spot.token(), "`"),
+    })
+}
+
+/// What helps if no expression can go on with the text at a place, or end there.
+fn of_syntax<'a>(alloc: Global, spot: Spot<'a>) -> Result<Advice<'a>, AllocError> {
+    if !spot.rest().is_empty() {
+        return of_token(alloc, spot);
+    }
+    if let Some(advice) = of_comparison(alloc, spot, " != 0")? {
+        return Ok(advice);
+    }
+    Ok(Advice::Said(said_at_end(spot)))
+}
+
+/// What is said of an expression that ends too early.
+fn said_at_end(spot: Spot<'_>) -> &'static str {
+    operand_at(spot).unwrap_or(
+        "the expression ends too early: `and`, `or` and `not` need a term, and each `(` a `)`",
+    )
+}
+
+/// What helps at an identifier that has no qualifier.
+fn of_no_qualifier<'a>(before: &[u8]) -> Advice<'a> {
+    if without_blanks(without_last_word(before)).ends_with(b")") {
+        Advice::Said("after `(a or b)` write the qualifier again, as in `(tcp or udp) or port 53`")
+    } else {
+        Advice::Said("no qualifier to inherit: write `port 80` or `host 192.0.2.1` in full")
+    }
+}
+
+/// What helps at an address or a name with dots around the place of a fault, whatever the fault is.
+fn of_place<'a>(alloc: Global, spot: Spot<'a>) -> Found<'a> {
+    if let Some(advice) = of_ipv6(spot) {
+        return Ok(Some(advice));
+    }
+    if let Some(advice) = of_ethernet(alloc, spot)? {
+        return Ok(Some(advice));
+    }
+    of_dots(alloc, spot)
+}
+
+/// What helps to fix a text that is refused with this fault, as `parse` returns it. A word is
+/// suggested only if the text with it put in is an expression, or reads on past it. There is an
+/// advice for each fault but `NoMemory`. The error is that memory was refused, without which a
+/// suggestion cannot be tried.
+pub fn advise<'a>(
+    alloc: Global,
+    text: &'a str,
+    fault: Fault,
+) -> Result<Option<Advice<'a>>, AllocError>
+    ensures none { IfOk result (λ found. IsNone found ↔ (fault ≡ Fault.NoMemory)) }
+    ensures long { fault ≡ Fault.TextTooLong → IfOk result (λ found. IfSome found (IsSaying long_text)) }
+{
+    let Some(place) = fault.place() else {
+        return Ok(without_place(fault));
+    };
+    let spot = Spot::new(text, place);
+    match of_place(alloc, spot)? {
+        Some(advice) => Ok(Some(advice)),
+        None => Ok(Some(of_fault(alloc, spot, fault)?)),
+    }
+}
+
+/// What helps at a fault that has no place.
+fn without_place(fault: Fault) -> Option<Advice<'static>>
+    ensures none { IsNone result ↔ (fault ≡ Fault.NoMemory) }
+    ensures long { fault ≡ Fault.TextTooLong → IfSome result (IsSaying long_text) }
+{
+    match fault {
+        Fault::NoMemory => None,
+        _ => Some(Advice::Said(sentence(fault))),
+    }
+}
+
+/// What helps at the place of a fault.
+fn of_fault<'a>(alloc: Global, spot: Spot<'a>, fault: Fault) -> Result<Advice<'a>, AllocError> {
+    match fault {
+        Fault::BadByte(_) => of_byte(alloc, spot),
+        Fault::BadWord(_) => of_word(alloc, spot),
+        Fault::BadNumber(_) => Ok(of_number(first_word(spot.rest()))),
+        Fault::Syntax(_) => of_syntax(alloc, spot),
+        Fault::NoQualifier(_) => {
+            let operand = of_operand(alloc, spot)?;
+            Ok(operand.unwrap_or(of_no_qualifier(spot.before())))
+        }
+        Fault::BadQualifier(_) => Ok(of_sctp(spot).unwrap_or(Advice::Said(sentence(fault)))),
+        Fault::BadIdentifier(_) => {
+            let net = of_masked_host(alloc, spot)?;
+            Ok(net.unwrap_or(Advice::Said(sentence(fault))))
+        }
+        _ => Ok(Advice::Said(sentence(fault))),
+    }
+}
+
+/// The sentence of a fault for which it is always the same: these, and a text that is too long.
+fn sentence(fault: Fault) -> &'static str
+    ensures { fault ≡ Fault.TextTooLong → result.now ≡ long_text }
+{
+    match fault {
+        Fault::BadQualifier(_) =>
+            "these words do not go together: `(tcp and host 192.0.2.1)`, not `tcp host 192.0.2.1`",
+        Fault::BadIdentifier(_) =>
+            "`host` takes a whole address, `net` the first parts of one, `port` and `proto` a number",
+        Fault::NetBits(_) =>
+            "a net's address has no bits outside its mask: write 0 for those, or `host` before one address",
+        Fault::OutOfRange(_) =>
+            "ports are 0 to 65535, protocols 0 to 255, `ether proto` 1501 to 65535, masks 0 to 32, sizes 1, 2 or 4",
+        Fault::DivideByZero(_) => "division by zero",
+        Fault::TooNested(_) =>
+            "at most 64 of `(`, `[`, `not` and `-` may be open at once: remove parentheses",
+        _ =>
+            "an expression has at most 8192 bytes: cut it into parts, with a `bpftap cut` for each",
+    }
+}
+
+/// What helps to fix an expression that has no program: nothing at a bad snapshot length or refused
+/// memory.
+pub fn advise_refusal(refusal: Refusal) -> Option<Advice<'static>>
+    ensures some { IsSome result ↔ ((refusal ≡ Refusal.TooLong) ⊎ (refusal ≡ Refusal.TooDeep)) }
+    ensures long { refusal ≡ Refusal.TooLong → result ≡ Some LongProgram }
+    ensures deep { refusal ≡ Refusal.TooDeep → IfSome result (IsSaying deep_relation) }
+{
+    match refusal {
+        Refusal::TooLong => Some(Advice::LongProgram),
+        Refusal::TooDeep => Some(Advice::Said(DEEP_RELATION)),
+        Refusal::BadSnap | Refusal::NoMemory => None,
+    }
+}

@@ -1,0 +1,135 @@
+//! What helps at a comparison where a value follows by itself, as `port > 1024` or `host != 10.0.0.1`.
+
+use crate::advice::Found;
+use crate::choice::PORT;
+use crate::instead::{Instead, advise_instead};
+use crate::terms::is_of_comparison;
+use filter_spots::{
+    HOST, PROTO, Spot, after_blanks, first_word, port_of, ports_of, without_blanks,
+};
+use std::alloc::Global;
+
+/// Words that a value follows.
+static BEFORE_VALUES: [&[u8]; 6] = [PORT, HOST, b"net", PROTO, b"src", b"dst"];
+
+/// Words of a test before its value.
+static OF_TESTS: [&[u8]; 14] = [
+    b"ether", b"ip", b"arp", b"rarp", b"tcp", b"udp", b"icmp", b"sctp", HOST, b"net", PORT, PROTO,
+    b"src", b"dst",
+];
+
+/// Words that compare, and the sign for each.
+static WORDS: [(&[u8], &[u8]); 8] = [
+    (b"eq", b"="),
+    (b"ne", b"!="),
+    (b"neq", b"!="),
+    (b"not", b"!="),
+    (b"gt", b">"),
+    (b"lt", b"<"),
+    (b"ge", b">="),
+    (b"le", b"<="),
+];
+
+/// A sign or a word that compares, the value after it, and how many bytes both have.
+#[derive(Clone, Copy)]
+struct Compared<'a> {
+    sign: &'a [u8],
+    value: &'a [u8],
+    len: usize,
+}
+
+/// The sign that a word stands for; none if it does not compare.
+fn sign_of(word: &[u8]) -> &'static [u8] {
+    match WORDS.iter().find(|one| one.0 == word) {
+        Some(one) => one.1,
+        None => b"",
+    }
+}
+
+/// Whether a byte ends a value.
+fn ends_value(byte: &u8) -> bool {
+    matches!(
+        *byte,
+        b' ' | b'\t' | b'\r' | b'\n' | b'(' | b')' | b'&' | b'|'
+    )
+}
+
+/// The comparison at the front of a text.
+fn compared_at(text: &[u8]) -> Option<Compared<'_>> {
+    let word = first_word(text);
+    let end = if word.is_empty() {
+        text.iter().position(|byte| !is_of_comparison(byte))?
+    } else {
+        word.len()
+    };
+    let sign = if word.is_empty() {
+        text.get(..end)?
+    } else {
+        sign_of(word)
+    };
+    let rest = after_blanks(text.get(end..)?);
+    let len = rest.iter().position(ends_value).unwrap_or(rest.len());
+    Some(Compared {
+        sign,
+        value: rest.get(..len)?,
+        len: text.len().saturating_sub(rest.len()).saturating_add(len),
+    })
+}
+
+/// Where the test begins whose last word is before a place.
+fn start_of_test(spot: Spot<'_>) -> usize {
+    let mut start = spot.start_of_last();
+    for _ in 0..3 {
+        let first = spot.at(start);
+        if OF_TESTS.contains(&first.last()) {
+            start = first.start_of_last();
+        }
+    }
+    start
+}
+
+/// What helps at what compares after a word that a value follows by itself: the value without a
+/// sign, after a `not`, or the ports that are meant.
+pub(crate) fn of_compared<'a>(alloc: Global, spot: Spot<'a>) -> Found<'a> {
+    let Some(compared) = compared_at(spot.rest()) else {
+        return Ok(None);
+    };
+    if !BEFORE_VALUES.contains(&spot.last()) || compared.value.is_empty() {
+        return Ok(None);
+    }
+    let place = spot.before().len();
+    let end = place.saturating_add(compared.len);
+    let last = spot.start_of_last();
+    match compared.sign {
+        b"=" | b"==" => {
+            let instead = Instead::Valued("", spot.last(), compared.value);
+            advise_instead(alloc, spot, last, end, instead)
+        }
+        b"!=" | b"!" => {
+            let start = start_of_test(spot);
+            let test = without_blanks(spot.between(start, place));
+            let instead = Instead::Valued("not ", test, compared.value);
+            advise_instead(alloc, spot, start, end, instead)
+        }
+        _ => of_ports(alloc, spot, compared),
+    }
+}
+
+/// What helps at the sign of a comparison after `port`: the ports that it means.
+fn of_ports<'a>(alloc: Global, spot: Spot<'a>, compared: Compared<'a>) -> Found<'a> {
+    let ports = match port_of(compared.value) {
+        Some(port) if spot.last() == PORT => ports_of(compared.sign, port),
+        _ => None,
+    };
+    let Some((first, last)) = ports else {
+        return Ok(None);
+    };
+    let end = spot.before().len().saturating_add(compared.len);
+    advise_instead(
+        alloc,
+        spot,
+        spot.start_of_last(),
+        end,
+        Instead::Ports(first, last),
+    )
+}

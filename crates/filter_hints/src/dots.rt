@@ -1,0 +1,73 @@
+//! What helps at a name with dots.
+
+use crate::advice::{Advice, Found};
+use display_filters::{is_field, of_field};
+use filter_spots::{Run, Spot};
+use std::alloc::Global;
+
+/// What is said of a display filter for whose words nothing else is written here.
+const DISPLAY_FILTER: &str =
+    "this looks like a display filter of Wireshark, for which there are no words here: tshark -r IN -Y FILTER -F nsecpcap -w OUT may take it";
+
+/// How the names of captures end.
+static CAPTURES: [&[u8]; 3] = [b".pcap", b".pcapng", b".cap"];
+
+/// How the names of files end that have a listing or an expression.
+static FILTER_FILES: [&[u8]; 3] = [b".bpf", b".txt", b".filter"];
+
+/// Whether a text is a name with dots in it, which a field is and a host's name may be.
+fn has_dots(name: &[u8]) -> bool {
+    let begins = match name.first() {
+        Some(first) => first.is_ascii_alphabetic(),
+        None => false,
+    };
+    begins && name.contains(&b'.') && !name.ends_with(b".") && !name.contains(&b':')
+}
+
+/// Whether a name is that of a capture.
+fn is_capture(name: &[u8]) -> bool {
+    CAPTURES.iter().any(|end| name.ends_with(*end))
+}
+
+/// Whether a name is that of a file that has a listing or an expression.
+fn is_filter_file(name: &[u8]) -> bool {
+    FILTER_FILES.iter().any(|end| name.ends_with(*end))
+}
+
+/// What helps at a field of a display filter: what is written for it, or that there are no words.
+fn of_display_filter<'a>(alloc: Global, spot: Spot<'a>, field: Run<'a>) -> Found<'a> {
+    match of_field(alloc, spot, field)? {
+        Some(advice) => Ok(Some(Advice::Display(advice))),
+        None => Ok(Some(Advice::Said(DISPLAY_FILTER))),
+    }
+}
+
+/// What helps at a name with dots: a field, or the name of a capture, of a file with a filter, or
+/// of a host.
+pub(crate) fn of_dots<'a>(alloc: Global, spot: Spot<'a>) -> Found<'a> {
+    let run = spot.run();
+    let end = run.start.saturating_add(run.bytes.len());
+    let after = spot.at(end).rest();
+    let first = spot.at(run.start);
+    if !has_dots(run.bytes) || (first.takes_only_name() && !first.takes_address()) {
+        return Ok(None);
+    }
+    if is_capture(run.bytes) {
+        return Ok(Some(Advice::Round(
+            "`",
+            run.bytes,
+            "` is the name of a capture, and no filter: captures are the last words; cmp compares the bytes of two, and tshark -t e -x prints their packets to be compared",
+        )));
+    }
+    if is_filter_file(run.bytes) {
+        return Ok(Some(Advice::Round(
+            "`",
+            run.bytes,
+            "` is the name of a file: a listing goes after -f, and an expression is read from a file by \"$(cat FILE)\"",
+        )));
+    }
+    if first.takes_address() || !is_field(run.bytes, after) {
+        return Ok(Some(Advice::host(run.bytes)));
+    }
+    of_display_filter(alloc, spot, run)
+}
