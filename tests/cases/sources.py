@@ -98,4 +98,4 @@ def hints_know_the_words_of_the_language(scene):
     """The reader of expressions finds a word by its length, and hints suggest one by how likely it is: the words of both lists are the same."""
     words = words_in("filterlang/src/lexer/words.rt")
     scene.check("words", len(words), 38)
-    scene.check("words of the hints", words_in("filter_hints/src/nearest.rt"), words)
+    scene.check("words of the hints", words_in("filter_spots/src/nearest.rt"), words)
