@@ -19,7 +19,7 @@ use Rattle.pcap_cut.specs.declared.cut.Tally.{Tally}
 use Rattle.pcap_cut.specs.Copying.{Copied}
 use Rattle.savefile.specs.Snapshot.{effective_snaplen}
 use Rattle.pcap_cut.specs.Cut.{accepted, cut_text}
-use Rattle.pcap_cut.specs.Outcome.{AllSent, BrokeOff, StopsAtHeader, StopsBehind, StopsReading, StopsWriting, Took}
+use Rattle.pcap_cut.specs.Outcome.{AllSent, BrokeOff, StopsBehind, Took}
 use Rattle.pcap_cut.proofs.Accepted.{accepted-append}
 use Rattle.pcap_cut.proofs.Writing.{goes-further}
 

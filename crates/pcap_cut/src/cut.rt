@@ -2,11 +2,11 @@
 
 ghost use Rattle.std.specs.Prelude.{◌≡◌, ◌≢◌, ℕ, List, [], ◌∷◌, ◌++◌, Option, None, true, false, Err, IfErr, ◌↔◌, ◌+◌, ◌-◌, ◌<◌, ◌≤◌, ◌^◌};
 ghost use Rattle.std.specs.Io.KnownBytes.{Consumes};
-ghost use Rattle.savefile.specs.Savefile.{IsWritable};
+ghost use Rattle.savefile.specs.Savefile.{IsRecord, IsWritable};
 ghost use Rattle.savefile.specs.declared.header.Header.{Header};
 ghost use Rattle.savefile.specs.declared.packet.Packet.{Packet};
 ghost use Rattle.savefile.specs.declared.writing.Writer.{Writer};
-ghost use Rattle.savefile.specs.Reader.{GoesOn, HasGiven, HasRecord, IsCause, Leaves, WasBegun, WasRead};
+ghost use Rattle.savefile.specs.Reader.{GoesOn, HasEnded, HasFailed, HasGiven, HasRecord, IsCause, Leaves, WasBegun, WasRead};
 ghost use Rattle.savefile.specs.Writer.{HasWritten};
 ghost use Rattle.pcap_cut.specs.Copying.{Copied, Wrote};
 ghost use Rattle.pcap_cut.specs.Cut.{accepts, accepted};
@@ -202,9 +202,11 @@ fn copy_accepted<R: Source, W: Sink>(
     }
 }
 
-/// Goes on to the next packet, as [`Reader::advance`] does. Before the source is asked for it the
-/// sink is told to hand on what it has gathered: so whoever reads along has all that was accepted
-/// while the source is waited for, and a file is written in large pieces.
+/// Goes on to the next packet, as [`Reader::advance`] does. The sink is asked to hand on what it
+/// has gathered before the source is asked: so whoever reads along has all that was accepted while
+/// the source is waited for, and a file is written in large pieces. The contract can't say which
+/// of the two is asked first, since it compares only what is before the call with what is after
+/// it: a test with a pipe and a clock shows that.
 #[inline(always)]
 pub fn advance_flushed<R: Source, W: Sink>(
     reader: &mut Reader<R>,
@@ -220,15 +222,23 @@ pub fn advance_flushed<R: Source, W: Sink>(
         WasBegun start header packets }
     ensures writable { result ≡ Ok true → IsWritable reader.new.lent }
     ensures device { (result ≡ Err Fault.Device) ↔ (R.failures reader.new.source ≢ R.failures reader.old.source) }
+    ensures failed { (result ≡ Err Fault.Failed) ↔ HasFailed reader.old }
+    ensures count_full { (result ≡ Err Fault.CountFull) ↔ (GoesOn reader.old × (reader.old.given ≡ 2 ^ 64 - 1)) }
+    ensures ended { HasEnded reader.old → (result ≡ Ok false) × (reader.new ≡ reader.old) }
     ensures leaves { Leaves reader.old reader.new result }
+    ensures header { reader.new.header ≡ reader.old.header }
+    // The next bytes of the source are taken, and none while a whole record is ahead.
     ensures taken { (bytes : List ℕ) × Consumes (R.left reader.old.source) (R.left reader.new.source) bytes }
-    // What was written stays, and while a record waits nothing is handed on.
+    ensures idle { (p : Packet) (after : List ℕ) →
+        IsRecord reader.old.header.order reader.old.header.unit reader.old.ahead p after →
+        reader.new.source ≡ reader.old.source }
+    // What was written stays, and while a whole record is ahead nothing is handed on.
     ensures written { (start : Option (List ℕ)) (order : Order) (unit : Unit) (head : ℕ) (packets : List Packet) →
         HasWritten W.taken start order unit head packets writer.old → HasWritten W.taken start order unit head packets writer.new }
     ensures sink_works { W.failures writer.new.sink ≡ W.failures writer.old.sink }
     ensures named { W.name writer.new.sink ≡ W.name writer.old.sink }
     ensures ahead { GoesOn reader.old × (reader.old.given ≢ 2 ^ 64 - 1) × HasRecord reader.old.header reader.old.ahead → writer.new ≡ writer.old }
-    // If none waits, the source is asked, and nothing that was written is held back.
+    // If no whole record is ahead, nothing waits in the sink afterwards.
     ensures handed_on { (GoesOn reader.old × (reader.old.given ≢ 2 ^ 64 - 1) × HasRecord reader.old.header reader.old.ahead → ⊥) → W.waits writer.new.sink ≡ false }
 {
     given_so_far(reader);
