@@ -26,7 +26,7 @@ pub record HasTaken {W : Type 0} (taken : W → Option (List ℕ)) (name : W →
   pub broke : (outlet.written ≡ Err Device) ↔ (failures outlet.writer.sink ≢ failures part.sink)
   pub named : name outlet.writer.sink ≡ name part.sink
 
--- the same, and its sink was told to hand on all that it took
+-- the same, and its sink was asked to hand on all that it took
 abbrev pub HasHandedOn : {W : Type 0} → (W → Option (List ℕ)) → (W → List ℕ) → (W → ℕ) → (W → Bool) → Order → TimeUnit → List Packet → Part W → Outlet W → Type 0
 HasHandedOn taken name failures waits order unit packets part outlet =
     HasTaken taken name failures order unit packets part outlet × (waits outlet.writer.sink ≡ false)

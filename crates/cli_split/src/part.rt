@@ -118,7 +118,7 @@ pub(crate) fn give_all<W: Sink>(outlets: &mut Vec<Outlet<W>>, packet: &PacketRef
     }
 }
 
-/// Tells the sink of a part to hand on what it has gathered.
+/// Asks the sink of a part to hand on what it has gathered.
 fn hand_on<W: Sink>(outlet: &mut Outlet<W>)
     ensures { (order : Order) (unit : Unit) (packets : List Packet) (part : Part W) →
         HasTaken W.taken W.name W.failures order unit packets part outlet.old → HasHandedOn W.taken W.name W.failures W.waits order unit packets part outlet.new }
@@ -126,7 +126,7 @@ fn hand_on<W: Sink>(outlet: &mut Outlet<W>)
     outlet.writer.flush();
 }
 
-/// Tells the sinks of all parts to hand on what they have gathered.
+/// Asks the sinks of all parts to hand on what they have gathered.
 pub(crate) fn hand_on_all<W: Sink>(outlets: &mut Vec<Outlet<W>>)
     ensures { (order : Order) (unit : Unit) (packets : List Packet) (parts : List (Part W)) →
         AllZip (HasTaken W.taken W.name W.failures order unit packets) parts outlets.old.items →

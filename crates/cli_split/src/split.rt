@@ -7,8 +7,8 @@ ghost use Rattle.savefile.specs.declared.header.Header.{Header};
 ghost use Rattle.savefile.specs.declared.header.Order.{Order};
 ghost use Rattle.savefile.specs.declared.header.Unit.{Unit};
 ghost use Rattle.savefile.specs.declared.packet.Packet.{Packet};
-ghost use Rattle.savefile.specs.Reader.{GoesOn as HasMore, HasGiven, HasRecord, IsCause, Lends, WasBegun, WasRead};
-ghost use Rattle.savefile.specs.Savefile.{IsWritable};
+ghost use Rattle.savefile.specs.Reader.{GoesOn as HasMore, HasEnded, HasFailed, HasGiven, HasRecord, IsCause, Leaves, Lends, WasBegun, WasRead};
+ghost use Rattle.savefile.specs.Savefile.{IsRecord, IsWritable};
 ghost use Rattle.cli_split.specs.Reading.{GaveSo, HasOpened, ReadsOne, ReadsAll, ReadsSoFar, end_of};
 ghost use Rattle.cli_split.specs.Splitting.{HasRoom, Splits, passes_header};
 ghost use Rattle.cli_split.specs.Standing.{GoesOn, HasHandedOn, HasParts, HasSplit};
@@ -58,8 +58,10 @@ struct Splitter<W> {
 }
 
 impl<W: Sink> Splitter<W> {
-    /// Goes on to the next packet of a capture, as [`Reader::advance`] does. Before the source is asked for it all sinks are told to hand on what
-    /// they have gathered: so whoever reads a part along has all that it was given while the source is waited for, and files are written in large pieces.
+    /// Goes on to the next packet of a capture, as [`Reader::advance`] does. All sinks are asked to hand on what they have gathered before the source
+    /// is asked: so whoever reads a part along has all that it was given while the source is waited for, and files are written in large pieces. The
+    /// contract can't say who is asked first, since it compares only what is before the call with what is after it: a test with a pipe and a clock
+    /// shows that.
     #[inline(always)]
     fn advance_flushed<R: Source>(&mut self, reader: &mut Reader<R>) -> Result<bool, Fault>
         ensures packet { (start : Option (List ℕ)) (header : Header) (packets : List Packet) → HasGiven R.left start header packets reader.old →
@@ -73,13 +75,21 @@ impl<W: Sink> Splitter<W> {
         ensures writable { result ≡ Ok true → IsWritable reader.new.lent }
         ensures lends { result ≡ Ok true → Lends reader.new }
         ensures device { (result ≡ Err Fault.Device) ↔ (R.failures reader.new.source ≢ R.failures reader.old.source) }
+        ensures failed { (result ≡ Err Fault.Failed) ↔ HasFailed reader.old }
+        ensures count_full { (result ≡ Err Fault.CountFull) ↔ (HasMore reader.old × (reader.old.given ≡ 2 ^ 64 - 1)) }
+        ensures ended { HasEnded reader.old → (result ≡ Ok false) × (reader.new ≡ reader.old) }
+        ensures leaves { Leaves reader.old reader.new result }
+        ensures header { reader.new.header ≡ reader.old.header }
+        // The next bytes of the source are taken, and none while a whole record is ahead.
         ensures taken { (bytes : List ℕ) × Consumes (R.left reader.old.source) (R.left reader.new.source) bytes }
-        // What was written stays, and while a record waits nothing is handed on.
+        ensures idle { (p : Packet) (after : List ℕ) → IsRecord reader.old.header.order reader.old.header.unit reader.old.ahead p after →
+            reader.new.source ≡ reader.old.source }
+        // What was written stays, and while a whole record is ahead nothing is handed on.
         ensures read { self.new.read ≡ self.old.read }
         ensures written { (order : Order) (unit : Unit) (packets : List Packet) (parts : List (Part W)) →
             HasSplit W.taken W.name W.failures order unit packets parts self.old → HasSplit W.taken W.name W.failures order unit packets parts self.new }
         ensures ahead { HasMore reader.old × (reader.old.given ≢ 2 ^ 64 - 1) × HasRecord reader.old.header reader.old.ahead → self.new ≡ self.old }
-        // If none waits, the source is asked, and of no part is held back what was written.
+        // If no whole record is ahead, nothing waits in the sink of any part afterwards.
         ensures handed_on { (HasMore reader.old × (reader.old.given ≢ 2 ^ 64 - 1) × HasRecord reader.old.header reader.old.ahead → ⊥) →
             (order : Order) (unit : Unit) (packets : List Packet) (parts : List (Part W)) → HasSplit W.taken W.name W.failures order unit packets parts self.old →
             AllZip (HasHandedOn W.taken W.name W.failures W.waits order unit packets) parts self.new.outlets.items }
