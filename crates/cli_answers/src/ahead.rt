@@ -13,7 +13,8 @@ use std::io::Write;
 /// Goes on to the next packet, as [`Reader::advance`] does. Before the source is asked for it the
 /// output hands on what it has gathered: so whoever reads along has all that was printed while the
 /// source is waited for, and of a file it is printed in large pieces. What can't be handed on stays
-/// with the output, whose next error is that.
+/// with the output, whose next error is that. No clause says that nothing waits afterwards, since
+/// contracts know of no `Write` whether bytes wait in it.
 #[inline(always)]
 pub fn advance_flushed<R: Source, O: Write>(
     reader: &mut Reader<R>,
