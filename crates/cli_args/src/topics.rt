@@ -45,7 +45,14 @@ answers. docs/LANGUAGE.md has the grammar and the meaning of each test.
 ";
 
 /// The names of the page on expressions.
-static EXPRESSION_NAMES: [&str; 5] = ["expressions", "expression", "filters", "language", "syntax"];
+static EXPRESSION_NAMES: [&str; 6] = [
+    "expressions",
+    "expression",
+    "filters",
+    "filter",
+    "language",
+    "syntax",
+];
 
 /// The page that the arguments ask for, the program's name first: by `help` and a name of the page.
 pub(crate) fn topic_of<S: AsStr>(words: &[S]) -> Option<&'static str> {
