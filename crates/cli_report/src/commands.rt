@@ -6,16 +6,15 @@ use crate::stream::{HintSink, give_hint};
 use std::convert::AsStr;
 
 /// How to do what commands of other tools do, by the name that one may try.
-static WAYS: [(&str, &str); 54] = [
+static WAYS: [(&str, &str); 59] = [
     ("count", COUNTS),
-    (
-        "filter",
-        "to keep what a filter accepts: bpftap cut -s 0 -e EXPR IN OUT",
-    ),
-    (
-        "extract",
-        "to keep what a filter accepts: bpftap cut -s 0 -e EXPR IN OUT",
-    ),
+    ("filter", KEPT),
+    ("extract", KEPT),
+    ("expressions", LANGUAGE),
+    ("expression", LANGUAGE),
+    ("filters", LANGUAGE),
+    ("language", LANGUAGE),
+    ("syntax", LANGUAGE),
     ("read", LOOK),
     ("grep", LOOK),
     ("why", LOOK),
@@ -93,6 +92,12 @@ static WAYS: [(&str, &str); 54] = [
     ("anonymise", OTHER_ADDRESSES),
 ];
 
+/// How to write what a filter accepts.
+const KEPT: &str = "to keep what a filter accepts: bpftap cut -s 0 -e EXPR IN OUT";
+
+/// Where the filter language is explained.
+const LANGUAGE: &str = "the filter language on one page: bpftap help expressions";
+
 /// How to look at packets.
 const LOOK: &str = "to look at packets: bpftap explain -e EXPR IN";
 
@@ -143,7 +148,7 @@ static OPTION_WAYS: [(&str, &str); 30] = [
     ("-A", BETWEEN_TIMES),
     ("-B", BETWEEN_TIMES),
     ("-r", WITHOUT_OPTION),
-    ("-w", WITHOUT_OPTION),
+    ("-w", KEPT),
     ("-n", "addresses are never looked up: leave this option out"),
     (
         "-nn",
@@ -154,8 +159,8 @@ static OPTION_WAYS: [(&str, &str); 30] = [
     ("-c", COUNTS),
     ("--count", COUNTS),
     ("-X", BYTES),
-    ("-o", OUT_IS_A_WORD),
-    ("--output", OUT_IS_A_WORD),
+    ("-o", KEPT),
+    ("--output", KEPT),
     ("-l", MATCHING),
     ("-v", IN_FULL),
     ("--verbose", IN_FULL),
@@ -191,8 +196,18 @@ const OBJECTS: &str =
 const PIECES: &str =
     "in pieces: editcap -c PACKETS -F nsecpcap IN OUT, or -i SECONDS in place of -c PACKETS";
 
-/// How filters are given to `split`.
+/// How filters are given to `split`, and each OUT.
 const FILTERS_OF_SPLIT: &str = "filters are in LINES: SNAP OUT EXPRESSION";
+
+/// How filters are given to `run`, and each OUT.
+const FILTERS_OF_RUN: &str =
+    "filters are in LISTENERS: INTERFACE FLUSH SNAP CAPACITY SPARES OUT EXPRESSION";
+
+/// How `join` is called.
+const WORDS_OF_JOIN: &str = "join takes two words and no option: bpftap join LINES OUT";
+
+/// How a capture is written, for `explain` and `info`, which write none.
+const CUT_WRITES: &str = "cut writes a capture: bpftap cut -s 0 -e EXPR IN OUT";
 
 /// How to keep the packets between two times.
 const BETWEEN_TIMES: &str =
@@ -213,14 +228,17 @@ fn way_of(ways: &[(&'static str, &'static str)], name: &str) -> Option<&'static 
 }
 
 /// The command among the arguments: the one after the program's name.
-fn command_of<S: AsStr>(words: &[S]) -> Option<&str> {
+pub fn command_of<S: AsStr>(words: &[S]) -> Option<&str> {
     Some(words.get(1)?.as_str())
 }
 
 /// How to do what the name of a command that there is not stands for in other tools, if that is
-/// known; the program's name comes first.
+/// known; the program's name comes first. After `help` it is the name that help is wanted on.
 pub fn command_way<S: AsStr>(words: &[S]) -> Option<&'static str> {
     let command = command_of(words)?;
+    if command == "help" {
+        return way_of(&WAYS, words.get(2)?.as_str());
+    }
     if is_capture_name(&command) {
         return Some("a command comes first: bpftap info IN, bpftap explain -e EXPR IN");
     }
@@ -241,13 +259,55 @@ fn takes_option<S: AsStr>(words: &[S], option: &str) -> bool {
     )
 }
 
+/// Where filters go that a command does not take among its arguments, by the name of the command;
+/// `None` for one that takes a filter.
+pub fn way_of_filter(command: &str) -> Option<&'static str> {
+    match command {
+        "split" => Some(FILTERS_OF_SPLIT),
+        "steps" => Some("filters are in LISTENERS: SNAP CAPACITY EXPRESSION"),
+        "run" => Some(FILTERS_OF_RUN),
+        "info" => Some("info takes no filter: bpftap explain -c -e EXPR IN"),
+        "parts" => Some(
+            "parts takes no filter: give it with each part, bpftap cut --bytes FIRST-END -s 0 -e EXPR IN OUT",
+        ),
+        "join" => Some(WORDS_OF_JOIN),
+        _ => None,
+    }
+}
+
+/// What is said of a file that a command is asked to write by an option that it does not have.
+fn way_of_output(command: &str) -> Option<&'static str> {
+    match command {
+        "cut" => Some(OUT_IS_A_WORD),
+        "split" => Some(FILTERS_OF_SPLIT),
+        "run" => Some(FILTERS_OF_RUN),
+        "join" => Some(WORDS_OF_JOIN),
+        "explain" | "info" => Some(CUT_WRITES),
+        "compare" => Some("without IN, -w OUT writes a packet that shows the difference"),
+        "check" => Some("check prints to standard output: bpftap check EXPR > FILE"),
+        _ => None,
+    }
+}
+
+/// How to do with a command what an option does that another one has.
+fn way_of_command(command: &str, option: &str) -> Option<&'static str> {
+    match (command, option) {
+        ("compare", "-e") => Some("compare takes its expressions as words, without -e"),
+        ("parts", "-n") => Some("parts takes N as a word: bpftap parts 4 IN"),
+        (_, "-e" | "-f") => way_of_filter(command),
+        (_, "-w" | "-o" | "--output") => way_of_output(command),
+        _ => None,
+    }
+}
+
 /// How to do what an option of another tool, or of another command, does.
 fn way_of_option<S: AsStr>(words: &[S], option: &str) -> Option<&'static str> {
-    match (command_of(words), option) {
-        (Some("split"), "-e") => Some(FILTERS_OF_SPLIT),
-        (Some("compare"), "-e") => Some("compare takes its expressions as words, without -e"),
-        _ if takes_option(words, option) => None,
-        _ => way_of(&OPTION_WAYS, option),
+    if takes_option(words, option) {
+        return None;
+    }
+    match way_of_command(command_of(words)?, option) {
+        Some(way) => Some(way),
+        None => way_of(&OPTION_WAYS, option),
     }
 }
 
@@ -292,6 +352,18 @@ pub fn hint_option<S: AsStr, E: HintSink>(words: &[S], err: &mut E)
     }
 }
 
+/// A hint on the value of an option that does not take it: the name of a capture after `-o`, which
+/// takes the order of bytes.
+pub fn hint_value<S: AsStr, E: HintSink>(words: &[S], err: &mut E)
+    ensures quiet { E.takes_hints err.old ≡ false → err.new ≡ err.old }
+{
+    if gives_capture(words, "-o") {
+        if let Some(hint) = way_of_output(command_of(words).unwrap_or("")) {
+            give_hint(hint, err);
+        }
+    }
+}
+
 /// Whether one of the arguments is this word.
 fn has_word<S: AsStr>(words: &[S], wanted: &str) -> bool {
     words.iter().any(|word| word.as_str() == wanted)
@@ -318,7 +390,7 @@ fn hint_missing_of_cut<S: AsStr, E: HintSink>(words: &[S], err: &mut E)
 }
 
 /// A hint on arguments of which one is missing: of `cut` the snapshot length, or OUT if packets
-/// are only counted; of `explain` the filter, or IN.
+/// are only counted; of `explain` the filter, or IN; of others IN, or the word before it.
 pub fn hint_missing<S: AsStr, E: HintSink>(words: &[S], err: &mut E)
     ensures quiet { E.takes_hints err.old ≡ false → err.new ≡ err.old }
 {
@@ -328,16 +400,48 @@ pub fn hint_missing<S: AsStr, E: HintSink>(words: &[S], err: &mut E)
         give_hint(every_packet(words), err)
     } else if lacks_capture(words) {
         give_hint("IN is missing: the name of a capture, or /dev/stdin", err)
+    } else if let Some(hint) = missing_word(words) {
+        give_hint(hint, err)
     }
 }
 
-/// Whether these are arguments of `explain` with a filter, or of `info`, and without a capture.
+/// How many of the arguments are no options.
+fn count_plain<S: AsStr>(words: &[S]) -> usize {
+    let mut count: usize = 0;
+    for word in words.iter().skip(2) {
+        if !word.as_str().starts_with("-") {
+            count = count.saturating_add(1);
+        }
+    }
+    count
+}
+
+/// Whether these are arguments without a capture: of `explain` with a filter, of `info`, or of
+/// another command with all the words that come before IN.
 fn lacks_capture<S: AsStr>(words: &[S]) -> bool {
     let has_filter = has_word(words, "-e") || has_word(words, "-f");
+    let has_capture = words.iter().any(is_capture_name);
     match command_of(words) {
-        Some("explain") => has_filter && !words.iter().any(is_capture_name),
+        Some("explain") => has_filter && !has_capture,
         Some("info") => true,
+        Some("split" | "run") => count_plain(words) == 1 && !has_capture,
+        Some("steps") => count_plain(words) == 2 && !has_capture,
         _ => false,
+    }
+}
+
+/// What is said of a word that is missing: of `parts` and `join` the last one, of `parts` and
+/// `split` the one before IN.
+fn missing_word<S: AsStr>(words: &[S]) -> Option<&'static str> {
+    let has_capture = words.iter().any(is_capture_name);
+    match (command_of(words)?, count_plain(words), has_capture) {
+        ("parts", 1, false) => Some("IN is missing: the name of a capture"),
+        ("parts", 1, true) => Some("N is missing, how many parts there are: bpftap parts 4 IN"),
+        ("join", 1, false) => Some("OUT is missing: the capture that join writes"),
+        ("split", 1, true) => Some(
+            "LINES is missing, a file of which each line is SNAP OUT EXPRESSION",
+        ),
+        _ => None,
     }
 }
 
@@ -358,7 +462,7 @@ fn is_number(word: &str) -> bool {
 }
 
 /// Whether a word is the name of a capture.
-fn is_capture_name<S: AsStr>(word: &S) -> bool {
+pub fn is_capture_name<S: AsStr>(word: &S) -> bool {
     word.as_str().ends_with(".pcap")
 }
 
@@ -385,20 +489,18 @@ fn counts_by_number<S: AsStr>(words: &[S]) -> bool {
     })
 }
 
-/// What is said of the name of a file of lines that is such a line, or an expression: a name with a
-/// blank in it.
+/// What is said of the name of a file of lines that is such a line: a name with a blank in it.
 fn line_way<S: AsStr>(words: &[S]) -> Option<&'static str> {
     let command = command_of(words)?;
     let (first, _) = words.get(2)?.as_str().split_once(" ")?;
     match command {
         "steps" | "split" | "run" if is_number(first) => Some("this is a line: put it into a file"),
-        "split" => Some("LINES is a file, of which each line is SNAP OUT EXPRESSION"),
         _ => None,
     }
 }
 
 /// Hints on arguments with which a command failed to open a file: a `-` that was meant as a stream,
-/// a number after `-c`, or a line or an expression in place of a file of lines.
+/// a number after `-c`, or a line in place of a file of lines.
 pub fn hint_failed_words<S: AsStr, E: HintSink>(words: &[S], err: &mut E)
     ensures quiet { E.takes_hints err.old ≡ false → err.new ≡ err.old }
 {
