@@ -34,6 +34,7 @@ HELP = [
     ("-V", f"bpftap {VERSION}, ".encode()),
     ("--help", b"Examples:\n"),
     ("help cut", b"[default: little]"),
+    ("help filter", b"Filter expressions say which packets are wanted."),
     ("cut -h", b"[default: micro]"),
     ("run -h", b"INTERFACE FLUSH SNAP CAPACITY SPARES OUT EXPRESSION"),
 ]
@@ -72,6 +73,7 @@ POINTED = [
     ("stat in.pcap", b"bpftap info IN"), ("repair in.pcap", b"bpftap info IN"), ("dot ip", b"bpftap check --dot EXPR"), ("draw ip", b"bpftap check --dot EXPR"),
     ("slice in.pcap", b"editcap -A START -B STOP"), ("trim in.pcap", b"editcap -A START -B STOP"), ("sort in.pcap", b"reordercap IN OUT"),
     ("export in.pcap", b"bpftap explain --json -e EXPR IN"), ("hex in.pcap", b"-p PLACE -e '' IN"), ("bytes in.pcap", b"-p PLACE -e '' IN"),
+    ("expressions", b"bpftap help expressions"), ("language", b"bpftap help expressions"), ("help merge", b"mergecap"),
     ("sniff", b"tcpdump -i INTERFACE -w OUT"), ("anonymize in.pcap", b"tcprewrite"), ("anonymise in.pcap", b"tcprewrite"),
 ]
 
@@ -86,7 +88,7 @@ WORDS_OF_OTHERS = [
     ("cut -s 0 -A 2026-11-24 in.pcap out.pcap", 1,
      ["to keep packets between two times: editcap -A START -B STOP -F nsecpcap IN OUT"]),
     ("explain -r in.pcap", 1, [WITHOUT_OPTION]),
-    ("explain -e ip -w out.pcap in.pcap", 1, [WITHOUT_OPTION]),
+    ("explain -e ip -w out.pcap in.pcap", 1, ["cut writes a capture: bpftap cut -s 0 -e EXPR IN OUT"]),
     ("cut -s 0 in.pcap -w out.pcap", 0, []),
     ("compare -w out.pcap -z tcp udp", 1, []),
     ("explain -m 10 -e ip in.pcap", 1, ["to keep the first ten packets: editcap -r -F nsecpcap IN OUT 1-10"]),

@@ -21,13 +21,13 @@ use cli_cut::command::{check_command, cut_command};
 use cli_cut::part::cut_part_command;
 use cli_explain::command::explain_command;
 use cli_files::late::reserve_std_fd;
-use cli_filter_hints::quotes::{hint_listing_word, hint_unquoted};
+use cli_filter_hints::quotes::{hint_filter_word, hint_listing_word, hint_unquoted};
 use cli_graph::command::graph_command;
 use cli_info::command::info_command;
 use cli_parts::join::join_command;
 use cli_parts::parts::parts_command;
 use cli_report::commands::{
-    command_way, hint_dash_output, hint_failed_words, hint_missing, hint_option,
+    command_way, hint_dash_output, hint_failed_words, hint_missing, hint_option, hint_value,
 };
 use cli_report::stream::give_hint;
 use cli_report::{ErrorStream, HintSink};
@@ -60,6 +60,7 @@ pub fn run<
     if status == Status::Failed {
         hint_failed_words(words, err);
         hint_listing_word(rt.alloc(), words, err);
+        hint_filter_word(words, err);
     }
     status
 }
@@ -89,7 +90,10 @@ fn dispatch<
             let status = count(rt, &asked, out, err);
             hint_several(rt.alloc(), words, asked.inputs.as_slice(), status, err)
         }
-        Ok(Request::Compare(asked)) => compare(rt, &asked, out, err),
+        Ok(Request::Compare(asked)) => {
+            let status = compare(rt, &asked, out, err);
+            hint_words(rt.alloc(), words, status, err)
+        }
         Ok(Request::Cut(asked)) => {
             let status = cut(rt, &asked, out, err);
             if status == Status::Clean || status == Status::Damaged {
@@ -242,6 +246,20 @@ fn parts<R: Files + AllocGlobal, O: Write, W: Write>(
     parts_command(rt, words, out, err)
 }
 
+/// Hints on arguments that look like an expression without quotes, if the command failed. Returns
+/// the exit status.
+fn hint_words<S: AsStr, E: HintSink>(
+    alloc: Global,
+    words: &[S],
+    status: Status,
+    err: &mut E,
+) -> Status {
+    if status == Status::Refused || status == Status::Failed {
+        hint_unquoted(alloc, words, err);
+    }
+    status
+}
+
 /// Hints on arguments of which several are taken for captures, if the command failed: they may be
 /// an expression without quotes. Returns the exit status.
 fn hint_several<S: AsStr, E: HintSink>(
@@ -251,10 +269,11 @@ fn hint_several<S: AsStr, E: HintSink>(
     status: Status,
     err: &mut E,
 ) -> Status {
-    if inputs.len() > 1 && (status == Status::Refused || status == Status::Failed) {
-        hint_unquoted(alloc, words, err);
+    if inputs.len() > 1 {
+        hint_words(alloc, words, status, err)
+    } else {
+        status
     }
-    status
 }
 
 /// The error of arguments as it is printed: of a command of other tools it has the way to do the
@@ -281,10 +300,10 @@ fn report_usage<S: AsStr, O: Write, E: HintSink>(
     match error.kind() {
         ErrorKind::UnknownArgument => {
             hint_option(words, err);
-            if may_lack_quotes(words) {
-                hint_unquoted(alloc, words, err)
-            }
+            hint_unquoted(alloc, words, err)
         }
+        ErrorKind::ArgumentConflict => hint_unquoted(alloc, words, err),
+        ErrorKind::InvalidValue => hint_value(words, err),
         ErrorKind::TooManyValues => {
             hint_failed_words(words, err);
             hint_unquoted(alloc, words, err)
@@ -314,35 +333,6 @@ fn hint_expression_for_command<S: AsStr, E: HintSink>(words: &[S], err: &mut E) 
             );
         }
     }
-}
-
-/// Whether a word is the name of a capture, or of standard input.
-fn names_capture<S: AsStr>(word: &S) -> bool {
-    let word = word.as_str();
-    word == "-" || word.ends_with(".pcap") || word.ends_with(".cap")
-}
-
-/// Whether a word is an option.
-fn is_option<S: AsStr>(word: &S) -> bool {
-    word.as_str().starts_with("-")
-}
-
-/// Whether an expression among these arguments may lack quotes: `compare` takes two that are a word
-/// each.
-fn may_lack_quotes<S: AsStr>(words: &[S]) -> bool {
-    let Some(command) = words.get(1) else {
-        return false;
-    };
-    let mut count: usize = 0;
-    for word in words.iter().skip(2) {
-        if names_capture(word) {
-            break;
-        }
-        if !is_option(word) {
-            count = count.saturating_add(1);
-        }
-    }
-    command.as_str() != "compare" || count > 2
 }
 
 /// Hints on arguments of which one is missing.
