@@ -95,7 +95,7 @@ fn ask<'a>(
 /// `packet` is the captured bytes, and `wire` the packet's original length. The right operand of
 /// `and` is asked only after a Yes, that of `or` only after a No. The empty expression is listed
 /// itself, with its answer Yes. The last one decides: its answer, turned if it is negated, is what
-/// [`evaluate`](filtergen::evaluate) returns for the expression.
+/// [`evaluate`](filter_meaning::evaluate) returns for the expression.
 ///
 /// `NoMemory` if memory for the list was refused.
 pub fn explain<'a>(

@@ -24,64 +24,64 @@ impl AskedPart<'_> {
     }
 }
 
-/// The part of an expression that decides on a packet, and what the larger part that holds it
-/// answers.
-#[derive(Clone, Copy)]
-struct Decided<'a> {
-    asked: AskedPart<'a>,
-    verdict: Verdict,
-}
-
-/// A primitive or a relation decides for itself.
+/// Asks a primitive or a relation, which is then the last one that was asked.
 #[inline(never)]
-fn decide_part<'a>(part: &'a Expr, negated: bool, frame: &Frame<'_>) -> Decided<'a>
-    ensures asked { question_of result.asked ≡ question negated (tree_of part.now) (packet frame.now) }
-    ensures verdict { result.verdict ≡ meaning (tree_of part.now) (packet frame.now) }
+fn decide_part<'a>(
+    part: &'a Expr,
+    negated: bool,
+    frame: &Frame<'_>,
+    last: &mut AskedPart<'a>,
+) -> Verdict
+    ensures last { question_of last.new ≡ question negated (tree_of part.now) (packet frame.now) }
+    ensures verdict { result ≡ meaning (tree_of part.now) (packet frame.now) }
 {
     let verdict = evaluate(part, frame.bytes, frame.wire);
     let cause = cause_of(part, verdict, frame);
-    let asked = AskedPart {
+    *last = AskedPart {
         part,
         negated,
         verdict,
         cause,
     };
-    Decided { asked, verdict }
+    verdict
 }
 
-/// Asks the parts of an expression, of whatever form, up to the one that decides.
+/// Asks the parts of an expression, of whatever form, up to the one that decides. It returns no
+/// more than an answer, since each level of an expression has one on the stack.
 #[inline(never)]
 #[cycle(decide)]
-fn decide_in_compound<'a>(expr: &'a Expr, negated: bool, frame: &Frame<'_>) -> Decided<'a>
-    ensures last { IsLast (question_of result.asked) (questions negated (tree_of expr.now) (packet frame.now)) }
-    ensures verdict { result.verdict ≡ meaning (tree_of expr.now) (packet frame.now) }
-    ensures decides { turned negated result.verdict ≡ turned result.asked.negated result.asked.verdict }
+fn decide_in_compound<'a>(
+    expr: &'a Expr,
+    negated: bool,
+    frame: &Frame<'_>,
+    last: &mut AskedPart<'a>,
+) -> Verdict
+    ensures last { IsLast (question_of last.new) (questions negated (tree_of expr.now) (packet frame.now)) }
+    ensures verdict { result ≡ meaning (tree_of expr.now) (packet frame.now) }
+    ensures decides { turned negated result ≡ turned last.new.negated last.new.verdict }
 {
     match expr {
-        Expr::Everything => decide_part(expr, negated, frame),
-        Expr::Test(_) => decide_part(expr, negated, frame),
-        Expr::Relation(_, _, _) => decide_part(expr, negated, frame),
+        Expr::Everything => decide_part(expr, negated, frame, last),
+        Expr::Test(_) => decide_part(expr, negated, frame, last),
+        Expr::Relation(_, _, _) => decide_part(expr, negated, frame, last),
         Expr::Not(operand) => {
-            let decided = decide_in(operand, !negated, frame);
-            Decided {
-                asked: decided.asked,
-                verdict: decided.verdict.opposite(),
-            }
+            let verdict = decide_in(operand, !negated, frame, last);
+            verdict.opposite()
         }
         Expr::And(left, right) => {
-            let decided = decide_in(left, negated, frame);
-            match decided.verdict {
-                Verdict::Yes => decide_in(right, negated, frame),
-                Verdict::No => decided,
-                Verdict::Abort => decided,
+            let verdict = decide_in(left, negated, frame, last);
+            match verdict {
+                Verdict::Yes => decide_in(right, negated, frame, last),
+                Verdict::No => verdict,
+                Verdict::Abort => verdict,
             }
         }
         Expr::Or(left, right) => {
-            let decided = decide_in(left, negated, frame);
-            match decided.verdict {
-                Verdict::Yes => decided,
-                Verdict::No => decide_in(right, negated, frame),
-                Verdict::Abort => decided,
+            let verdict = decide_in(left, negated, frame, last);
+            match verdict {
+                Verdict::Yes => verdict,
+                Verdict::No => decide_in(right, negated, frame, last),
+                Verdict::Abort => verdict,
             }
         }
     }
@@ -91,14 +91,19 @@ fn decide_in_compound<'a>(expr: &'a Expr, negated: bool, frame: &Frame<'_>) -> D
 /// takes one call.
 #[inline(always)]
 #[cycle(decide)]
-fn decide_in<'a>(expr: &'a Expr, negated: bool, frame: &Frame<'_>) -> Decided<'a>
-    ensures last { IsLast (question_of result.asked) (questions negated (tree_of expr.now) (packet frame.now)) }
-    ensures verdict { result.verdict ≡ meaning (tree_of expr.now) (packet frame.now) }
-    ensures decides { turned negated result.verdict ≡ turned result.asked.negated result.asked.verdict }
+fn decide_in<'a>(
+    expr: &'a Expr,
+    negated: bool,
+    frame: &Frame<'_>,
+    last: &mut AskedPart<'a>,
+) -> Verdict
+    ensures last { IsLast (question_of last.new) (questions negated (tree_of expr.now) (packet frame.now)) }
+    ensures verdict { result ≡ meaning (tree_of expr.now) (packet frame.now) }
+    ensures decides { turned negated result ≡ turned last.new.negated last.new.verdict }
 {
     match expr {
-        Expr::Test(_) => decide_part(expr, negated, frame),
-        _ => decide_in_compound(expr, negated, frame),
+        Expr::Test(_) => decide_part(expr, negated, frame, last),
+        _ => decide_in_compound(expr, negated, frame, last),
     }
 }
 
@@ -106,7 +111,7 @@ fn decide_in<'a>(expr: &'a Expr, negated: bool, frame: &Frame<'_>) -> Decided<'a
 /// [`explain`](crate::explain) lists. It takes no memory.
 ///
 /// `packet` is the captured bytes, and `wire` the packet's original length. Its
-/// [`AskedPart::answer`] is what [`evaluate`](filtergen::evaluate) returns for the whole
+/// [`AskedPart::answer`] is what [`evaluate`](filter_meaning::evaluate) returns for the whole
 /// expression.
 pub fn decide<'a>(expr: &'a Expr, packet: &[u8], wire: u32) -> AskedPart<'a>
     ensures last { IsLast (question_of result) (questions false (tree_of expr.now) (packet_of packet.now wire)) }
@@ -116,5 +121,12 @@ pub fn decide<'a>(expr: &'a Expr, packet: &[u8], wire: u32) -> AskedPart<'a>
         bytes: packet,
         wire,
     };
-    decide_in(expr, false, &frame).asked
+    let mut last = AskedPart {
+        part: expr,
+        negated: false,
+        verdict: Verdict::Yes,
+        cause: None,
+    };
+    decide_in(expr, false, &frame, &mut last);
+    last
 }

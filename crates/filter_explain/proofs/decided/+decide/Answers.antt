@@ -12,7 +12,7 @@ decide_in_compound-returns-in-Yes-clause-last t c =
     let first = tree_of c.deref-in-And.result.now in
     let second = tree_of c.deref-in-Yes.result.now in
     rw (c.in-And.is, sym c.deref-in-And.ensures, sym c.deref-in-Yes.ensures) (last_yes (questions c.args.negated first p) (questions c.args.negated second p) (meaning first p) _
-    (sym c.decide_in-decided-in-And.ensures.verdict ∙ c.in-Yes.is) c.decide_in.ensures.last)
+    (sym c.decide_in-verdict-in-And.ensures.verdict ∙ c.in-Yes.is) c.decide_in.ensures.last)
 
 pub decide_in_compound-returns-in-No-verdict-clause-last : goal.decide_in_compound-returns-in-No-verdict-clause-last
 decide_in_compound-returns-in-No-verdict-clause-last t c =
@@ -20,4 +20,4 @@ decide_in_compound-returns-in-No-verdict-clause-last t c =
     let first = tree_of c.deref-in-Or.result.now in
     let second = tree_of c.deref-in-No-verdict.result.now in
     rw (c.in-Or.is, sym c.deref-in-Or.ensures, sym c.deref-in-No-verdict.ensures) (last_no (questions c.args.negated first p) (questions c.args.negated second p) (meaning first p) _
-    (sym c.decide_in-decided-in-Or.ensures.verdict ∙ c.in-No-verdict.is) c.decide_in-in-No-verdict.ensures.last)
+    (sym c.decide_in-verdict-in-Or.ensures.verdict ∙ c.in-No-verdict.is) c.decide_in-in-No-verdict.ensures.last)
