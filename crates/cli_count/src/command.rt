@@ -45,7 +45,7 @@ fn counts_frames(words: &CountWords<'_>) -> bool {
     words.shown == CountShown::Counts && words.expr.is_some_and(is_asked)
 }
 
-/// Whether instructions are counted: in JSON alone, since counting them takes time.
+/// Whether instructions are counted: only in JSON, since counting them takes time.
 fn counts_instructions(words: &CountWords<'_>) -> bool {
     words.json && words.shown == CountShown::Counts
 }
