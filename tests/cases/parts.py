@@ -298,20 +298,29 @@ def a_part_is_one_of_a_regular_file(scene):
     scene.check("no OUT", scene.read("out.pcap"), None)
 
 
-# Words, and what the hint below their fault says.
+# Words, and the hints below their fault: those on the header of IN and on LINES begin with its path.
 HINTS = [
-    ("cut --bytes 24-70 -s 0 in.pcap out.pcap", "the range ends inside this record, and the capture goes on: join prints the range to cut in its place"),
-    ("cut --bytes 24-200 -s 0 in.pcap out.pcap", "the packets of in.pcap lie from byte 24 to 84"),
-    ("cut --bytes 24-30 -s 0 short.pcap out.pcap", "short.pcap has 10 bytes, and no whole header"),
-    ("join other.txt out.pcap", "its line says another size than the first one: did the capture grow? Cut all parts again"),
+    ("cut --bytes 24-70 -s 0 in.pcap out.pcap", ["the range ends inside this record, and the capture goes on: join prints the range to cut in its place"]),
+    ("cut --bytes 24-200 -s 0 in.pcap out.pcap", ["the packets of in.pcap lie from byte 24 to 84"]),
+    ("cut --bytes 24-30 -s 0 short.pcap out.pcap", ["short.pcap has 10 bytes, and no whole header"]),
+    ("cut --bytes 24-30 -s 0 text.pcap out.pcap", ["text.pcap:", "not a classic pcap file: it starts with 6e 6f 20 73"]),
+    ("parts 2 short.pcap", ["short.pcap:", "it has 10 bytes; the header of a capture has 24"]),
+    ("parts 2 text.pcap", ["text.pcap:", "not a classic pcap file: it starts with 6e 6f 20 73"]),
+    ("join other.txt out.pcap", ["other.txt:", "the line of this part says another size than the first one: did the capture grow? Cut all parts again"]),
+    ("join missing.txt out.pcap", ["missing.txt:", "sort LINES by sort -t- -k1,1n -k2,2nr; is a part missing?"]),
+    ("join bad.txt out.pcap", [
+        "bad.txt:", "line 2 is: x", "its form is: as cut --bytes prints it: FIRST-END of SIZE packets N kept N bytes N Clean FILE"]),
+    ("join in.pcap out.pcap", ["in.pcap:", "this is a capture, and no file of lines: captures are the last words, IN"]),
 ]
 
 
 @case
 def hints_say_what_is_wrong(scene):
-    """Of a range that ends inside a record, one that is not in the capture, a file without a header, and a part of another capture."""
+    """Of a range that ends inside a record, one that is not in the capture, a file without a header or with another one, and of LINES: a part of
+    another capture, a missing one, a bad line, and a capture in its place."""
     other = "".join(f"{line}\n" for line in (LINES[0], LINES[1].replace("114", "115")))
-    scene.put({**PARTS, "in.pcap": HEADER + ARP_RECORD * 2, "short.pcap": HEADER[:10], "other.txt": other})
-    for words, hint in HINTS:
+    scene.put({**PARTS, "in.pcap": HEADER + ARP_RECORD * 2, "short.pcap": HEADER[:10], "text.pcap": "no savefile, but a text of some length",
+               "other.txt": other, "missing.txt": f"{LINES[1]}\n", "bad.txt": f"{LINES[0]}\nx\n"})
+    for words, hints in HINTS:
         seen = scene.run(f"--hints {words}")
-        scene.check(f"hint of {words}", seen.err.decode().splitlines()[1:], [f"  {hint}"])
+        scene.check(f"hints of {words}", seen.err.decode().splitlines()[1:], [f"  {hint}" for hint in hints])

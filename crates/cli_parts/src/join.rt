@@ -122,7 +122,7 @@ fn report_join<O: Write, E: HintSink>(
     err: &mut E,
 ) -> Status {
     match fault {
-        JoinFault::Lines(fault) => report_lines(alloc, fault, text, out, err),
+        JoinFault::Lines(fault) => report_lines(alloc, fault, words.lines, text, out, err),
         JoinFault::Paths(fault) => report_path(fault, err),
         JoinFault::Sizes(fault) | JoinFault::Writing(fault) => report_file(fault, words, err),
     }

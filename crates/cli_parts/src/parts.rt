@@ -7,6 +7,7 @@ ghost use Rattle.cli_parts.specs.Ranges.{ArePrinted};
 use crate::guess::start_after;
 use crate::input::{OpenPart, header_bytes, open_regular};
 use crate::line::print_range;
+use crate::report::hint_path;
 use cli_args::parts::PartsWords;
 use cli_files::captures::output_buffer;
 use cli_files::paths::{Opening, STANDARD_OUTPUT, refuse_shared_files};
@@ -98,6 +99,7 @@ fn read_header<F: Read, E: HintSink>(
         Ok(header) => Ok(header),
         Err(fault) => {
             let status = report_capture(fault, path, err);
+            hint_path(path, err);
             hint_capture_fault(bytes.as_slice(), fault, err);
             Err(status)
         }

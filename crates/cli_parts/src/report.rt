@@ -1,5 +1,7 @@
 //! What is reported of parts that are not joined.
 
+ghost use Rattle.std.specs.Prelude.{◌≡◌, false};
+
 use crate::line::print_stretches;
 use crate::lines::LinesFault;
 use cli_report::HintSink;
@@ -23,10 +25,17 @@ const ORDER: &str = "sort LINES by sort -t- -k1,1n -k2,2nr; is a part missing?";
 
 /// What is wrong with a part whose line has another size.
 const OTHER_CAPTURE: &str =
-    "its line says another size than the first one: did the capture grow? Cut all parts again";
+    "the line of this part says another size than the first one: did the capture grow? Cut all parts again";
 
-/// Reports why parts do not make a whole capture, and returns the exit status.
-fn report_misfit<E: HintSink>(misfit: Misfit, err: &mut E) -> Status {
+/// Begins the hints on a file with its path.
+pub(crate) fn hint_path<E: HintSink>(path: &str, err: &mut E)
+    ensures quiet { E.takes_hints err.old ≡ false → err.new ≡ err.old }
+{
+    give_hint(format_args!("{}:", EscapedPath(path)), err);
+}
+
+/// Reports why the parts of LINES, at this path, do not make a whole capture, and returns the exit status.
+fn report_misfit<E: HintSink>(misfit: Misfit, path: &str, err: &mut E) -> Status {
     let (report, hint) = match misfit {
         Misfit::Missing(at) => (Report::placed("MissingPart", Word::Number(at)), Some(ORDER)),
         Misfit::OtherSize(first) => (
@@ -39,15 +48,17 @@ fn report_misfit<E: HintSink>(misfit: Misfit, err: &mut E) -> Status {
     };
     let status = report_fault(&report, Status::Refused, err);
     if let Some(hint) = hint {
+        hint_path(path, err);
         give_hint(hint, err);
     }
     status
 }
 
-/// Reports why LINES, of this text, has no parts that are joined, or prints what has to be cut again; returns the exit status.
+/// Reports why LINES, at this path and of this text, has no parts that are joined, or prints what has to be cut again; returns the exit status.
 pub(crate) fn report_lines<O: Write, E: HintSink>(
     alloc: Global,
     fault: &LinesFault,
+    path: &str,
     text: &[u8],
     out: &mut O,
     err: &mut E,
@@ -56,10 +67,11 @@ pub(crate) fn report_lines<O: Write, E: HintSink>(
         LinesFault::Line(number) => {
             let report = Report::placed("Lines", Word::count(*number));
             let status = report_fault(&report, Status::Refused, err);
+            hint_path(path, err);
             hint_bad_line(text, *number, PART_LINE, err);
             status
         }
-        LinesFault::Misfit(misfit) => report_misfit(*misfit, err),
+        LinesFault::Misfit(misfit) => report_misfit(*misfit, path, err),
         LinesFault::Again(again) => {
             let printed = print_stretches(alloc, again.as_slice(), out);
             report_output(&printed, err).max(Status::Negative)
