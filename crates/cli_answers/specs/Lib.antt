@@ -10,4 +10,3 @@ pub mod Seeking
 pub mod Captures
 pub mod Dumps
 pub mod Telling
-pub mod Costs

@@ -4,7 +4,6 @@
 pub mod ahead;
 pub mod asked;
 pub mod captures;
-pub mod cost;
 pub mod counts;
 pub mod dump;
 pub mod filter;

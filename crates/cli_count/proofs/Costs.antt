@@ -8,7 +8,7 @@ use Rattle.std.proofs.lemmas.List.Sums.{sum_by-append, sum_by-cons}
 use Rattle.std.proofs.Math.Nat.{le_of_lt, min-eq_left, min-eq_right}
 use Rattle.savefile.specs.declared.packet.Packet.{Packet}
 use Rattle.bpfvm.specs.declared.insn.Insn.{Insn}
-use Rattle.cli_answers.specs.Costs.{TakesInstructions}
+use Rattle.bpfvm.specs.Traces.{TakesInstructions}
 use Rattle.cli_count.specs.Counting.{Charge, IsCharged, TakesInAll}
 use Rattle.cli_count.proofs.Counting.{all-more}
 
@@ -25,7 +25,7 @@ cut-again s m most (inr above) =
 below-or-above : (s most : ℕ) → (s ≤ most) ⊎ (most ≤ s)
 below-or-above s most = elim (cases_lt s most) [ inl below ↦ inl (le_of_lt below) | inr above ↦ inr above ]
 
-pub takes-more : (program : List Insn) (packets : List Packet) (p : Packet) (n m after : ℕ) → TakesInAll program packets n → TakesInstructions program p m →
+pub takes-more : (program : List Insn) (packets : List Packet) (p : Packet) (n m after : ℕ) → TakesInAll program packets n → TakesInstructions program p.bytes p.len m →
     after ≡ min (n + m) (2 ^ 64 - 1) → TakesInAll program (packets ++ p ∷ []) after
 takes-more program packets p n m after t one is =
     let c : Charge = record { packet = p; instructions = m } in

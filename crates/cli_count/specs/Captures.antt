@@ -1,7 +1,6 @@
 -- Several captures whose packets are counted, or in which one is looked for, in order up to the first fault.
 use Rattle.std.specs.Prelude.{◌≡◌, ℕ, ◌||◌, Bool, true, false, List, Option, Some, None, Result, Ok, Err, slice_get}
 use Rattle.std.specs.Borrow.{Bor}
-use Rattle.bpfvm.specs.declared.fault.NoMemory.{NoMemory}
 use Rattle.savefile.specs.declared.fault.Fault.{Fault}
 use Rattle.savefile.specs.declared.packet.Packet.{Packet}
 use Rattle.line_text.specs.declared.form.LineForm.{LineForm}
@@ -11,7 +10,6 @@ use Rattle.cli_walk.specs.declared.walk.Visited.{Visited}
 use Rattle.cli_walk.specs.Walking.{Walked, visited}
 use Rattle.cli_answers.specs.declared.counts.VerdictCounts.{VerdictCounts}
 use Rattle.cli_answers.specs.declared.printing.Unprinted.{Unprinted}
-use Rattle.cli_answers.specs.declared.printing.Unprinted.TheVariants as unprinted
 use Rattle.cli_answers.specs.declared.seek.Sought.{Sought}
 use Rattle.cli_answers.specs.Captures.{goes_on, read_of}
 use Rattle.cli_answers.specs.Counts.{no_counts, plus, sum_of}
@@ -38,15 +36,10 @@ abbrev pub shown_counts : Bool → LineForm → Option (Bor (List ℕ)) → Bool
 shown_counts true form (Some path) true counts taken = Some (count_line form path.now counts taken)
 shown_counts asked form path opened counts taken = None
 
--- the counts of a capture were printed so, or memory was refused to count instructions
-abbrev pub ShowsCounts : {A : Type 0} → Bool → LineForm → Option (Bor (List ℕ)) → Bool → VerdictCounts → Result (Option ℕ) NoMemory → Option (List ℕ) → Option (List ℕ) → Result A Unprinted → Type 0
-ShowsCounts asked form path opened counts (Ok taken) old new printed = Shows (shown_counts asked form path opened counts taken) old new printed
-ShowsCounts asked form path opened counts (Err refused) old new printed = (printed ≡ Err unprinted.NoMemory) × (new ≡ old)
-
 -- the instructions that were counted, if they were
-abbrev pub taken_or_none : Result (Option ℕ) NoMemory → ℕ
-taken_or_none (Ok (Some n)) = n
-taken_or_none other = 0
+abbrev pub taken_or_none : Option ℕ → ℕ
+taken_or_none (Some n) = n
+taken_or_none None = 0
 
 -- no capture was read so far
 abbrev pub no_totals : CountTotals
@@ -56,7 +49,7 @@ no_totals = record { opened = false; counts = no_counts; instructions = 0; print
 abbrev pub CountsNext : {R : Type 0} → (R → Option (List ℕ)) → Bool → LineForm → List (Bor (List ℕ)) → CountedFilter → Bool → ℕ → CountTotals → Option (List ℕ) → R → Visited R → CountTotals → Option (List ℕ) → Type 0
 CountsNext {R = R} left asked form paths f measured n t old from v t' new =
     (c : CountEnd R) × Counts left from f measured c × (v ≡ visited c.source (goes_on c.read t'.printed))
-    × ShowsCounts asked form (slice_get paths n) c.opened c.counts c.taken old new t'.printed
+    × Shows (shown_counts asked form (slice_get paths n) c.opened c.counts c.taken) old new t'.printed
     × (t'.opened ≡ (t.opened || c.opened)) × (t'.counts ≡ plus t.counts c.counts) × (t'.instructions ≡ sum_of t.instructions (taken_or_none c.taken))
 
 -- The packets of these captures were counted, one capture after the other, until a fault ended one, or the printing failed.

@@ -1,15 +1,14 @@
 -- The outcome of counting a filter's answers to the packets of a capture.
-use Rattle.std.specs.Prelude.{◌≡◌, ℕ, ◌-◌, ◌^◌, ◌⊎◌, ⊤, min, Bool, true, false, List, [], map, Option, Some, None, Result, Ok, Err}
+use Rattle.std.specs.Prelude.{◌≡◌, ℕ, ◌-◌, ◌^◌, ◌⊎◌, min, Bool, true, false, List, [], map, Option, Some, None, Result, Ok, Err}
 use Rattle.std.specs.List.{AllByRecursion, sum_by}
-use Rattle.bpfvm.specs.declared.fault.NoMemory.{NoMemory}
 use Rattle.bpfvm.specs.declared.insn.Insn.{Insn}
+use Rattle.bpfvm.specs.Traces.{TakesInstructions}
 use Rattle.savefile.specs.declared.fault.Fault.{Fault}
 use Rattle.savefile.specs.declared.header.Header.{Header}
 use Rattle.savefile.specs.declared.packet.Packet.{Packet}
 use Rattle.pcap_info.specs.Survey.{IsUnopened, ReadsTo}
 use Rattle.cli_answers.specs.declared.counts.VerdictCounts.{VerdictCounts}
 use Rattle.cli_answers.specs.Answers.{Answer}
-use Rattle.cli_answers.specs.Costs.{TakesInstructions}
 use Rattle.cli_answers.specs.Counts.{AreCounts}
 use Rattle.cli_count.specs.declared.count.CountEnd.{CountEnd}
 use Rattle.cli_answers.specs.declared.filter.AskedFilter.TheVariants.{Program}
@@ -31,7 +30,7 @@ pub record Charge : Type 0 where
   pub instructions : ℕ
 
 abbrev pub IsCharged : List Insn → Charge → Type 0
-IsCharged program c = TakesInstructions program c.packet c.instructions
+IsCharged program c = TakesInstructions program c.packet.bytes c.packet.len c.instructions
 
 -- the packets whose runs were counted
 abbrev pub charged_packets : List Charge → List Packet
@@ -48,12 +47,11 @@ pub record TakesInAll (program : List Insn) (packets : List Packet) (n : ℕ) : 
   pub packets_are : charged_packets charges ≡ packets
   pub counted : n ≡ sum_of_charges charges
 
--- The instructions that a program takes for these packets were counted, if there is a program, or memory was refused.
-abbrev pub IsTaken : Option (List Insn) → List Packet → Result (Option ℕ) NoMemory → Type 0
-IsTaken None packets taken = taken ≡ Ok None
-IsTaken (Some program) packets (Ok (Some n)) = TakesInAll program packets n
-IsTaken (Some program) packets (Ok None) = ⊥
-IsTaken (Some program) packets (Err refused) = ⊤
+-- The instructions that a program takes for these packets were counted, if there is a program.
+abbrev pub IsTaken : Option (List Insn) → List Packet → Option ℕ → Type 0
+IsTaken None packets taken = taken ≡ None
+IsTaken (Some program) packets (Some n) = TakesInAll program packets n
+IsTaken (Some program) packets None = ⊥
 
 -- the program whose instructions are counted, if that is asked for: that of an expression, or the program that the filter is
 abbrev pub measured : Bool → CountedFilter → Option (List Insn)
@@ -62,7 +60,7 @@ measured true (Asked (Program program)) = Some program
 measured asked filter = None
 
 -- The answers to all packets of a capture up to its end, or to its first fault, were counted, and the instructions that the program took.
-abbrev pub CountsTo : {A : Type 0} → Option (List ℕ) → Option (List ℕ) → Header → CountedFilter → Bool → VerdictCounts → Result (Option ℕ) NoMemory → Result A Fault → Type 0
+abbrev pub CountsTo : {A : Type 0} → Option (List ℕ) → Option (List ℕ) → Header → CountedFilter → Bool → VerdictCounts → Option ℕ → Result A Fault → Type 0
 CountsTo from left header f asked counts taken read =
     (answers : List Answer) × AllByRecursion (IsAnswered f) answers × ReadsTo from left header (packets_of answers) read × AreCounts counts answers
     × IsTaken (measured asked f) (packets_of answers) taken

@@ -3,12 +3,11 @@
 ghost use Rattle.std.specs.Prelude.{◌≡◌, ◌||◌, ◌&&◌, false, true, IsErr, IsOk, slice_get};
 ghost use Rattle.line_text.specs.Sending.{Takes};
 ghost use Rattle.cli_answers.specs.Counts.{counts_text, counts_json, plus};
-ghost use Rattle.cli_count.specs.Captures.{CountsIn, CountsNext, ShowsCounts, taken_or_none};
+ghost use Rattle.cli_count.specs.Captures.{CountsIn, CountsNext, Shows, shown_counts, taken_or_none};
 
 use crate::count::{CountEnd, count_packets};
 use crate::filter::CountedFilter;
 use crate::line::print_count;
-use bpfvm::NoMemory;
 use cli_answers::captures::{goes_on, read_of};
 use cli_answers::counts::VerdictCounts;
 use cli_answers::printing::Unprinted;
@@ -64,13 +63,12 @@ pub(crate) fn either(one: bool, other: bool) -> bool
 }
 
 /// How many instructions were counted, if they were.
-fn taken_or_none(taken: Result<Option<u64>, NoMemory>) -> u64
+fn taken_or_none(taken: Option<u64>) -> u64
     ensures { result ≡ taken_or_none taken }
 {
     match taken {
-        Ok(Some(taken)) => taken,
-        Ok(None) => 0,
-        Err(_) => 0,
+        Some(taken) => taken,
+        None => 0,
     }
 }
 
@@ -82,15 +80,11 @@ impl CountJob<'_, '_, '_> {
         number: usize,
         opened: bool,
         counts: VerdictCounts,
-        taken: Result<Option<u64>, NoMemory>,
+        taken: Option<u64>,
         out: &mut O,
     ) -> Result<(), Unprinted>
-        ensures { ShowsCounts self.now.is_shown self.now.form (slice_get self.now.paths.now number) opened counts taken (O.contents out.old) (O.contents out.new) result }
+        ensures { Shows (shown_counts self.now.is_shown self.now.form (slice_get self.now.paths.now number) opened counts taken) (O.contents out.old) (O.contents out.new) result }
     {
-        let taken = match taken {
-            Ok(taken) => taken,
-            Err(_) => return Err(Unprinted::NoMemory),
-        };
         if !self.is_shown || !opened {
             return Ok(());
         }

@@ -135,7 +135,8 @@ fn count_all<'p, F: FileStore<'p>, O: Write, E: HintSink>(
     } = count_captures(&counting, captures, out);
     let noted = close_captures(files, sources, read);
     let (accepted, frames) = (totals.counts.yes, totals.counts.frames());
-    let printed = finish_counts(alloc, words, filter.has_program(), totals, out);
+    let has_program = filter.measured_program(counting.is_measured).is_some();
+    let printed = finish_counts(alloc, words, has_program, totals, out);
     let status = report_counts(&printed, read, accepted, words.bounds, paths, err);
     hint_ended(paths, read, &noted, err);
     if counts_frames(words) {

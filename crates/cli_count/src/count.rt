@@ -1,17 +1,15 @@
 //! How many packets of a capture a filter accepts: the function under `bpftap explain -c`.
 
-ghost use Rattle.std.specs.Prelude.{◌≡◌, ◌≢◌, ◌↔◌, ◌++◌, ◌∷◌, ℕ, List, [], true, Option, Some, Ok, Err};
+ghost use Rattle.std.specs.Prelude.{◌≡◌, ◌≢◌, ◌↔◌, ◌++◌, ◌∷◌, ℕ, List, [], Option, Err, option_copied};
 ghost use Rattle.std.specs.Io.KnownBytes.{Consumes};
 ghost use Rattle.savefile.specs.declared.header.Header.{Header};
 ghost use Rattle.savefile.specs.declared.packet.Packet.{Packet as Frame};
 ghost use Rattle.savefile.specs.Reader.{HasGiven};
 ghost use Rattle.cli_answers.specs.Counts.{no_counts};
-ghost use Rattle.cli_count.specs.Counting.{Counts, CountsTo, IsTaken, measured};
+ghost use Rattle.cli_count.specs.Counting.{Counts, CountsTo, IsTaken};
 
 use crate::filter::CountedFilter;
-use bpfvm::{NoMemory, Program};
-use cli_answers::AskedFilter;
-use cli_answers::cost::instructions_of;
+use bpfvm::{Program, count_instructions};
 use cli_answers::counts::VerdictCounts;
 use cli_watch::frames::is_unseen;
 use filter_meaning::Verdict;
@@ -27,14 +25,14 @@ pub struct CountEnd<R> {
     /// Of all packets, or of those before the fault.
     pub counts: VerdictCounts,
     /// How many instructions the program took for these packets, if that was asked for and there is
-    /// one; or that memory was refused to count them.
-    pub taken: Result<Option<u64>, NoMemory>,
+    /// one.
+    pub taken: Option<u64>,
     /// The fault that ended the capture, if one did.
     pub read: Result<(), Fault>,
 }
 
 /// Counts what a filter answers to the packets of a capture, and if that is asked for how many
-/// instructions its program takes for them. It takes the memory of a reader and of a run, however long the
+/// instructions its program takes for them. It takes the memory of a reader, however long the
 /// capture is.
 ///
 /// `read` has the fault: that of the header, and then no packet was read; with [`Fault::NoMemory`]
@@ -62,12 +60,12 @@ pub fn count_packets<R: Source>(
                 source,
                 opened: false,
                 counts,
-                taken: Ok(None),
+                taken: None,
                 read: Err(fault),
             };
         }
     };
-    let Answered { taken, read } = count_all(alloc, &mut reader, filter, is_measured, &mut counts);
+    let Answered { taken, read } = count_all(&mut reader, filter, is_measured, &mut counts);
     CountEnd {
         source: reader.close(),
         opened: true,
@@ -77,101 +75,43 @@ pub fn count_packets<R: Source>(
     }
 }
 
-/// The instructions that a program took so far, if they were counted, and those for one packet
-/// more.
+/// The instructions that a program took so far, and those for one packet more, if there is a
+/// program.
+#[inline(always)]
 fn taken_after(
-    alloc: Global,
-    program: &Program,
+    program: Option<&Program>,
     packet: &PacketRef<'_>,
     before: Option<u64>,
-) -> Result<Option<u64>, NoMemory>
-    ensures { (packets : List Frame) → IsTaken (Some program.now) packets (Ok before) → IsTaken (Some program.now) (packets ++ packet.now ∷ []) result }
+) -> Option<u64>
+    ensures { (packets : List Frame) → IsTaken (option_copied program.entry) packets before → IsTaken (option_copied program.entry) (packets ++ packet.now ∷ []) result }
 {
-    let Some(before) = before else {
-        return Ok(None);
-    };
-    match instructions_of(alloc, program, packet) {
-        Ok(instructions) => Ok(Some(before.saturating_add(instructions))),
-        Err(NoMemory) => Err(NoMemory),
-    }
-}
-
-/// The instructions that a program took so far, and those for one packet more.
-fn taken_by(
-    alloc: Global,
-    program: &Program,
-    packet: &PacketRef<'_>,
-    before: Result<Option<u64>, NoMemory>,
-) -> Result<Option<u64>, NoMemory>
-    ensures { (packets : List Frame) → IsTaken (Some program.now) packets before → IsTaken (Some program.now) (packets ++ packet.now ∷ []) result }
-{
-    match before {
-        Ok(before) => taken_after(alloc, program, packet, before),
-        Err(NoMemory) => Err(NoMemory),
-    }
-}
-
-/// The instructions that a filter's own program took so far, and those for one packet more, if it
-/// has one.
-fn taken_asked(
-    alloc: Global,
-    filter: &AskedFilter,
-    packet: &PacketRef<'_>,
-    before: Result<Option<u64>, NoMemory>,
-) -> Result<Option<u64>, NoMemory>
-    ensures { (packets : List Frame) → IsTaken (measured true (CountedFilter.Asked filter.now)) packets before →
-        IsTaken (measured true (CountedFilter.Asked filter.now)) (packets ++ packet.now ∷ []) result }
-{
-    match filter {
-        AskedFilter::Program(program) => taken_by(alloc, program, packet, before),
-        AskedFilter::Expression(_) => before,
-    }
-}
-
-/// The instructions that the program of a filter took so far, and those for one packet more, if
-/// they are counted.
-#[inline(always)]
-fn taken_with(
-    alloc: Global,
-    filter: &CountedFilter,
-    is_measured: bool,
-    packet: &PacketRef<'_>,
-    before: Result<Option<u64>, NoMemory>,
-) -> Result<Option<u64>, NoMemory>
-    ensures { (packets : List Frame) → IsTaken (measured is_measured filter.now) packets before → IsTaken (measured is_measured filter.now) (packets ++ packet.now ∷ []) result }
-{
-    if !is_measured {
-        return before;
-    }
-    match filter {
-        CountedFilter::Programs(accepting, _) => taken_by(alloc, accepting, packet, before),
-        CountedFilter::Asked(filter) => taken_asked(alloc, filter, packet, before),
+    match (program, before) {
+        (Some(program), Some(before)) => {
+            let instructions = count_instructions(program, packet.bytes, packet.len);
+            Some(before.saturating_add(instructions as u64))
+        }
+        _ => before,
     }
 }
 
 /// What is counted of no packet.
-fn nothing_taken(filter: &CountedFilter, is_measured: bool) -> Result<Option<u64>, NoMemory>
-    ensures { IsTaken (measured is_measured filter.now) [] result }
+fn nothing_taken(program: Option<&Program>) -> Option<u64>
+    ensures { IsTaken (option_copied program.entry) [] result }
 {
-    if !is_measured {
-        return Ok(None);
-    }
-    match filter {
-        CountedFilter::Programs(_, _) => Ok(Some(0)),
-        CountedFilter::Asked(AskedFilter::Program(_)) => Ok(Some(0)),
-        CountedFilter::Asked(AskedFilter::Expression(_)) => Ok(None),
+    match program {
+        Some(_) => Some(0),
+        None => None,
     }
 }
 
 /// How counting the packets of a reader ended.
 struct Answered {
-    taken: Result<Option<u64>, NoMemory>,
+    taken: Option<u64>,
     read: Result<(), Fault>,
 }
 
 /// Counts what a filter answers to all packets of a capture, and the instructions of its program.
 fn count_all<R: Source>(
-    alloc: Global,
     reader: &mut Reader<R>,
     filter: &CountedFilter,
     is_measured: bool,
@@ -185,13 +125,14 @@ fn count_all<R: Source>(
 {
     // Packets that come after one another are mostly answered alike.
     let mut likely = Verdict::No;
-    let mut charged = nothing_taken(filter, is_measured);
+    let program = filter.measured_program(is_measured);
+    let mut charged = nothing_taken(program);
     loop {
         match reader.advance() {
             Ok(true) => {
                 let packet = reader.packet();
                 likely = filter.judge(&packet, likely);
-                charged = taken_with(alloc, filter, is_measured, &packet, charged);
+                charged = taken_after(program, &packet, charged);
                 counts.count(likely, is_unseen(packet.bytes));
             }
             Ok(false) => return Answered {

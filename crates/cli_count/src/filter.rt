@@ -1,7 +1,8 @@
 //! A filter whose answers are counted.
 
-ghost use Rattle.std.specs.Prelude.{◌≡◌, IfOk};
+ghost use Rattle.std.specs.Prelude.{◌≡◌, IfOk, option_copied};
 ghost use Rattle.cli_answers.specs.declared.filter.AskedFilter.TheVariants.{Expression};
+ghost use Rattle.cli_count.specs.Counting.{measured};
 ghost use Rattle.cli_count.specs.Filter.{program_accepts, Answers, IsVerdictByTwo, StandsFor, passes};
 
 use bpfvm::{Program, run};
@@ -87,11 +88,18 @@ impl CountedFilter {
         }
     }
 
-    /// Whether a program is asked, and not an expression itself.
-    pub(crate) fn has_program(&self) -> bool {
+    /// The program whose instructions are counted, if that is asked for: that of an expression, or
+    /// the program that the filter is.
+    pub(crate) fn measured_program(&self, is_measured: bool) -> Option<&Program>
+        ensures { option_copied result ≡ measured is_measured self.now }
+    {
+        if !is_measured {
+            return None;
+        }
         match self {
-            CountedFilter::Programs(_, _) | CountedFilter::Asked(AskedFilter::Program(_)) => true,
-            CountedFilter::Asked(AskedFilter::Expression(_)) => false,
+            CountedFilter::Programs(accepting, _) => Some(accepting),
+            CountedFilter::Asked(AskedFilter::Program(program)) => Some(program),
+            CountedFilter::Asked(AskedFilter::Expression(_)) => None,
         }
     }
 
