@@ -34,7 +34,17 @@ pub fn hint_capture<R, E: HintSink>(
     hint_input(noted, fault, err);
 }
 
-/// Hints on the capture that ended the reading of several, if one did, by what was noted of it.
+/// Hints that the captures after the one of this number are not read, if there are any.
+fn hint_unread<E: HintSink>(paths: &[&str], number: usize, err: &mut E)
+    ensures quiet { E.takes_hints err.old ≡ false → err.new ≡ err.old }
+{
+    if number < paths.len().saturating_sub(1) {
+        give_hint("the captures after it are not read", err);
+    }
+}
+
+/// Hints on the capture that ended the reading of several, if one did, by what was noted of it, and
+/// that those after it are not read.
 pub fn hint_ended<E: HintSink>(
     paths: &[&str],
     read: Result<(), Stop>,
@@ -45,5 +55,6 @@ pub fn hint_ended<E: HintSink>(
 {
     if let (Err(stop), Some(noted)) = (read, noted) {
         hint_capture(paths, stop.number, stop.fault, noted, err);
+        hint_unread(paths, stop.number, err);
     }
 }
