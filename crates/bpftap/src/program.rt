@@ -27,7 +27,8 @@ use cli_info::command::info_command;
 use cli_parts::join::join_command;
 use cli_parts::parts::parts_command;
 use cli_report::commands::{
-    command_way, hint_dash_output, hint_failed_words, hint_missing, hint_option, hint_value,
+    command_way, hint_conflict, hint_dash_output, hint_failed_words, hint_missing, hint_option,
+    hint_value,
 };
 use cli_report::stream::give_hint;
 use cli_report::{ErrorStream, HintSink};
@@ -302,7 +303,10 @@ fn report_usage<S: AsStr, O: Write, E: HintSink>(
             hint_option(words, err);
             hint_unquoted(alloc, words, err)
         }
-        ErrorKind::ArgumentConflict => hint_unquoted(alloc, words, err),
+        ErrorKind::ArgumentConflict => {
+            hint_conflict(words, err);
+            hint_unquoted(alloc, words, err)
+        }
         ErrorKind::InvalidValue => hint_value(words, err),
         ErrorKind::TooManyValues => {
             hint_failed_words(words, err);

@@ -140,7 +140,7 @@ const COMPLETIONS: &str =
     "completions for bash, zsh and fish are files: ./install puts them where shells look for them";
 
 /// How to do what options of other tools do.
-static OPTION_WAYS: [(&str, &str); 30] = [
+static OPTION_WAYS: [(&str, &str); 32] = [
     (
         "-F",
         "to read an expression from a file: -e \"$(cat FILE)\", or for check \"$(cat FILE)\"",
@@ -164,6 +164,8 @@ static OPTION_WAYS: [(&str, &str); 30] = [
     ("-l", MATCHING),
     ("-v", IN_FULL),
     ("--verbose", IN_FULL),
+    ("--invert", REJECTED),
+    ("--invert-match", REJECTED),
     ("-d", "to print a program: bpftap check -d EXPR"),
     (
         "-x",
@@ -185,6 +187,9 @@ static OPTION_WAYS: [(&str, &str); 30] = [
     ),
 ];
 
+/// How to keep what a filter rejects.
+const REJECTED: &str = "to keep what a filter rejects: -e 'not (EXPR)'";
+
 /// How to print more of a packet.
 const IN_FULL: &str = "explain prints why for each packet; -p PLACE prints one in full";
 
@@ -195,6 +200,10 @@ const OBJECTS: &str =
 /// How to write a capture in pieces.
 const PIECES: &str =
     "in pieces: editcap -c PACKETS -F nsecpcap IN OUT, or -i SECONDS in place of -c PACKETS";
+
+/// How to count what the lines of `split` keep, and how to write pieces of as many packets each.
+const COUNTS_OF_SPLIT: &str =
+    "to count only: /dev/null as OUT of each line; pieces of N packets: editcap -c N -F nsecpcap IN OUT";
 
 /// How filters are given to `split`, and each OUT.
 const FILTERS_OF_SPLIT: &str = "filters are in LINES: SNAP OUT EXPRESSION";
@@ -294,6 +303,9 @@ fn way_of_command(command: &str, option: &str) -> Option<&'static str> {
     match (command, option) {
         ("compare", "-e") => Some("compare takes its expressions as words, without -e"),
         ("parts", "-n") => Some("parts takes N as a word: bpftap parts 4 IN"),
+        ("split", "-c" | "--count") => Some(COUNTS_OF_SPLIT),
+        ("split", "-l" | "-n") => Some(PIECES),
+        ("cut" | "split", "-v") => Some(REJECTED),
         (_, "-e" | "-f") => way_of_filter(command),
         (_, "-w" | "-o" | "--output") => way_of_output(command),
         _ => None,
@@ -335,6 +347,9 @@ fn option_way<S: AsStr>(words: &[S]) -> Option<&'static str> {
     if gives_capture(words, "-i") {
         return Some(WITHOUT_OPTION);
     }
+    if gives_number(words, "-n") && (is_cut(words) || command_of(words) == Some("explain")) {
+        return Some(FIRST_PACKETS);
+    }
     for word in words {
         if let Some(way) = way_of_option(words, word.as_str()) {
             return Some(way);
@@ -364,6 +379,19 @@ pub fn hint_value<S: AsStr, E: HintSink>(words: &[S], err: &mut E)
     }
 }
 
+/// A hint on arguments of which two are not taken together: `-e` of `check`, and the name of a
+/// capture.
+pub fn hint_conflict<S: AsStr, E: HintSink>(words: &[S], err: &mut E)
+    ensures quiet { E.takes_hints err.old ≡ false → err.new ≡ err.old }
+{
+    if command_of(words) == Some("check") && words.iter().any(is_capture_name) {
+        give_hint(
+            "a packet in a graph: bpftap check --dot -p PLACE EXPR IN, without -e",
+            err,
+        );
+    }
+}
+
 /// Whether one of the arguments is this word.
 fn has_word<S: AsStr>(words: &[S], wanted: &str) -> bool {
     words.iter().any(|word| word.as_str() == wanted)
@@ -374,8 +402,8 @@ fn is_cut<S: AsStr>(words: &[S]) -> bool {
     command_of(words) == Some("cut")
 }
 
-/// A hint on arguments of `cut` of which one is missing: the snapshot length, or OUT if packets
-/// are only counted.
+/// Hints on arguments of `cut` of which one is missing: the snapshot length, OUT if packets are
+/// only counted, or the names of both captures.
 fn hint_missing_of_cut<S: AsStr, E: HintSink>(words: &[S], err: &mut E)
     ensures quiet { E.takes_hints err.old ≡ false → err.new ≡ err.old }
 {
@@ -384,6 +412,12 @@ fn hint_missing_of_cut<S: AsStr, E: HintSink>(words: &[S], err: &mut E)
     } else if has_word(words, "-c") {
         give_hint(
             "to count only: bpftap explain -c -e EXPR IN, or give /dev/null as OUT",
+            err,
+        )
+    }
+    if !words.iter().any(is_capture_name) {
+        give_hint(
+            "IN and OUT are words: of the standard streams /dev/stdin and /dev/stdout",
             err,
         )
     }
@@ -463,7 +497,8 @@ fn is_number(word: &str) -> bool {
 
 /// Whether a word is the name of a capture.
 pub fn is_capture_name<S: AsStr>(word: &S) -> bool {
-    word.as_str().ends_with(".pcap")
+    let name = word.as_str();
+    name.ends_with(".pcap") || name.ends_with(".cap") || name.ends_with(".pcapng")
 }
 
 /// Whether a word can be no expression: it is the name of a capture, an option other than those
@@ -481,10 +516,10 @@ fn lacks_filter<S: AsStr>(words: &[S]) -> bool {
         && words.iter().skip(2).all(is_beside_filters)
 }
 
-/// Whether a number follows `-c`, which counts packets and takes none.
-fn counts_by_number<S: AsStr>(words: &[S]) -> bool {
+/// Whether a number follows an option.
+fn gives_number<S: AsStr>(words: &[S], option: &str) -> bool {
     words.windows(2).any(|pair| match pair {
-        [first, second] => first.as_str() == "-c" && is_number(second.as_str()),
+        [first, second] => first.as_str() == option && is_number(second.as_str()),
         _ => false,
     })
 }
@@ -510,7 +545,7 @@ pub fn hint_failed_words<S: AsStr, E: HintSink>(words: &[S], err: &mut E)
             err,
         );
     }
-    if (is_cut(words) || command_of(words) == Some("explain")) && counts_by_number(words) {
+    if (is_cut(words) || command_of(words) == Some("explain")) && gives_number(words, "-c") {
         give_hint("-c takes no number: it counts packets", err);
         give_hint(FIRST_PACKETS, err);
     }

@@ -383,12 +383,25 @@ pub fn of_field<'a>(alloc: Global, spot: Spot<'a>, name: Run<'a>) -> Found<'a> {
     }
     match comparison_at(after) {
         Some(comparison) => of_comparison(alloc, start, name.bytes, comparison),
-        None if ends_test(after) => of_layer(alloc, start, name.bytes),
+        None if ends_test(after) => of_field_alone(alloc, start, name.bytes),
         None => Ok(None),
     }
 }
 
-/// What helps at a field that nothing compares: its layer, which each packet has that has it.
+/// What helps at a field that nothing compares. Of a flag it is what asks whether it is set.
+fn of_field_alone<'a>(alloc: Global, start: Spot<'a>, name: &'a [u8]) -> Found<'a> {
+    let Some(flag) = FLAGS.iter().find(|flag| flag.name == name) else {
+        return of_layer(alloc, start, name);
+    };
+    let layer = name.split(|byte| *byte == b'.').next().unwrap_or(name);
+    match advise(alloc, start, name.len(), Written::Test(flag.set))? {
+        Some(advice) => Ok(Some(advice.alone(layer))),
+        None => Ok(None),
+    }
+}
+
+/// What helps at another field that nothing compares: its layer, which each packet has that has
+/// it.
 fn of_layer<'a>(alloc: Global, start: Spot<'a>, name: &[u8]) -> Found<'a> {
     let of_field = FIELDS.iter().find(|field| field.name == name);
     let of_number = NUMBERS.iter().find(|number| number.name == name);

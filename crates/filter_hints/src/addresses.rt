@@ -2,7 +2,7 @@
 
 use crate::advice::{Advice, Found};
 use crate::instead::{Instead, advise_instead};
-use filter_spots::{HOST, Run, Spot, after_blanks, first_word, without_blanks};
+use filter_spots::{HOST, Run, Spot, after_blanks, first_word, port_of, without_blanks};
 use std::alloc::Global;
 use std::fmt;
 use std::fmt::{Display, Formatter};
@@ -13,6 +13,12 @@ const IPV6_GROUPS: usize = 8;
 
 /// Words that an Ethernet address follows after `ether`.
 static BEFORE_ETHERNET: [&[u8]; 3] = [b"host", b"src", b"dst"];
+
+/// Words of a side, which an address or a net follows.
+static SIDES: [&[u8]; 2] = [b"src", b"dst"];
+
+/// What is said of a port that there is not.
+const PORTS: &str = "ports are 0 to 65535";
 
 /// A list of more bytes is not written out.
 const MAX_LIST: usize = 60;
@@ -256,11 +262,27 @@ fn of_missing_ether<'a>(alloc: Global, spot: Spot<'a>, run: Run<'a>) -> Found<'a
     }
 }
 
+/// What helps at a part of an Ethernet address, or at one with other digits, after `ether`.
+fn of_other_parts<'a>(spot: Spot<'a>, run: Run<'a>) -> Option<Advice<'a>> {
+    let first = spot.at(run.start);
+    let is_after = BEFORE_ETHERNET.contains(&first.last())
+        && first.second_last() == b"ether".as_slice();
+    if is_after && run.bytes.contains(&b':') {
+        Some(Advice::Round(
+            "an Ethernet address has six parts, as `00:00:5e:00:53:01`, each of two hexadecimal digits: `",
+            run.bytes,
+            "` is none",
+        ))
+    } else {
+        None
+    }
+}
+
 /// What helps at a place in an Ethernet address.
 pub(crate) fn of_ethernet<'a>(alloc: Global, spot: Spot<'a>) -> Found<'a> {
     let run = spot.run();
     if !is_ethernet(run.bytes) {
-        return Ok(None);
+        return Ok(of_other_parts(spot, run));
     }
     match of_signs(alloc, spot, run)? {
         Some(advice) => Ok(Some(advice)),
@@ -323,6 +345,13 @@ pub(crate) fn of_range<'a>(alloc: Global, spot: Spot<'a>) -> Found<'a> {
     if first.last() != b"port".as_slice() || !is_range(run.bytes) {
         return Ok(None);
     }
+    if run
+        .bytes
+        .split(|byte| *byte == b'-')
+        .any(|end| port_of(end).is_none())
+    {
+        return Ok(Some(Advice::Said(PORTS)));
+    }
     match spot.without(first.start_of_last(), first.last().len()) {
         Some(gap) if gap.takes(alloc, "portrange")? => {
             Ok(Some(Advice::Round("write `portrange ", run.bytes, "`")))
@@ -367,16 +396,29 @@ pub(crate) fn of_net<'a>(alloc: Global, spot: Spot<'a>) -> Found<'a> {
     }
 }
 
-/// What helps at an address with a mask after `host`, as `host 10.0.0.0/8`.
+/// What helps at an address with a mask right after `src` or `dst`, as `src 10.0.0.0/8`.
+fn of_masked_side<'a>(alloc: Global, first: Spot<'a>, net: &'a [u8]) -> Found<'a> {
+    match first.before_word() {
+        Some(gap) if SIDES.contains(&first.last()) && gap.takes(alloc, "net ")? => {
+            Ok(Some(Advice::Round("write `net` before `", net, "`")))
+        }
+        _ => Ok(None),
+    }
+}
+
+/// What helps at an address with a mask after `host`, as `host 10.0.0.0/8`, or without `net`.
 pub(crate) fn of_masked_host<'a>(alloc: Global, spot: Spot<'a>) -> Found<'a> {
     let run = spot.run();
     let slash = run.start.saturating_add(run.bytes.len());
     let first = spot.at(run.start);
-    if first.last() != HOST || !spot.at(slash).rest().starts_with(b"/") {
+    if !spot.at(slash).rest().starts_with(b"/") {
         return Ok(None);
     }
     let len = first_word(spot.at(slash.saturating_add(1)).rest()).len();
     let net = spot.between(run.start, slash.saturating_add(len).saturating_add(1));
+    if first.last() != HOST {
+        return of_masked_side(alloc, first, net);
+    }
     match spot.without(first.start_of_last(), HOST.len()) {
         Some(gap) if gap.takes(alloc, "net")? => Ok(Some(Advice::Round("write `net ", net, "`"))),
         _ => Ok(None),

@@ -10,7 +10,7 @@ use crate::addresses::{
     is_number, of_comma, of_ethernet, of_ipv6, of_mask, of_masked_host, of_net, of_range,
 };
 use crate::advice::{Advice, Found};
-use crate::colons::{of_colon_range, of_endpoint};
+use crate::colons::{of_endpoint, of_other_range};
 use crate::comparisons::of_compared;
 use crate::dots::of_dots;
 use crate::flags::{of_flag, of_layer_field};
@@ -22,7 +22,10 @@ use crate::other_words::{
 use crate::services::of_service;
 use crate::terms::is_bound;
 use crate::values::of_comparison;
-use filter_spots::{PROTO, Spot, first_word, in_small_letters, without_blanks, without_last_word};
+use filter_spots::{
+    PROTO, Spot, after_blanks, first_word, in_small_letters, port_of, without_blanks,
+    without_last_word,
+};
 use filtergen_facts::Refusal;
 use filterlang::Fault;
 use std::alloc::{AllocError, Global};
@@ -99,7 +102,9 @@ fn of_name<'a>(spot: Spot<'a>) -> Advice<'a> {
             name,
             "`",
         )
-    } else if before == PROTO && spot.second_last() == ETHER {
+    } else if (before == PROTO && spot.second_last() == ETHER)
+        || (before == ETHER && name == b"type".as_slice())
+    {
         Advice::Said(ETHERNET_TYPE)
     } else if before == PROTO {
         Advice::Elsewhere(
@@ -195,6 +200,59 @@ fn of_byte<'a>(alloc: Global, spot: Spot<'a>) -> Result<Advice<'a>, AllocError> 
             spot.token(),
             "`",
         )))
+    }
+}
+
+/// What helps at a `|` or a `&` between two tests.
+fn of_single_sign<'a>(alloc: Global, spot: Spot<'a>) -> Found<'a> {
+    let (joint, said) = match spot.rest().first() {
+        Some(b'|') => (" or ", "between two tests write `or` or `||` for `|`"),
+        Some(b'&') => (" and ", "between two tests write `and` or `&&` for `&`"),
+        _ => return Ok(None),
+    };
+    match spot.without(spot.before().len(), 1) {
+        Some(gap) if gap.takes(alloc, joint)? => Ok(Some(Advice::Said(said))),
+        _ => Ok(None),
+    }
+}
+
+/// Where the number begins after a protocol that has ports, and after `src` or `dst`; and the
+/// number.
+fn bare_port(spot: Spot<'_>) -> Option<(usize, &[u8])> {
+    if !TRANSPORTS.contains(&spot.word()) || spot.word() == b"icmp".as_slice() {
+        return None;
+    }
+    let rest = after_blanks(spot.after_word());
+    let side = first_word(rest);
+    let rest = if side == b"src".as_slice() || side == b"dst".as_slice() {
+        after_blanks(rest.strip_prefix(side)?)
+    } else {
+        rest
+    };
+    let number = first_word(rest);
+    port_of(number)?;
+    let len = spot.rest().len().saturating_sub(rest.len());
+    Some((spot.before().len().saturating_add(len), number))
+}
+
+/// What helps at the number of a port without `port`, as `tcp 80`.
+fn of_bare_port<'a>(alloc: Global, spot: Spot<'a>) -> Found<'a> {
+    let Some((start, number)) = bare_port(spot) else {
+        return Ok(None);
+    };
+    match spot.at(start).before_word() {
+        Some(gap) if gap.takes(alloc, "port ")? => {
+            Ok(Some(Advice::Round("write `port` before `", number, "`")))
+        }
+        _ => Ok(None),
+    }
+}
+
+/// What helps at words that do not go together.
+fn of_qualifier<'a>(alloc: Global, spot: Spot<'a>, fault: Fault) -> Result<Advice<'a>, AllocError> {
+    match of_bare_port(alloc, spot)? {
+        Some(advice) => Ok(advice),
+        None => Ok(of_sctp(spot).unwrap_or(Advice::Said(sentence(fault)))),
     }
 }
 
@@ -316,7 +374,10 @@ fn of_missing_part<'a>(alloc: Global, spot: Spot<'a>) -> Found<'a> {
     if let Some(advice) = of_endpoint(alloc, spot)? {
         return Ok(Some(advice));
     }
-    if let Some(advice) = of_colon_range(alloc, spot)? {
+    if let Some(advice) = of_other_range(alloc, spot)? {
+        return Ok(Some(advice));
+    }
+    if let Some(advice) = of_single_sign(alloc, spot)? {
         return Ok(Some(advice));
     }
     of_sign(alloc, spot)
@@ -415,13 +476,16 @@ fn of_fault<'a>(alloc: Global, spot: Spot<'a>, fault: Fault) -> Result<Advice<'a
     match fault {
         Fault::BadByte(_) => of_byte(alloc, spot),
         Fault::BadWord(_) => of_word(alloc, spot),
-        Fault::BadNumber(_) => Ok(of_number(first_word(spot.rest()))),
+        Fault::BadNumber(_) => {
+            let range = of_other_range(alloc, spot)?;
+            Ok(range.unwrap_or(of_number(first_word(spot.rest()))))
+        }
         Fault::Syntax(_) => of_syntax(alloc, spot),
         Fault::NoQualifier(_) => {
             let operand = of_operand(alloc, spot)?;
             Ok(operand.unwrap_or(of_no_qualifier(spot.before())))
         }
-        Fault::BadQualifier(_) => Ok(of_sctp(spot).unwrap_or(Advice::Said(sentence(fault)))),
+        Fault::BadQualifier(_) => of_qualifier(alloc, spot, fault),
         Fault::BadIdentifier(_) => {
             let net = of_masked_host(alloc, spot)?;
             Ok(net.unwrap_or(Advice::Said(sentence(fault))))

@@ -1,10 +1,10 @@
-//! What helps at a colon after an address or a number.
+//! What helps at a colon after an address or a number, and at a range with two dots.
 
 use crate::addresses::{is_dotted, is_number};
 use crate::advice::Found;
-use crate::choice::PORTRANGE;
+use crate::choice::{PORT, PORTRANGE};
 use crate::instead::{Instead, advise_instead};
-use filter_spots::{HOST, Run, Spot};
+use filter_spots::{HOST, Run, Spot, port_of};
 use std::alloc::Global;
 use std::fmt;
 use std::fmt::{Display, Formatter};
@@ -69,16 +69,36 @@ pub(crate) fn of_endpoint<'a>(alloc: Global, spot: Spot<'a>) -> Found<'a> {
     advise_instead(alloc, spot, start, end, Instead::Endpoint(endpoint))
 }
 
-/// What helps at a range with a colon, as `portrange 80:90`.
-pub(crate) fn of_colon_range<'a>(alloc: Global, spot: Spot<'a>) -> Found<'a> {
+/// The two parts of a text with two dots.
+fn ends_of(text: &[u8]) -> Option<(&[u8], &[u8])> {
+    let dots = text.windows(2).position(|pair| pair == b"..".as_slice())?;
+    Some((text.get(..dots)?, text.get(dots.saturating_add(2)..)?))
+}
+
+/// The ports of a range.
+fn ports_between(first: &[u8], last: &[u8]) -> Option<(u16, u16)> {
+    Some((port_of(first)?, port_of(last)?))
+}
+
+/// What helps at a range with a colon or with two dots, as `portrange 80:90` or `port 80..90`.
+pub(crate) fn of_other_range<'a>(alloc: Global, spot: Spot<'a>) -> Found<'a> {
     let run = spot.run();
-    let Some((first, last)) = parts_of(run.bytes) else {
+    let first_spot = spot.at(run.start);
+    let end = run.start.saturating_add(run.bytes.len());
+    let Some((first, last)) = parts_of(run.bytes).or_else(|| ends_of(run.bytes)) else {
         return Ok(None);
     };
-    let is_range = is_number(first) && is_number(last) && spot.at(run.start).last() == PORTRANGE;
-    if !is_range {
-        return Ok(None);
+    match ports_between(first, last) {
+        Some(_) if first_spot.last() == PORTRANGE => {
+            advise_instead(alloc, spot, run.start, end, Instead::Range(first, last))
+        }
+        Some((first, last)) if first_spot.last() == PORT => advise_instead(
+            alloc,
+            spot,
+            first_spot.start_of_last(),
+            end,
+            Instead::Ports(first, last),
+        ),
+        _ => Ok(None),
     }
-    let end = run.start.saturating_add(run.bytes.len());
-    advise_instead(alloc, spot, run.start, end, Instead::Range(first, last))
 }

@@ -115,16 +115,61 @@ pub(crate) fn of_compared<'a>(alloc: Global, spot: Spot<'a>) -> Found<'a> {
     }
 }
 
-/// What helps at the sign of a comparison after `port`: the ports that it means.
+/// The ports that a comparison means, the first and the last.
+fn ports_at(compared: Compared<'_>) -> Option<(u16, u16)> {
+    ports_of(compared.sign, port_of(compared.value)?)
+}
+
+/// A text without an `and` at its front.
+fn after_and(text: &[u8]) -> Option<&[u8]> {
+    let text = after_blanks(text);
+    match text.strip_prefix(b"&&") {
+        Some(rest) => Some(rest),
+        None if first_word(text) == b"and".as_slice() => text.get(3..),
+        None => None,
+    }
+}
+
+/// The comparison that an `and` joins at the front of a text to one of the same test: with the words
+/// of this again, with `port` alone, or without; and where the text goes on.
+fn joined_at<'a>(text: &'a [u8], test: &[u8]) -> Option<(Compared<'a>, usize)> {
+    let rest = after_blanks(after_and(text)?);
+    let bare = rest
+        .strip_prefix(test)
+        .or_else(|| rest.strip_prefix(PORT))
+        .unwrap_or(rest);
+    let rest = after_blanks(bare);
+    let compared = compared_at(rest)?;
+    let left = rest.len().saturating_sub(compared.len);
+    Some((compared, text.len().saturating_sub(left)))
+}
+
+/// The ports of a comparison and of one of the same test that `and` joins to it, and where the
+/// text goes on after that.
+fn ports_of_both(spot: Spot<'_>, ports: (u16, u16), end: usize) -> Option<(u16, u16, usize)> {
+    let test = spot.between(start_of_test(spot), spot.before().len());
+    let (second, len) = joined_at(spot.at(end).rest(), without_blanks(test))?;
+    let other = ports_at(second)?;
+    let (first, last) = (ports.0.max(other.0), ports.1.min(other.1));
+    if first > last {
+        None
+    } else {
+        Some((first, last, end.saturating_add(len)))
+    }
+}
+
+/// What helps at the sign of a comparison after `port`: the ports that it means, alone or with the
+/// one that `and` joins to it.
 fn of_ports<'a>(alloc: Global, spot: Spot<'a>, compared: Compared<'a>) -> Found<'a> {
-    let ports = match port_of(compared.value) {
-        Some(port) if spot.last() == PORT => ports_of(compared.sign, port),
-        _ => None,
-    };
-    let Some((first, last)) = ports else {
-        return Ok(None);
+    let ports = match ports_at(compared) {
+        Some(ports) if spot.last() == PORT => ports,
+        _ => return Ok(None),
     };
     let end = spot.before().len().saturating_add(compared.len);
+    let (first, last, end) = match ports_of_both(spot, ports, end) {
+        Some(both) => both,
+        None => (ports.0, ports.1, end),
+    };
     advise_instead(
         alloc,
         spot,

@@ -1,6 +1,7 @@
 //! What helps at a name with dots.
 
 use crate::advice::{Advice, Found};
+use crate::flags::of_index;
 use display_filters::{is_field, of_field};
 use filter_spots::{Run, Spot};
 use std::alloc::Global;
@@ -36,6 +37,9 @@ fn is_filter_file(name: &[u8]) -> bool {
 
 /// What helps at a field of a display filter: what is written for it, or that there are no words.
 fn of_display_filter<'a>(alloc: Global, spot: Spot<'a>, field: Run<'a>) -> Found<'a> {
+    if let Some(advice) = of_index(alloc, spot, field)? {
+        return Ok(Some(advice));
+    }
     match of_field(alloc, spot, field)? {
         Some(advice) => Ok(Some(Advice::Display(advice))),
         None => Ok(Some(Advice::Said(DISPLAY_FILTER))),

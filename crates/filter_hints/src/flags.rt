@@ -4,12 +4,19 @@ use crate::advice::{Advice, Found};
 use crate::instead::{Instead, advise_instead};
 use crate::other_words::of_written;
 use crate::terms::is_of_comparison;
-use filter_spots::{Spot, after_blanks, without_blanks};
+use filter_spots::{Run, Spot, after_blanks, first_word, without_blanks};
 use std::alloc::Global;
 
 /// What is said of flags that are written otherwise.
 const FLAGS_FORM: &str =
     "flags of TCP are bits, as in `tcp[tcpflags] & (tcp-syn|tcp-ack) != 0`: one of the two is set";
+
+/// What is said of flags that `and` or `or` joins.
+pub(crate) const JOINED_FLAGS: &str =
+    "write flags as one number: `tcp[tcpflags] & (tcp-syn|tcp-ack) != 0` if one of them is set, `= tcp-syn|tcp-ack` if both are";
+
+/// Words that join two tests.
+static JOINTS: [&[u8]; 2] = [b"and", b"or"];
 
 /// The layer of the flags.
 const TCP: &[u8] = b"tcp";
@@ -117,7 +124,13 @@ struct LayerField {
     compared: &'static str,
 }
 
-static LAYER_FIELDS: [LayerField; 7] = [
+static LAYER_FIELDS: [LayerField; 8] = [
+    LayerField {
+        layer: b"ether",
+        word: b"type",
+        written: "ether[12:2]",
+        compared: "ether proto",
+    },
     LayerField {
         layer: b"icmp",
         word: b"type",
@@ -162,10 +175,12 @@ static LAYER_FIELDS: [LayerField; 7] = [
     },
 ];
 
-/// What the language has for a word in the brackets of a layer.
+/// What the language has for a word in the brackets of a layer, or for the field of a display
+/// filter there.
 struct Index {
     before: &'static [u8],
     word: &'static [u8],
+    field: &'static [u8],
     written: &'static str,
 }
 
@@ -173,16 +188,19 @@ static INDEXES: [Index; 3] = [
     Index {
         before: b"tcp[",
         word: b"flags",
+        field: b"tcp.flags",
         written: "tcpflags",
     },
     Index {
         before: b"icmp[",
         word: b"type",
+        field: b"icmp.type",
         written: "icmptype",
     },
     Index {
         before: b"icmp[",
         word: b"code",
+        field: b"icmp.code",
         written: "icmpcode",
     },
 ];
@@ -318,6 +336,34 @@ pub(crate) fn of_both_flags<'a>(
     let start = before.len().saturating_sub(flags.len());
     let flags = spot.between(start, before.len());
     advise_instead(alloc, spot, start, end, Instead::Flags(flags, flag))
+}
+
+/// What helps at the field of a display filter in the brackets of its layer.
+pub(crate) fn of_index<'a>(alloc: Global, spot: Spot<'a>, field: Run<'a>) -> Found<'a> {
+    let start = spot.at(field.start);
+    let index = INDEXES.iter().find(|index| index.field == field.bytes
+        && start.before().ends_with(index.before));
+    let Some(index) = index else {
+        return Ok(None);
+    };
+    let end = field.start.saturating_add(field.bytes.len());
+    advise_instead(alloc, spot, field.start, end, Instead::Text(index.written))
+}
+
+/// Whether the text after a place joins a flag to what is before it, as `and tcp-ack` does.
+pub(crate) fn is_flag_joined(rest: &[u8]) -> bool {
+    let rest = after_blanks(rest);
+    let joint = first_word(rest);
+    let after = if JOINTS.contains(&joint) {
+        rest.strip_prefix(joint)
+    } else {
+        rest.strip_prefix(b"&&")
+            .or_else(|| rest.strip_prefix(b"||"))
+    };
+    match after {
+        Some(after) => after_blanks(after).starts_with(b"tcp-"),
+        None => false,
+    }
 }
 
 /// What helps at a field after its layer, or in the brackets of it.

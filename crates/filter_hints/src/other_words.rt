@@ -38,7 +38,11 @@ struct Remark {
     said: &'static str,
 }
 
-static REMARKS: [Remark; 5] = [
+static REMARKS: [Remark; 6] = [
+    Remark {
+        word: b"than",
+        said: "`less 60` is up to 60 bytes and `greater 60` is 60 and more; `len < 60` and `len > 60` leave out 60",
+    },
     Remark {
         word: b"inbound",
         said: "a capture has no directions: write `not ether src` and the address of the interface",
@@ -199,7 +203,7 @@ static OF_TEXT: [&[u8]; 2] = [b"contains", b"matches"];
 
 /// What is said of a search in the data.
 const SEARCH: &str =
-    "a filter looks at bytes at known places: `tcp[tcp[12] >> 4 << 2:4] = 0x47455420` finds `GET ` at the front of the data";
+    "a filter looks at bytes at known places: `tcp[tcp[12] >> 4 << 2:4] = 0x47455420` finds `GET ` at the front of the data of TCP; that of UDP begins at `udp[8]`";
 
 /// Units of lengths, which have no word here.
 static UNITS: [&[u8]; 4] = [b"bytes", b"byte", b"octets", b"octet"];

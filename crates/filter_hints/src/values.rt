@@ -1,7 +1,7 @@
 //! What helps at a value that nothing compares, as `ip[6] & 0x20` or `tcp-syn`.
 
 use crate::advice::{Advice, Found};
-use crate::flags::of_both_flags;
+use crate::flags::{JOINED_FLAGS, is_flag_joined, of_both_flags};
 use crate::instead::{Instead, advise_instead};
 use crate::terms::{is_constant, last_value};
 use filter_spots::{Spot, after_blanks, without_blanks};
@@ -130,6 +130,11 @@ fn of_several_bits<'a>(alloc: Global, spot: Spot<'a>, value: &'a [u8]) -> Found<
     advise_instead(alloc, spot, start, end, Instead::Bits(number, bits))
 }
 
+/// Whether a value is bits of the flags of TCP.
+fn has_flags(value: &[u8]) -> bool {
+    value.starts_with(b"tcp[") && value.contains(&b'&')
+}
+
 /// What is said of a value that nothing compares. If it is all of the text, in one word, the shell
 /// may have taken the rest.
 fn uncompared(spot: Spot<'_>) -> &'static str {
@@ -143,6 +148,9 @@ fn uncompared(spot: Spot<'_>) -> &'static str {
 /// What helps at the end of a value that nothing compares, if the text is an expression with this
 /// comparison there.
 pub(crate) fn of_comparison<'a>(alloc: Global, spot: Spot<'a>, comparison: &str) -> Found<'a> {
+    if has_flags(last_value(spot.before())) && is_flag_joined(spot.rest()) {
+        return Ok(Some(Advice::Said(JOINED_FLAGS)));
+    }
     match spot.before_word() {
         Some(gap) if gap.is_whole_with(alloc, comparison)? => {}
         _ => return Ok(None),
