@@ -305,6 +305,8 @@ fn way_of_command(command: &str, option: &str) -> Option<&'static str> {
         ("parts", "-n") => Some("parts takes N as a word: bpftap parts 4 IN"),
         ("split", "-c" | "--count") => Some(COUNTS_OF_SPLIT),
         ("split", "-l" | "-n") => Some(PIECES),
+        ("cut" | "split", "-F") => Some("OUT is a classic savefile: leave this option out"),
+        ("info", "-A" | "-T" | "-B") => Some("info prints all that it has: leave this option out"),
         ("cut" | "split", "-v") => Some(REJECTED),
         (_, "-e" | "-f") => way_of_filter(command),
         (_, "-w" | "-o" | "--output") => way_of_output(command),
@@ -349,6 +351,9 @@ fn option_way<S: AsStr>(words: &[S]) -> Option<&'static str> {
     }
     if gives_number(words, "-n") && (is_cut(words) || command_of(words) == Some("explain")) {
         return Some(FIRST_PACKETS);
+    }
+    if gives_number(words, "-i") {
+        return Some(PIECES);
     }
     for word in words {
         if let Some(way) = way_of_option(words, word.as_str()) {
@@ -464,8 +469,8 @@ fn lacks_capture<S: AsStr>(words: &[S]) -> bool {
     }
 }
 
-/// What is said of a word that is missing: of `parts` and `join` the last one, of `parts` and
-/// `split` the one before IN.
+/// What is said of a word that is missing: of `parts` and `join` the last one, of `parts`, `split`,
+/// `steps` and `run` one before IN.
 fn missing_word<S: AsStr>(words: &[S]) -> Option<&'static str> {
     let has_capture = words.iter().any(is_capture_name);
     match (command_of(words)?, count_plain(words), has_capture) {
@@ -475,6 +480,8 @@ fn missing_word<S: AsStr>(words: &[S]) -> Option<&'static str> {
         ("split", 1, true) => Some(
             "LINES is missing, a file of which each line is SNAP OUT EXPRESSION",
         ),
+        ("steps", 2, true) => Some("a file is missing: bpftap steps LISTENERS SCRIPT IN"),
+        ("run", 1, true) => Some("LISTENERS is missing: bpftap run LISTENERS IN"),
         _ => None,
     }
 }

@@ -1,6 +1,6 @@
 //! What is written here for a test of a display filter.
 
-use filter_spots::{Spot, after_blanks, without_blanks};
+use filter_spots::Spot;
 use std::alloc::{AllocError, Global};
 use std::fmt;
 use std::fmt::{Display, Formatter};
@@ -50,6 +50,11 @@ impl Display for Written<'_> {
     }
 }
 
+/// Whether a byte separates the items of a list: a comma, or a blank, as in older versions.
+fn separates_items(byte: &u8) -> bool {
+    *byte == b',' || *byte == b' '
+}
+
 /// A test of several values, as a group: with `or`, in parentheses.
 fn write_group<W: fmt::Write>(
     layer: &'static str,
@@ -58,11 +63,15 @@ fn write_group<W: fmt::Write>(
     f: &mut Formatter<W>,
 ) -> fmt::Result {
     write!(f, "{layer} {test} (")?;
-    for (at, item) in list.split(|byte| *byte == b',').enumerate() {
+    for (at, item) in list
+        .split(separates_items)
+        .filter(|item| !item.is_empty())
+        .enumerate()
+    {
         if at > 0 {
             f.write_str(" or ")?;
         }
-        write!(f, "{}", Shown(after_blanks(without_blanks(item))))?;
+        write!(f, "{}", Shown(item))?;
     }
     f.write_char(')')
 }
@@ -74,15 +83,15 @@ fn write_either<W: fmt::Write>(
     f: &mut Formatter<W>,
 ) -> fmt::Result {
     f.write_char('(')?;
-    for (at, item) in list.split(|byte| *byte == b',').enumerate() {
+    for (at, item) in list
+        .split(separates_items)
+        .filter(|item| !item.is_empty())
+        .enumerate()
+    {
         if at > 0 {
             f.write_str(" or ")?;
         }
-        write!(
-            f,
-            "{number} = {}",
-            Shown(after_blanks(without_blanks(item)))
-        )?;
+        write!(f, "{number} = {}", Shown(item))?;
     }
     f.write_char(')')
 }

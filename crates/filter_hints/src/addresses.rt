@@ -2,7 +2,10 @@
 
 use crate::advice::{Advice, Found};
 use crate::instead::{Instead, advise_instead};
-use filter_spots::{HOST, Run, Spot, after_blanks, first_word, port_of, without_blanks};
+use filter_spots::{
+    HOST, Run, Spot, after_blanks, first_word, last_word, port_of, without_blanks,
+    without_last_word,
+};
 use std::alloc::Global;
 use std::fmt;
 use std::fmt::{Display, Formatter};
@@ -11,11 +14,17 @@ use visible_text::Shown;
 /// How many groups of 16 bits an IPv6 address has.
 const IPV6_GROUPS: usize = 8;
 
+/// The word before an Ethernet address, or before the words of a side.
+const ETHER: &[u8] = b"ether";
+
 /// Words that an Ethernet address follows after `ether`.
 static BEFORE_ETHERNET: [&[u8]; 3] = [b"host", b"src", b"dst"];
 
 /// Words of a side, which an address or a net follows.
 static SIDES: [&[u8]; 2] = [b"src", b"dst"];
+
+/// Words that ports follow.
+static WITH_PORTS: [&[u8]; 2] = [b"port", b"portrange"];
 
 /// What is said of a port that there is not.
 const PORTS: &str = "ports are 0 to 65535";
@@ -262,12 +271,22 @@ fn of_missing_ether<'a>(alloc: Global, spot: Spot<'a>, run: Run<'a>) -> Found<'a
     }
 }
 
-/// What helps at a part of an Ethernet address, or at one with other digits, after `ether`.
+/// Whether a place is where an Ethernet address goes: after `ether` and a word of a side, or more.
+fn takes_ethernet(first: Spot<'_>) -> bool {
+    let before = without_last_word(first.before());
+    BEFORE_ETHERNET.contains(&first.last())
+        && (last_word(before) == ETHER || last_word(without_last_word(before)) == ETHER)
+}
+
+/// What helps at a part of an Ethernet address, or at an IPv4 address, after `ether`.
 fn of_other_parts<'a>(spot: Spot<'a>, run: Run<'a>) -> Option<Advice<'a>> {
-    let first = spot.at(run.start);
-    let is_after = BEFORE_ETHERNET.contains(&first.last())
-        && first.second_last() == b"ether".as_slice();
-    if is_after && run.bytes.contains(&b':') {
+    if !takes_ethernet(spot.at(run.start)) {
+        None
+    } else if is_dotted(run.bytes) {
+        Some(Advice::Said(
+            "`ether` takes an Ethernet address: leave `ether` out before an IPv4 address",
+        ))
+    } else if run.bytes.contains(&b':') {
         Some(Advice::Round(
             "an Ethernet address has six parts, as `00:00:5e:00:53:01`, each of two hexadecimal digits: `",
             run.bytes,
@@ -338,6 +357,14 @@ fn is_range(text: &[u8]) -> bool {
     text.split(|byte| *byte == b'-').count() == 2 && text.split(|byte| *byte == b'-').all(is_number)
 }
 
+/// Whether a text is two ports with `-` between them.
+pub(crate) fn is_port_range(text: &[u8]) -> bool {
+    is_range(text)
+        && text
+            .split(|byte| *byte == b'-')
+            .all(|end| port_of(end).is_some())
+}
+
 /// What helps at a range after `port`.
 pub(crate) fn of_range<'a>(alloc: Global, spot: Spot<'a>) -> Found<'a> {
     let run = spot.run();
@@ -345,11 +372,7 @@ pub(crate) fn of_range<'a>(alloc: Global, spot: Spot<'a>) -> Found<'a> {
     if first.last() != b"port".as_slice() || !is_range(run.bytes) {
         return Ok(None);
     }
-    if run
-        .bytes
-        .split(|byte| *byte == b'-')
-        .any(|end| port_of(end).is_none())
-    {
+    if !is_port_range(run.bytes) {
         return Ok(Some(Advice::Said(PORTS)));
     }
     match spot.without(first.start_of_last(), first.last().len()) {
@@ -357,6 +380,17 @@ pub(crate) fn of_range<'a>(alloc: Global, spot: Spot<'a>) -> Found<'a> {
             Ok(Some(Advice::Round("write `portrange ", run.bytes, "`")))
         }
         _ => Ok(None),
+    }
+}
+
+/// What is said of a net with bits outside its mask, or with a mask that begins with zeros.
+pub(crate) fn said_of_net(spot: Spot<'_>) -> Option<&'static str> {
+    let after = after_blanks(spot.after_word());
+    let mask = after_blanks(after.strip_prefix(b"mask")?);
+    if mask.starts_with(b"0.") {
+        Some("a mask has its ones in front: `mask 255.255.255.0`, not `mask 0.0.0.255`")
+    } else {
+        None
     }
 }
 
@@ -376,6 +410,9 @@ pub(crate) fn of_mask<'a>(alloc: Global, spot: Spot<'a>) -> Found<'a> {
 /// What helps at a `/` after the first part of a net, or at a mask after one.
 pub(crate) fn of_net<'a>(alloc: Global, spot: Spot<'a>) -> Found<'a> {
     let before = without_blanks(spot.before());
+    if spot.rest().starts_with(b"/") && WITH_PORTS.contains(&spot.second_last()) {
+        return Ok(Some(Advice::Said("the protocol comes before `port`, as in `tcp port 80`")));
+    }
     let gap = if spot.rest().starts_with(b"/") {
         (spot.before_word(), ".0.0.0")
     } else if before.ends_with(b"/") {

@@ -7,20 +7,22 @@ ghost use Rattle.filtergen_facts.specs.declared.refusal.Refusal.TheVariants as R
 ghost use Rattle.filterlang.specs.declared.fault.Fault.TheVariants as Fault;
 
 use crate::addresses::{
-    is_number, of_comma, of_ethernet, of_ipv6, of_mask, of_masked_host, of_net, of_range,
+    is_number, is_port_range, of_comma, of_ethernet, of_ipv6, of_mask, of_masked_host, of_net,
+    of_range, said_of_net,
 };
 use crate::advice::{Advice, Found};
 use crate::colons::{of_endpoint, of_other_range};
 use crate::comparisons::of_compared;
 use crate::dots::of_dots;
 use crate::flags::{of_flag, of_layer_field};
+use crate::instead::Instead;
 use crate::left_sides::{of_operand, of_sign};
 use crate::other_words::{
     of_every_packet, of_ip_broadcast, of_left_out, of_other_word, of_sctp, of_text, of_unit,
     of_value,
 };
-use crate::services::of_service;
-use crate::terms::is_bound;
+use crate::services::{of_service, port_named};
+use crate::terms::{is_bound, is_of_comparison};
 use crate::values::of_comparison;
 use filter_spots::{
     PROTO, Spot, after_blanks, first_word, in_small_letters, port_of, without_blanks,
@@ -51,6 +53,16 @@ static OVER_ETHERNET: [&[u8]; 4] = [b"ip", b"tcp", b"udp", b"icmp"];
 
 /// Protocols over IPv4, of which a packet has one.
 static TRANSPORTS: [&[u8]; 4] = [b"tcp", b"udp", b"icmp", b"sctp"];
+
+/// Words after `port` that are no services.
+static OTHER_PORTS: [&[u8]; 6] = [b"in", b"between", b"range", b"is", b"any", b"from"];
+
+/// What is said of ports of a protocol that has none.
+const PORTS: &str =
+    "only `tcp`, `udp` and `sctp` have ports: write one of them before `port`, or none";
+
+/// Words before `port` and `portrange`.
+static BEFORE_PORTS: [&[u8]; 2] = [b"src", b"dst"];
 
 /// Words that are names of their own, however near a word of the language is.
 static OTHER_NAMES: [&[u8]; 11] = [
@@ -97,11 +109,7 @@ fn of_name<'a>(spot: Spot<'a>) -> Advice<'a> {
             "`",
         )
     } else if before == PORT {
-        Advice::Elsewhere(
-            "service names are not supported: write a number, as in `port 80`, for `",
-            name,
-            "`",
-        )
+        of_service_name(name)
     } else if (before == PROTO && spot.second_last() == ETHER)
         || (before == ETHER && name == b"type".as_slice())
     {
@@ -120,6 +128,25 @@ fn of_name<'a>(spot: Spot<'a>) -> Advice<'a> {
             name,
             "` is no word of the language, and names are not supported",
         )
+    }
+}
+
+/// What helps at a word after `port`.
+fn of_service_name<'a>(name: &'a [u8]) -> Advice<'a> {
+    if OTHER_PORTS.contains(&name) {
+        return Advice::Said(
+            "several ports are `port (80 or 443)`, and a range is `portrange 80-90`",
+        );
+    }
+    match port_named(name) {
+        Some(number) if is_number(number.as_bytes()) => {
+            Advice::Instead(Instead::Text(number), name)
+        }
+        _ => Advice::Elsewhere(
+            "service names are not supported: write a number, as in `port 80`, for `",
+            name,
+            "`",
+        ),
     }
 }
 
@@ -183,9 +210,22 @@ fn begins_with_quote(text: &[u8]) -> bool {
     }
 }
 
+/// Whether a sign that compares is right before a place.
+fn is_after_sign(spot: Spot<'_>) -> bool {
+    match without_blanks(spot.before()).last() {
+        Some(byte) => is_of_comparison(byte),
+        None => false,
+    }
+}
+
 /// What helps at a byte that begins no token.
 fn of_byte<'a>(alloc: Global, spot: Spot<'a>) -> Result<Advice<'a>, AllocError> {
-    if begins_with_quote(spot.rest()) {
+    if begins_with_quote(spot.rest())
+        && spot.last() != b"contains".as_slice()
+        && is_after_sign(spot)
+    {
+        Ok(Advice::Said("text is a number here, of up to four bytes: 0x47455420 is `GET `"))
+    } else if begins_with_quote(spot.rest()) {
         Ok(Advice::Said("quotes are for the shell, not part of an expression"))
     } else if spot.rest().is_empty() {
         Ok(Advice::Said("no word, number or sign begins here"))
@@ -216,43 +256,67 @@ fn of_single_sign<'a>(alloc: Global, spot: Spot<'a>) -> Found<'a> {
     }
 }
 
-/// Where the number begins after a protocol that has ports, and after `src` or `dst`; and the
-/// number.
-fn bare_port(spot: Spot<'_>) -> Option<(usize, &[u8])> {
-    if !TRANSPORTS.contains(&spot.word()) || spot.word() == b"icmp".as_slice() {
-        return None;
-    }
+/// The text after the protocol at a place, and after `src` or `dst`.
+fn after_side<'a>(spot: Spot<'a>) -> &'a [u8] {
     let rest = after_blanks(spot.after_word());
     let side = first_word(rest);
-    let rest = if side == b"src".as_slice() || side == b"dst".as_slice() {
-        after_blanks(rest.strip_prefix(side)?)
+    if BEFORE_PORTS.contains(&side) {
+        after_blanks(rest.strip_prefix(side).unwrap_or(rest))
     } else {
         rest
-    };
-    let number = first_word(rest);
-    port_of(number)?;
-    let len = spot.rest().len().saturating_sub(rest.len());
-    Some((spot.before().len().saturating_add(len), number))
+    }
 }
 
-/// What helps at the number of a port without `port`, as `tcp 80`.
+/// What helps at the number of a port without `port` after a protocol, as `tcp 80`: a range too,
+/// and several in parentheses.
 fn of_bare_port<'a>(alloc: Global, spot: Spot<'a>) -> Found<'a> {
-    let Some((start, number)) = bare_port(spot) else {
+    let rest = after_side(spot);
+    let number = first_word(rest);
+    let (put, said, token) = if is_port_range(number) {
+        ("portrange ", "write `portrange` before `", number)
+    } else if port_of(number).is_some() {
+        ("port ", "write `port` before `", number)
+    } else if port_of(first_word(rest.strip_prefix(b"(").unwrap_or(&[]))).is_some() {
+        ("port ", "write `port` before `", b"(".as_slice())
+    } else {
         return Ok(None);
     };
+    let start = spot.at(0).rest().len().saturating_sub(rest.len());
     match spot.at(start).before_word() {
-        Some(gap) if gap.takes(alloc, "port ")? => {
-            Ok(Some(Advice::Round("write `port` before `", number, "`")))
-        }
+        Some(gap) if gap.takes(alloc, put)? => Ok(Some(Advice::Round(said, token, "`"))),
         _ => Ok(None),
     }
 }
 
 /// What helps at words that do not go together.
 fn of_qualifier<'a>(alloc: Global, spot: Spot<'a>, fault: Fault) -> Result<Advice<'a>, AllocError> {
+    let word = first_word(after_side(spot));
+    if word == PORT || word == PORTRANGE {
+        return Ok(Advice::Said(PORTS));
+    }
     match of_bare_port(alloc, spot)? {
         Some(advice) => Ok(advice),
         None => Ok(of_sctp(spot).unwrap_or(Advice::Said(sentence(fault)))),
+    }
+}
+
+/// What helps at a number right after `src` or `dst`, or at a net after `host` or without `net`.
+fn of_identifier<'a>(
+    alloc: Global,
+    spot: Spot<'a>,
+    fault: Fault,
+) -> Result<Advice<'a>, AllocError> {
+    if let Some(advice) = of_masked_host(alloc, spot)? {
+        return Ok(advice);
+    }
+    match spot.before_word() {
+        Some(gap)
+            if port_of(spot.word()).is_some()
+                && BEFORE_PORTS.contains(&spot.last())
+                && gap.takes(alloc, "port ")? => {
+            Ok(Advice::Round("write `port` before `", spot.word(), "`"))
+        }
+        _ => Ok(Advice::Said(sentence(fault))),
     }
 }
 
@@ -267,6 +331,13 @@ fn of_number<'a>(word: &[u8]) -> Advice<'a> {
     } else {
         Advice::Said("a number is at most 4294967295, and no name begins with a digit")
     }
+}
+
+/// Whether each `(` of a text is closed in it.
+fn closes_nothing(text: &[u8]) -> bool {
+    let opened = text.iter().filter(|byte| **byte == b'(').count();
+    let closed = text.iter().filter(|byte| **byte == b')').count();
+    opened <= closed
 }
 
 /// What to write after a word that takes a number or an address; nothing for other words.
@@ -288,6 +359,8 @@ fn operand_at(spot: Spot<'_>) -> Option<&'static str> {
         Some(
             "write a number after `proto`, as in `proto 17`, or a name with a backslash, as in `proto \\udp`",
         )
+    } else if spot.rest().starts_with(b")") && closes_nothing(spot.before()) {
+        Some("no `(` is open at this `)`")
     } else if spot.takes_address() {
         Some("write an address after `src` and `dst`, or `host`, `net` or `port` before it")
     } else if last == b"len".as_slice() && is_number(spot.word()) {
@@ -486,10 +559,8 @@ fn of_fault<'a>(alloc: Global, spot: Spot<'a>, fault: Fault) -> Result<Advice<'a
             Ok(operand.unwrap_or(of_no_qualifier(spot.before())))
         }
         Fault::BadQualifier(_) => of_qualifier(alloc, spot, fault),
-        Fault::BadIdentifier(_) => {
-            let net = of_masked_host(alloc, spot)?;
-            Ok(net.unwrap_or(Advice::Said(sentence(fault))))
-        }
+        Fault::BadIdentifier(_) => of_identifier(alloc, spot, fault),
+        Fault::NetBits(_) => Ok(Advice::Said(said_of_net(spot).unwrap_or(sentence(fault)))),
         _ => Ok(Advice::Said(sentence(fault))),
     }
 }

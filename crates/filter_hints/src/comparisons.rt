@@ -1,5 +1,6 @@
 //! What helps at a comparison where a value follows by itself, as `port > 1024` or `host != 10.0.0.1`.
 
+use crate::addresses::is_dotted;
 use crate::advice::Found;
 use crate::choice::PORT;
 use crate::instead::{Instead, advise_instead};
@@ -17,6 +18,9 @@ static OF_TESTS: [&[u8]; 14] = [
     b"ether", b"ip", b"arp", b"rarp", b"tcp", b"udp", b"icmp", b"sctp", HOST, b"net", PORT, PROTO,
     b"src", b"dst",
 ];
+
+/// Protocols that a packet may lack.
+static LAYERS: [&[u8]; 7] = [b"ip", b"arp", b"rarp", b"tcp", b"udp", b"icmp", b"sctp"];
 
 /// Words that compare, and the sign for each.
 static WORDS: [(&[u8], &[u8]); 8] = [
@@ -94,8 +98,11 @@ pub(crate) fn of_compared<'a>(alloc: Global, spot: Spot<'a>) -> Found<'a> {
     let Some(compared) = compared_at(spot.rest()) else {
         return Ok(None);
     };
-    if !BEFORE_VALUES.contains(&spot.last()) || compared.value.is_empty() {
+    if compared.value.is_empty() {
         return Ok(None);
+    }
+    if !BEFORE_VALUES.contains(&spot.last()) {
+        return of_protocol(alloc, spot, compared);
     }
     let place = spot.before().len();
     let end = place.saturating_add(compared.len);
@@ -105,14 +112,42 @@ pub(crate) fn of_compared<'a>(alloc: Global, spot: Spot<'a>) -> Found<'a> {
             let instead = Instead::Valued("", spot.last(), compared.value);
             advise_instead(alloc, spot, last, end, instead)
         }
-        b"!=" | b"!" => {
-            let start = start_of_test(spot);
-            let test = without_blanks(spot.between(start, place));
-            let instead = Instead::Valued("not ", test, compared.value);
-            advise_instead(alloc, spot, start, end, instead)
-        }
+        b"!=" | b"!" => of_other_value(alloc, spot, compared),
         _ => of_ports(alloc, spot, compared),
     }
+}
+
+/// What helps at a sign that asks for another value: a `not` before the test, or between a protocol
+/// and its test.
+fn of_other_value<'a>(alloc: Global, spot: Spot<'a>, compared: Compared<'a>) -> Found<'a> {
+    let place = spot.before().len();
+    let start = start_of_test(spot);
+    let test = without_blanks(spot.between(start, place));
+    let layer = first_word(test);
+    let instead = if LAYERS.contains(&layer) {
+        let test = after_blanks(test.strip_prefix(layer).unwrap_or(test));
+        Instead::Not(layer, test, compared.value, spot.at(start).joins_tests())
+    } else {
+        Instead::Valued("not ", test, compared.value)
+    };
+    let end = place.saturating_add(compared.len);
+    advise_instead(alloc, spot, start, end, instead)
+}
+
+/// What helps at a `=` after a protocol: the word that an address or a port follows.
+fn of_protocol<'a>(alloc: Global, spot: Spot<'a>, compared: Compared<'a>) -> Found<'a> {
+    let test: &'static [u8] = match spot.last() {
+        b"ip" if is_dotted(compared.value) => b"ip host",
+        b"tcp" if port_of(compared.value).is_some() => b"tcp port",
+        b"udp" if port_of(compared.value).is_some() => b"udp port",
+        _ => return Ok(None),
+    };
+    if compared.sign != b"=".as_slice() && compared.sign != b"==".as_slice() {
+        return Ok(None);
+    }
+    let end = spot.before().len().saturating_add(compared.len);
+    let instead = Instead::Valued("", test, compared.value);
+    advise_instead(alloc, spot, spot.start_of_last(), end, instead)
 }
 
 /// The ports that a comparison means, the first and the last.

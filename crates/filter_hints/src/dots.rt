@@ -10,6 +10,14 @@ use std::alloc::Global;
 const DISPLAY_FILTER: &str =
     "this looks like a display filter of Wireshark, for which there are no words here: tshark -r IN -Y FILTER -F nsecpcap -w OUT may take it";
 
+/// What is said after the name of a capture.
+const CAPTURE: &str =
+    "` is the name of a capture, and no filter: filters come before captures, for compare two; cmp compares the bytes of two captures, and tshark -t e -x prints their packets to be compared";
+
+/// What is said of a net of a display filter that has bits outside its mask.
+const NET: &str =
+    "a net's address has no bits outside its mask here: write 0 for those, as in `ip net 192.0.2.0/24`";
+
 /// How the names of captures end.
 static CAPTURES: [&[u8]; 3] = [b".pcap", b".pcapng", b".cap"];
 
@@ -40,15 +48,31 @@ fn of_display_filter<'a>(alloc: Global, spot: Spot<'a>, field: Run<'a>) -> Found
     if let Some(advice) = of_index(alloc, spot, field)? {
         return Ok(Some(advice));
     }
+    let end = field.start.saturating_add(field.bytes.len());
+    let is_net = field.bytes.starts_with(b"ip.") && spot.at(end).rest().contains(&b'/');
     match of_field(alloc, spot, field)? {
         Some(advice) => Ok(Some(Advice::Display(advice))),
+        None if is_net => Ok(Some(Advice::Said(NET))),
         None => Ok(Some(Advice::Said(DISPLAY_FILTER))),
+    }
+}
+
+/// What helps at the path of a capture, if that is all of the text.
+fn of_path<'a>(spot: Spot<'a>) -> Option<Advice<'a>> {
+    let text = spot.at(0).rest();
+    if text.contains(&b'/') && !text.contains(&b' ') && is_capture(text) {
+        Some(Advice::Round("`", text, CAPTURE))
+    } else {
+        None
     }
 }
 
 /// What helps at a name with dots: a field, or the name of a capture, of a file with a filter, or
 /// of a host.
 pub(crate) fn of_dots<'a>(alloc: Global, spot: Spot<'a>) -> Found<'a> {
+    if let Some(advice) = of_path(spot) {
+        return Ok(Some(advice));
+    }
     let run = spot.run();
     let end = run.start.saturating_add(run.bytes.len());
     let after = spot.at(end).rest();
@@ -57,11 +81,7 @@ pub(crate) fn of_dots<'a>(alloc: Global, spot: Spot<'a>) -> Found<'a> {
         return Ok(None);
     }
     if is_capture(run.bytes) {
-        return Ok(Some(Advice::Round(
-            "`",
-            run.bytes,
-            "` is the name of a capture, and no filter: captures are the last words; cmp compares the bytes of two, and tshark -t e -x prints their packets to be compared",
-        )));
+        return Ok(Some(Advice::Round("`", run.bytes, CAPTURE)));
     }
     if is_filter_file(run.bytes) {
         return Ok(Some(Advice::Round(

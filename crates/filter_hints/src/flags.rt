@@ -184,7 +184,25 @@ struct Index {
     written: &'static str,
 }
 
-static INDEXES: [Index; 3] = [
+static INDEXES: [Index; 6] = [
+    Index {
+        before: b"ip[",
+        word: b"ttl",
+        field: b"ip.ttl",
+        written: "8",
+    },
+    Index {
+        before: b"ip[",
+        word: b"id",
+        field: b"ip.id",
+        written: "4:2",
+    },
+    Index {
+        before: b"udp[",
+        word: b"length",
+        field: b"udp.length",
+        written: "4:2",
+    },
     Index {
         before: b"tcp[",
         word: b"flags",
@@ -298,6 +316,18 @@ fn of_layer_and_word<'a>(alloc: Global, spot: Spot<'a>, written: &'static str) -
     )
 }
 
+/// Whether a text ends with `or` after a comparison of flags with `=`.
+pub(crate) fn is_after_flags(text: &[u8]) -> bool {
+    let text = without_blanks(text);
+    match text
+        .strip_suffix(b" or")
+        .or_else(|| text.strip_suffix(b"||"))
+    {
+        Some(before) => flags_at_end(without_blanks(before)).is_some(),
+        None => false,
+    }
+}
+
 /// The flags that a comparison with `=` at the end of a text has as its right side.
 fn flags_at_end(text: &[u8]) -> Option<&[u8]> {
     let sign = text.iter().rposition(is_of_comparison)?;
@@ -366,6 +396,27 @@ pub(crate) fn is_flag_joined(rest: &[u8]) -> bool {
     }
 }
 
+/// What helps at `flags` after `tcp` and before the name of one, as in `tcp flags syn`.
+fn of_named_flag<'a>(alloc: Global, spot: Spot<'a>) -> Found<'a> {
+    let rest = after_blanks(spot.after_word());
+    let name = first_word(rest);
+    let Some(flag) = flag_named(name) else {
+        return Ok(None);
+    };
+    if spot.last() != TCP {
+        return Ok(None);
+    }
+    let left = rest.len().saturating_sub(name.len());
+    let text = spot.at(0).rest();
+    advise_instead(
+        alloc,
+        spot,
+        spot.start_of_last(),
+        text.len().saturating_sub(left),
+        Instead::Text(flag.asked),
+    )
+}
+
 /// What helps at a field after its layer, or in the brackets of it.
 pub(crate) fn of_layer_field<'a>(alloc: Global, spot: Spot<'a>) -> Found<'a> {
     let (word, layer) = (spot.word(), spot.last());
@@ -385,6 +436,6 @@ pub(crate) fn of_layer_field<'a>(alloc: Global, spot: Spot<'a>) -> Found<'a> {
         Some(next) if is_of_comparison(next) || *next == b'&' => {
             of_layer_and_word(alloc, spot, field.written)
         }
-        _ => Ok(None),
+        _ => of_named_flag(alloc, spot),
     }
 }

@@ -24,6 +24,9 @@ pub enum Instead<'a> {
     Ports(u16, u16),
     /// A `not` or nothing, and a test with its value.
     Valued(&'static str, &'a [u8], &'a [u8]),
+    /// A layer, a test that it is not to pass and its value, and whether the two are written without
+    /// parentheses.
+    Not(&'a [u8], &'a [u8], &'a [u8], bool),
     /// A number of the packet, and bits of it of which one is to be set.
     Bits(&'a [u8], &'a [u8]),
     /// Flags as one number, and a flag more.
@@ -41,6 +44,14 @@ impl Display for Instead<'_> {
             Instead::Ports(first, last) => write!(f, "portrange {first}-{last}"),
             Instead::Valued(not, test, value) => {
                 write!(f, "{not}{} {}", Shown(*test), Shown(*value))
+            }
+            Instead::Not(layer, test, value, true) => {
+                let (layer, test) = (Shown(*layer), Shown(*test));
+                write!(f, "{layer} and not {test} {}", Shown(*value))
+            }
+            Instead::Not(layer, test, value, false) => {
+                let (layer, test) = (Shown(*layer), Shown(*test));
+                write!(f, "({layer} and not {test} {})", Shown(*value))
             }
             Instead::Bits(number, bits) => {
                 write!(f, "{} & ({}) != 0", Shown(*number), Shown(*bits))

@@ -357,6 +357,9 @@ fn of_ether<'a>(alloc: Global, spot: Spot<'a>) -> Found<'a> {
 /// written here.
 pub(crate) fn of_other_word<'a>(alloc: Global, spot: Spot<'a>) -> Found<'a> {
     let word = spot.word();
+    if spot.before().ends_with(b"[") {
+        return Ok(None);
+    }
     if let Some(other) = OTHER_WORDS.iter().find(|other| other.word == word) {
         return of_written(alloc, spot, other.written);
     }

@@ -121,6 +121,13 @@ static SERVICES: [Service; 27] = [
     },
 ];
 
+/// The usual port of a protocol, if it has one.
+pub(crate) fn port_named(name: &[u8]) -> Option<&'static str> {
+    let service = SERVICES.iter().find(|service| service.name == name)?;
+    let (_, number) = service.written.rsplit_once("port ")?;
+    Some(number)
+}
+
 /// What helps at the name of a protocol over ports.
 pub(crate) fn of_service<'a>(alloc: Global, spot: Spot<'a>) -> Found<'a> {
     let Some(service) = SERVICES.iter().find(|service| service.name == spot.word()) else {

@@ -1,7 +1,8 @@
 //! What helps at a value that nothing compares, as `ip[6] & 0x20` or `tcp-syn`.
 
+use crate::addresses::is_port_range;
 use crate::advice::{Advice, Found};
-use crate::flags::{JOINED_FLAGS, is_flag_joined, of_both_flags};
+use crate::flags::{JOINED_FLAGS, is_after_flags, is_flag_joined, of_both_flags};
 use crate::instead::{Instead, advise_instead};
 use crate::terms::{is_constant, last_value};
 use filter_spots::{Spot, after_blanks, without_blanks};
@@ -9,6 +10,10 @@ use std::alloc::Global;
 
 /// A longer value is not written out.
 const MAX_VALUE: usize = 60;
+
+/// What is said of a flag after `or`, before which the flags are compared with others.
+const COMPARED_AGAIN: &str =
+    "compare again after `or`, as in `tcp[tcpflags] = tcp-syn or tcp[tcpflags] = tcp-ack`";
 
 /// A named value, and what asks for it, or for the field that it is the place of.
 struct NamedValue {
@@ -75,8 +80,12 @@ static NAMED_VALUES: [NamedValue; 14] = [
     },
 ];
 
-/// What helps at a value that is the same for each packet: of a named one, the field that has it.
+/// What helps at a value that is the same for each packet: of a named one, the field that has it; of
+/// two ports with `-`, the word before them.
 fn of_constant<'a>(alloc: Global, spot: Spot<'a>, value: &'a [u8]) -> Found<'a> {
+    if is_port_range(value) {
+        return Ok(Some(Advice::Round("write `portrange` before `", value, "`")));
+    }
     let end = without_blanks(spot.before()).len();
     let start = end.saturating_sub(value.len());
     let named = NAMED_VALUES
@@ -100,6 +109,9 @@ fn of_named_value<'a>(
     named: &'static NamedValue,
 ) -> Found<'a> {
     if named.name.starts_with("tcp-") {
+        if is_after_flags(start.before()) {
+            return Ok(Some(Advice::Said(COMPARED_AGAIN)));
+        }
         if let Some(advice) = of_both_flags(alloc, start, end, named.name)? {
             return Ok(Some(advice));
         }
