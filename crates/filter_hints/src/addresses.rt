@@ -407,10 +407,18 @@ pub(crate) fn of_mask<'a>(alloc: Global, spot: Spot<'a>) -> Found<'a> {
     }
 }
 
+/// Whether a text is a `/` and a word, as after a port elsewhere: `80/tcp`.
+fn names_protocol(text: &[u8]) -> bool {
+    match text.strip_prefix(b"/").unwrap_or(&[]).first() {
+        Some(letter) => letter.is_ascii_alphabetic(),
+        None => false,
+    }
+}
+
 /// What helps at a `/` after the first part of a net, or at a mask after one.
 pub(crate) fn of_net<'a>(alloc: Global, spot: Spot<'a>) -> Found<'a> {
     let before = without_blanks(spot.before());
-    if spot.rest().starts_with(b"/") && WITH_PORTS.contains(&spot.second_last()) {
+    if names_protocol(spot.rest()) && WITH_PORTS.contains(&spot.second_last()) {
         return Ok(Some(Advice::Said("the protocol comes before `port`, as in `tcp port 80`")));
     }
     let gap = if spot.rest().starts_with(b"/") {
