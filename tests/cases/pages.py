@@ -70,12 +70,12 @@ def commands_with_other_tools_end_well(scene):
     """The commands of RECIPES that take tools of others, as tcpdump's and Wireshark's, where these are there."""
     environment = start_page(scene)
     scene.put({name: VETH.read_bytes() for name in ("in.pcap", "one.pcap", "two.pcap")})
-    scene.put({"any.pcap": cooked(113, COOKED[113], "little")})
+    scene.put({"any.pcap": cooked(113, COOKED[113], "little"), "packet.txt": "0000 " + "ff " * 60 + "\n"})
     commands = [line.strip() for line in other_commands(ROOT / "docs" / "RECIPES.md")]
     asked = [line for line in commands if not line.startswith(NOT_RUN)]
     scene.check("ten commands or more", len(asked) >= 10, True)
     for command in asked:
-        tools = [tool for tool in ("tcpdump", "tcprewrite", "editcap", "mergecap", "tshark") if tool in command.partition("#")[0]]
+        tools = [tool for tool in ("tcpdump", "tcprewrite", "editcap", "mergecap", "text2pcap", "tshark") if tool in command.partition("#")[0]]
         if scene.has(*tools):
             script = f"set -e -o pipefail; {command}"
             done = subprocess.run(["bash", "-c", script], cwd=scene.folder, env=environment, stdin=subprocess.DEVNULL, capture_output=True, timeout=LIMIT)

@@ -326,7 +326,7 @@ static void prints(void) {
 static void hints(void) {
     static const char LONG[] = "its program may have more than 512 instructions: cut it into parts, with a `bpftap cut` for each,\n"
                                "or try whether libpcap finds a shorter one: tcpdump -y EN10MB -ddd EXPR > f.bpf, then -f f.bpf with cut, check or explain";
-    static const char OTHER[] = "service names are not supported: write a number, as in `port 80`, for `http`\n"
+    static const char OTHER[] = "service names are not supported: write a number, as in `port 80`, for `nfs`\n"
                                 "libpcap may read that: tcpdump -y EN10MB -ddd EXPR > f.bpf, then -f f.bpf with cut, check or explain";
     struct {
         const char *text;
@@ -336,7 +336,7 @@ static void hints(void) {
     } const wanted[] = {
         {"src prot 17", BPFTAP_BAD_WORD, 4, "did you mean `port`?"},
         {"tcp and host", BPFTAP_SYNTAX, 12, "write an address after `host`, as in `host 192.0.2.1`"},
-        {"port http", BPFTAP_BAD_WORD, 5, OTHER},
+        {"port nfs", BPFTAP_BAD_WORD, 5, OTHER},
         {"ip[0] / 0 = 1", BPFTAP_DIVIDE_BY_ZERO, 8, "division by zero"},
         {"", BPFTAP_TEXT_TOO_LONG, 0, "an expression has at most 8192 bytes: cut it into parts, with a `bpftap cut` for each"},
         {"ip", BPFTAP_TOO_LONG, 0, LONG},
