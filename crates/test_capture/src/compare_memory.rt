@@ -39,7 +39,7 @@ fn words_of<R: Abort + AllocGlobal>(
     }
 }
 
-/// `compare` ends with this status, prints this, and leaves so many files; what standard error has
+/// `compare` ends with this status, prints this, and leaves this many files; what standard error has
 /// are these lines.
 fn compares<R: Abort + AllocGlobal + Screen>(
     rt: &R,

@@ -6,7 +6,7 @@ use filterlang::{Fault, parse};
 use std::alloc::Global;
 
 /// What an expression answers to a frame that was captured whole, and why.
-pub fn told(alloc: Global, expression: &str, frame: &[u8]) -> Result<String, Fault> {
+pub fn verdict_text(alloc: Global, expression: &str, frame: &[u8]) -> Result<String, Fault> {
     let expr = parse(alloc, expression)?;
     let mut line = String::new(alloc);
     let wire = u32::try_from(frame.len()).unwrap_or(u32::MAX);
@@ -17,6 +17,9 @@ pub fn told(alloc: Global, expression: &str, frame: &[u8]) -> Result<String, Fau
 #[test]
 fn what_decides_follows_the_answer(rt: HostRuntime) {
     let alloc = rt.alloc();
-    let told = told(alloc, "arp and not (ether[20] = 1)", &[0; 14]).expect(&rt, "an expression");
-    same(&rt, told.as_str(), "No arp");
+    let text = verdict_text(alloc, "arp and not (ether[20] = 1)", &[0; 14]).expect(
+        &rt,
+        "an expression",
+    );
+    same(&rt, text.as_str(), "No arp");
 }

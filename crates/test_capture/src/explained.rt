@@ -13,10 +13,10 @@ pub fn explained(
     alloc: Global,
     capture: &[u8],
     expr: &str,
-    told: &mut Vec<u8>,
+    out: &mut Vec<u8>,
 ) -> Result<VerdictCounts, Fault> {
     let filter = of_expression(alloc, expr)?;
-    Ok(explain_each(alloc, capture, &filter, PacketForm::Text, told).counts)
+    Ok(explain_each(alloc, capture, &filter, PacketForm::Text, out).counts)
 }
 
 /// A header; the first 14 bytes of an ARP frame at second 1, and of an IPv4 frame at second 2.
@@ -24,15 +24,15 @@ const CAPTURE: &[u8] = b"\xd4\xc3\xb2\xa1\x02\0\x04\0\0\0\0\0\0\0\0\0\0\0\x04\0\
 \x01\0\0\0\0\0\0\0\x0e\0\0\0\x0e\0\0\0\xff\xff\xff\xff\xff\xff\0\x01\x02\x03\x04\x05\x08\x06\
 \x02\0\0\0\0\0\0\0\x0e\0\0\0\x0e\0\0\0\xff\xff\xff\xff\xff\xff\0\x01\x02\x03\x04\x05\x08\0";
 
-const TOLD: &str = "place 0 time 1.000000000 len 14 captured 14 Yes not tcp
+const LINES: &str = "place 0 time 1.000000000 len 14 captured 14 Yes not tcp
 place 1 time 2.000000000 len 14 captured 14 Abort not tcp, byte 23 is not captured
 2 packets: 1 Yes, 0 No, 1 Abort
 ";
 
 #[test]
 fn a_cut_frame_aborts(rt: HostRuntime) {
-    let mut told: Vec<u8> = Vec::new(rt.alloc());
-    let counts = explained(rt.alloc(), CAPTURE, "not tcp", &mut told).expect(&rt, "an expression");
+    let mut out: Vec<u8> = Vec::new(rt.alloc());
+    let counts = explained(rt.alloc(), CAPTURE, "not tcp", &mut out).expect(&rt, "an expression");
     let wanted = VerdictCounts {
         packets: 2,
         yes: 1,
@@ -40,5 +40,5 @@ fn a_cut_frame_aborts(rt: HostRuntime) {
         abort: 1,
         unseen: 0,
     };
-    same(&rt, (told.as_slice(), counts), (TOLD.as_bytes(), wanted));
+    same(&rt, (out.as_slice(), counts), (LINES.as_bytes(), wanted));
 }
