@@ -253,7 +253,7 @@ def what_is_not_decided_has_its_cause(scene):
 @case
 def a_small_stack_suffices(scene):
     """256 KiB are enough, for fields that are compared with one another, for texts of thousands of signs or words in a row, for texts that
-    ask for a thousand bytes each, and to print how two texts of a thousand words differ."""
+    ask for a thousand bytes each, for 64 nested brackets, and to print how two texts of a thousand words differ."""
     chance = random.Random(256)
     wide = [" or ".join(f"ether[{4 * n}:4] = {chance.randrange(1 << 32)}" for n in range(250)) for _ in range(2)]
     scene.start({})
@@ -263,6 +263,9 @@ def a_small_stack_suffices(scene):
     seen = [scene.run(["compare", "-q", *pair], first="ulimit -s 256") for pair in pairs]
     scene.check("statuses", [ended.status for ended in seen[:-1]], [4, 0, 5, 0, 5, 0])
     scene.check("of a thousand bytes", seen[-1].status in (4, 5), True)
+    brackets = ["(" * 64 + "len" + ")" * 64 + " = 1", "ip[" * 64 + "0" + "]" * 64 + " = 1"]
+    read = [scene.run(["compare", *pair], first="ulimit -s 256") for text in brackets for pair in ((text, "tcp"), ("tcp", text))]
+    scene.check("of 64 brackets", [ended.status for ended in read], [4, 4, 5, 5])
     many = [" or ".join([word] * 1000) for word in ("tcp", "udp")]
     shown = scene.run(["compare", *many], first="ulimit -s 256")
     scene.check("of a thousand words", (shown.out.split(b"\n")[0], shown.status), (b"differ", 4))

@@ -57,7 +57,7 @@ EndsRun program a = EndsRunAs end_text program a
 -- what a filter answers
 abbrev pub IsAnswer : AskedFilter → Answer → Type 0
 IsAnswer (Expression expr) a = Decides (tree_of expr) a
-IsAnswer (Program program) a = EndsRun program a
+IsAnswer (Program program) a = EndsRun program.value a
 
 -- after what a line had, a verdict and its reason were put
 abbrev pub PutsAnswer : List ℕ → List ℕ → (Answer → Type 0) → Packet → Verdict → Type 0

@@ -29,7 +29,7 @@ use Rattle.cli_answers.specs.Filter.{IsOfExpression}
 -- a filter is the program of the listing at a place
 abbrev pub IsOfListing : Option (List ℕ) → AskedFilter → Type 0
 IsOfListing text (Expression expr) = ⊥
-IsOfListing text (Program program) = (listing : List ℕ) × (text ≡ Some listing) × IsFilter (Some listing) None 0 program
+IsOfListing text (Program program) = (listing : List ℕ) × (text ≡ Some listing) × IsFilter (Some listing) None 0 program.value
 
 -- the filter that is asked for: that of the listing's file, or that of the expression; without either that of the empty one
 abbrev pub IsAskedFor : Places → Texts → Option (List ℕ) → Option (List ℕ) → AskedFilter → Type 0

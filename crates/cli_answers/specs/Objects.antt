@@ -82,7 +82,7 @@ pub record DecidesInJson (tree : Tree) (a : Answer) : Type 0 where
 -- what a filter answers
 abbrev pub IsJsonAnswer : AskedFilter → Answer → Type 0
 IsJsonAnswer (Expression expr) a = DecidesInJson (tree_of expr) a
-IsJsonAnswer (Program program) a = EndsRunAs end_json program a
+IsJsonAnswer (Program program) a = EndsRunAs end_json program.value a
 
 -- what a filter answers, with the reason in this form
 abbrev pub IsAnswerIn : PacketForm → AskedFilter → Answer → Type 0

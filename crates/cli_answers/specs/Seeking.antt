@@ -18,7 +18,7 @@ use Rattle.cli_answers.specs.Reading.{IsUnopened}
 -- whether a filter accepts a packet: an expression does if its meaning is Yes, a program if it returns a number other than 0
 abbrev pub accepts : AskedFilter → Packet → Bool
 accepts (Expression expr) p = is_yes (meaning (tree_of expr) (frame_of p))
-accepts (Program program) p = nat_lt 0 (verdict program p.bytes p.len)
+accepts (Program program) p = nat_lt 0 (verdict program.value p.bytes p.len)
 
 -- none of these passes
 abbrev pub NonePasses : (Packet → Bool) → List Packet → Type 0

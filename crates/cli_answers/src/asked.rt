@@ -3,10 +3,11 @@
 
 ghost use Rattle.std.specs.Prelude.{◌≡◌, [], true, Some, None, IfOk, IfErr, IfSome, OnOk, option_copied};
 ghost use Rattle.cli_files.specs.declared.paths.Opening.TheVariants.{First};
+ghost use Rattle.cli_files.specs.Reading.{IsRefusedMemory};
 ghost use Rattle.cli_store.specs.Files.{IsUnprinted, Keeps};
 ghost use Rattle.cli_answers.specs.Asked.{AreUnprinted, IsAsked, IsAskedFor, IsPrintedTo, IsUnasked, IsUngiven};
 
-use crate::filter::{AskedFilter, of_expression};
+use crate::filter::{AskedFilter, of_expression, of_program};
 use crate::opened::open_captures;
 use cli_files::paths::{Opening, PathFault};
 use cli_files::reading::MAX_TEXT;
@@ -14,7 +15,7 @@ use cli_filter::{FilterFault, filter};
 use cli_store::FileStore;
 use filtergen::ExpressionFault;
 use std::alloc::Global;
-use std::io;
+use std::io::{self, ErrorKind};
 
 /// Why no capture is asked.
 #[derive(Debug, Drop)]
@@ -36,6 +37,13 @@ pub struct Asked<I> {
     pub captures: Vec<I>,
 }
 
+/// The error of a file for which memory was refused.
+fn no_memory() -> io::Error
+    ensures { IsRefusedMemory result }
+{
+    io::Error::new(ErrorKind::OutOfMemory, "out of memory")
+}
+
 /// The program of the listing at a path.
 #[inline(never)]
 fn filter_of_listing<'p, F: FileStore<'p>>(
@@ -53,7 +61,10 @@ fn filter_of_listing<'p, F: FileStore<'p>>(
         Err(error) => Err(Unasked::File(path, error)),
         Ok(text) if text.as_slice().len() > MAX_TEXT => Err(Unasked::TextTooLong(path)),
         Ok(text) => match filter(alloc, Some(text.as_slice()), None, 0) {
-            Ok(program) => Ok(AskedFilter::Program(program)),
+            Ok(program) => match of_program(alloc, program) {
+                Ok(filter) => Ok(filter),
+                Err(_) => Err(Unasked::File(path, no_memory())),
+            },
             Err(fault) => Err(Unasked::Filter(Some(text), fault)),
         },
     }

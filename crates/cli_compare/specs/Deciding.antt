@@ -59,12 +59,12 @@ packet_of_witness w = record { sec = 0; nanos = 0; len = w.wire; bytes = w.bytes
 -- a filter accepts a packet: its expression does, or its program keeps bytes of it
 abbrev pub asked_accepts : AskedFilter → Frame → Bool
 asked_accepts (Expression expr) = accepts (tree_of expr)
-asked_accepts (Program program) = keeps program
+asked_accepts (Program program) = keeps program.value
 
 -- what a filter says of a packet
 abbrev pub asked_test : AskedFilter → Test
 asked_test (Expression expr) = meaning (tree_of expr)
-asked_test (Program program) = program_test program
+asked_test (Program program) = program_test program.value
 
 -- what an answer says of both filters
 abbrev pub HoldsOfPair : FilterPair → Sameness → Type 0

@@ -56,7 +56,7 @@ IsTaken (Some program) packets None = ⊥
 -- the program whose instructions are counted, if that is asked for: that of an expression, or the program that the filter is
 abbrev pub measured : Bool → CountedFilter → Option (List Insn)
 measured true (Programs accepting rejecting) = Some accepting
-measured true (Asked (Program program)) = Some program
+measured true (Asked (Program program)) = Some program.value
 measured asked filter = None
 
 -- The answers to all packets of a capture up to its end, or to its first fault, were counted, and the instructions that the program took.

@@ -17,7 +17,7 @@ use Rattle.cli_count.specs.declared.filter.CountedFilter.TheVariants.{Programs, 
 -- a filter answers a packet so: an expression by its meaning, a program by the end of its run
 abbrev pub IsVerdict : AskedFilter → Packet → Verdict → Type 0
 IsVerdict (Expression expr) p v = v ≡ meaning (tree_of expr) (frame_of p)
-IsVerdict (Program program) p v = (number place : ℕ) × (insn : Insn) × IsEndOfRun program p number place insn × (v ≡ ended_as insn number)
+IsVerdict (Program program) p v = (number place : ℕ) × (insn : Insn) × IsEndOfRun program.value p number place insn × (v ≡ ended_as insn number)
 
 -- a program accepts a packet if it returns a number other than 0
 abbrev pub program_accepts : List Insn → Packet → Bool

@@ -160,7 +160,8 @@ pub fn explain_places<'p, F: FileStore<'p>, O: Write, E: HintSink>(
             };
             explain_in_full(&asked, files, captures, out, err)
         }
-        AskedFilter::Program(program) => {
+        AskedFilter::Program(boxed) => {
+            let program: &Program = boxed;
             let filter = FilterWithProgram {
                 filter: &filter,
                 program: Ok(program),

@@ -2,7 +2,8 @@
 
 use crate::same::same;
 use bpfvm::Program;
-use cli_answers::{AskedFilter, PacketForm};
+use cli_answers::PacketForm;
+use cli_answers::filter::of_program;
 use cli_compare::FilterPair;
 use cli_compare::captures::compare_captures;
 use cli_explain::captures::explain_captures;
@@ -106,7 +107,7 @@ fn explain_sends_each_line_before_it_reads_on(rt: HostRuntime) {
         calls: &calls,
     });
     let mut out = writer_of(&rt, &calls);
-    let filter = AskedFilter::Program(accept_all(&rt));
+    let filter = of_program(rt.alloc(), accept_all(&rt)).expect(&rt, "memory");
     explain_each(rt.alloc(), source, &filter, PacketForm::Text, &mut out);
     same(&rt, out.seen.as_slice(), [2, 3, 4, 5].as_slice());
 }
@@ -117,7 +118,7 @@ fn explain_of_captures_sends_each_line_before_it_reads_on(rt: HostRuntime) {
     let capture = three(&rt);
     let captures = sources_of(&rt, capture.as_slice(), &calls);
     let mut out = writer_of(&rt, &calls);
-    let filter = AskedFilter::Program(accept_all(&rt));
+    let filter = of_program(rt.alloc(), accept_all(&rt)).expect(&rt, "memory");
     explain_captures(rt.alloc(), captures, &filter, PacketForm::Text, &mut out);
     same(&rt, out.seen.as_slice(), [2, 3, 4].as_slice());
 }
@@ -128,8 +129,8 @@ fn compare_sends_each_line_before_it_reads_on(rt: HostRuntime) {
     let capture = three(&rt);
     let captures = sources_of(&rt, capture.as_slice(), &calls);
     let pair = FilterPair {
-        first: AskedFilter::Program(accept_all(&rt)),
-        second: AskedFilter::Program(reject_all(&rt)),
+        first: of_program(rt.alloc(), accept_all(&rt)).expect(&rt, "memory"),
+        second: of_program(rt.alloc(), reject_all(&rt)).expect(&rt, "memory"),
     };
     let mut out = writer_of(&rt, &calls);
     compare_captures(rt.alloc(), captures, &pair, PacketForm::Text, &mut out);
