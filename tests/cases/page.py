@@ -67,7 +67,7 @@ def page_is_what_its_sources_give(scene):
     scene.check("made again", said, ("", 0))
     scene.check("the same bytes", scene.read("again.html") == PAGE.read_bytes(), True)
     scene.check("its example", part("example") == VETH.read_bytes(), True)
-    scene.check("at most 480 KB", PAGE.stat().st_size <= 480_000, True)
+    scene.check("at most 500 KB", PAGE.stat().st_size <= 500_000, True)
     if scene.has("node"):
         script = 'const m = new WebAssembly.Module(require("fs").readFileSync("module")); console.log(WebAssembly.Module.imports(m).length)'
         scene.check("imports", printed(scene, ["node", "-e", script]), ("0\n", 0))
