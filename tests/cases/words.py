@@ -83,7 +83,8 @@ PIECES = "in pieces: editcap -c PACKETS -F nsecpcap IN OUT, or -i SECONDS in pla
 
 # Words that are refused or that a file fails by, the status, and the hints below all else.
 WORDS_OF_OTHERS = [
-    ("cut -s 0 -F x in.pcap out.pcap", 1, ['to read an expression from a file: -e "$(cat FILE)", or for check "$(cat FILE)"']),
+    ("cut -s 0 -F x in.pcap out.pcap", 1, ["OUT is a classic savefile: leave this option out"]),
+    ("explain -F x in.pcap", 1, ['to read an expression from a file: -e "$(cat FILE)", or for check "$(cat FILE)"']),
     ("check -F x", 1, ['to read an expression from a file: -e "$(cat FILE)", or for check "$(cat FILE)"']),
     ("cut -s 0 -A 2026-11-24 in.pcap out.pcap", 1,
      ["to keep packets between two times: editcap -A START -B STOP -F nsecpcap IN OUT"]),
@@ -97,7 +98,7 @@ WORDS_OF_OTHERS = [
     ("explain -d -e ip in.pcap", 1, ["to print a program: bpftap check -d EXPR"]),
     ("compare -x ip tcp", 1, ["to print an expression as it was read: bpftap check -x EXPR"]),
     ("explain --dot -e ip in.pcap", 1, ["to draw a program: bpftap check --dot EXPR | dot -Tsvg > OUT"]),
-    ("cut -v -s 0 in.pcap out.pcap", 1, ["explain prints why for each packet; -p PLACE prints one in full"]),
+    ("cut -v -s 0 in.pcap out.pcap", 1, ["to keep what a filter rejects: -e 'not (EXPR)'"]),
     # These have the option themselves: it is another one that there is not.
     ("check -d -z ip", 1, []),
     ("check -x -z ip", 1, []),
