@@ -102,22 +102,52 @@ fn ends_value(byte: &u8) -> bool {
     )
 }
 
-/// The value at the front of a text: a list in braces, or what has no blank.
+/// What closes a list that begins with this byte.
+fn close_of(open: u8) -> Option<u8> {
+    match open {
+        b'{' => Some(b'}'),
+        b'(' => Some(b')'),
+        _ => None,
+    }
+}
+
+/// The value at the front of a text: a list in braces or in parentheses, or what has no blank.
 fn value_at(text: &[u8]) -> &[u8] {
-    let end = if text.starts_with(b"{") {
-        text.iter()
-            .position(|byte| *byte == b'}')
-            .map(|last| last.saturating_add(1))
-    } else {
-        text.iter().position(ends_value)
+    let close = match text.first() {
+        Some(first) => close_of(*first),
+        None => None,
+    };
+    let end = match close {
+        Some(close) => text
+            .iter()
+            .position(|byte| *byte == close)
+            .map(|last| last.saturating_add(1)),
+        None => text.iter().position(ends_value),
     };
     text.get(..end.unwrap_or(text.len())).unwrap_or(text)
+}
+
+/// A number right after a field, as if a sign were between them.
+fn number_at(after: &[u8]) -> Option<Comparison<'_>> {
+    let next = after_blanks(after);
+    if next.len() == after.len() || !next.first()?.is_ascii_digit() {
+        return None;
+    }
+    let value = value_at(next);
+    let left = next.len().saturating_sub(value.len());
+    Some(Comparison {
+        sign: "=",
+        value,
+        len: after.len().saturating_sub(left),
+    })
 }
 
 /// The comparison at the front of a text, after blanks.
 pub(crate) fn comparison_at(after: &[u8]) -> Option<Comparison<'_>> {
     let next = after_blanks(after);
-    let sign = SIGNS.iter().find(|sign| next.starts_with(sign.compares))?;
+    let Some(sign) = SIGNS.iter().find(|sign| next.starts_with(sign.compares)) else {
+        return number_at(after);
+    };
     let len = sign
         .compares
         .strip_suffix(b"{")
@@ -145,9 +175,11 @@ pub(crate) fn mask_at(after: &[u8]) -> Option<(&[u8], usize)> {
     Some((mask, after.len().saturating_sub(left)))
 }
 
-/// The items of a list in braces, without these.
+/// The items of a list, without the braces or parentheses round them.
 pub(crate) fn items_of(value: &[u8]) -> Option<&[u8]> {
-    value.strip_prefix(b"{")?.strip_suffix(b"}")
+    let close = close_of(*value.first()?)?;
+    let (last, front) = value.split_last()?;
+    if *last == close { front.get(1..) } else { None }
 }
 
 /// Whether a test ends right before a text.

@@ -5,7 +5,7 @@ use crate::comparisons::{
 };
 use crate::ranges::of_several;
 use crate::written::{Found, Written, advise};
-use filter_spots::{Run, Spot};
+use filter_spots::{Run, Spot, without_blanks};
 use std::alloc::Global;
 
 /// Protocols that fields of display filters begin with.
@@ -40,7 +40,7 @@ struct Flag {
     unset: &'static str,
 }
 
-static FIELDS: [Field; 22] = [
+static FIELDS: [Field; 26] = [
     Field {
         name: b"ip.addr",
         layer: "ip",
@@ -151,6 +151,30 @@ static FIELDS: [Field; 22] = [
     },
     Field {
         name: b"udp.dstport",
+        layer: "udp",
+        test: "dst port",
+        wide: "dst portrange",
+    },
+    Field {
+        name: b"tcp.sport",
+        layer: "tcp",
+        test: "src port",
+        wide: "src portrange",
+    },
+    Field {
+        name: b"tcp.dport",
+        layer: "tcp",
+        test: "dst port",
+        wide: "dst portrange",
+    },
+    Field {
+        name: b"udp.sport",
+        layer: "udp",
+        test: "src port",
+        wide: "src portrange",
+    },
+    Field {
+        name: b"udp.dport",
         layer: "udp",
         test: "dst port",
         wide: "dst portrange",
@@ -383,8 +407,18 @@ pub fn of_field<'a>(alloc: Global, spot: Spot<'a>, name: Run<'a>) -> Found<'a> {
     }
     match comparison_at(after) {
         Some(comparison) => of_comparison(alloc, start, name.bytes, comparison),
-        None if ends_test(after) => of_field_alone(alloc, start, name.bytes),
+        None if ends_test(after) && !is_after_sign(start) => {
+            of_field_alone(alloc, start, name.bytes)
+        }
         None => Ok(None),
+    }
+}
+
+/// Whether a sign that compares is right before a place.
+fn is_after_sign(start: Spot<'_>) -> bool {
+    match without_blanks(start.before()).last() {
+        Some(byte) => matches!(*byte, b'=' | b'<' | b'>'),
+        None => false,
     }
 }
 

@@ -96,31 +96,23 @@ fn write_either<W: fmt::Write>(
     f.write_char(')')
 }
 
-/// What else is said of a display filter.
-#[derive(Clone, Copy)]
-enum Remark<'a> {
-    Nothing,
-    /// It joins tests by `&&` and by `||`, without parentheses.
-    Mixed,
-    /// A flag that nothing compares, which asks there for this layer.
-    Alone(&'a [u8]),
-}
-
 /// What is written here for a test of a display filter, and that test: it prints as a sentence.
 #[derive(Clone, Copy)]
 pub struct DisplayAdvice<'a> {
     written: Written<'a>,
     test: &'a [u8],
-    remark: Remark<'a>,
+    /// The layer of a flag that nothing compares: the flag alone asks for that there.
+    layer: Option<&'a [u8]>,
+    /// Whether the filter joins tests by `&&` and by `||`, without parentheses.
+    is_mixed: bool,
 }
 
 impl<'a> DisplayAdvice<'a> {
     /// The same for a flag that nothing compares, of this layer.
     pub(crate) fn alone(self, layer: &'a [u8]) -> DisplayAdvice<'a> {
         DisplayAdvice {
-            written: self.written,
-            test: self.test,
-            remark: Remark::Alone(layer),
+            layer: Some(layer),
+            ..self
         }
     }
 }
@@ -133,19 +125,19 @@ impl Display for DisplayAdvice<'_> {
             self.written,
             Shown(self.test)
         )?;
-        match self.remark {
-            Remark::Nothing => Ok(()),
-            Remark::Mixed => f.write_str(
-                ", and parentheses round what `&&` joins: here it binds no tighter than `||`",
-            ),
-            Remark::Alone(layer) => {
-                write!(
-                    f,
-                    " if the flag is to be set; in Wireshark it alone is the same as `{}`",
-                    Shown(layer)
-                )
-            }
+        if let Some(layer) = self.layer {
+            write!(
+                f,
+                " if the flag is to be set; in Wireshark it alone is the same as `{}`",
+                Shown(layer)
+            )?;
         }
+        if self.is_mixed {
+            f.write_str(
+                ", and parentheses round what `&&` joins: here it binds no tighter than `||`",
+            )?;
+        }
+        Ok(())
     }
 }
 
@@ -180,15 +172,11 @@ pub(crate) fn advise<'a>(
     let put = format!(in alloc; "{written}")?;
     match start.without(place, len) {
         Some(gap) if test.len() <= MAX_LIST && gap.takes(alloc, put.as_str())? => {
-            let remark = if is_mixed(start.at(0).rest()) {
-                Remark::Mixed
-            } else {
-                Remark::Nothing
-            };
             Ok(Some(DisplayAdvice {
                 written,
                 test,
-                remark,
+                layer: None,
+                is_mixed: is_mixed(start.at(0).rest()),
             }))
         }
         _ => Ok(None),

@@ -96,14 +96,14 @@ impl Display for EthernetAdvice<'_> {
     }
 }
 
-/// A list with commas, as a group: with `or`, in parentheses.
+/// A list with commas or bars, as a group: with `or`, in parentheses.
 #[derive(Clone, Copy)]
 pub(crate) struct AsGroup<'a>(pub &'a [u8]);
 
 impl Display for AsGroup<'_> {
     fn fmt<W: fmt::Write>(&self, f: &mut Formatter<W>) -> fmt::Result {
         f.write_char('(')?;
-        for (at, item) in self.0.split(is_comma).enumerate() {
+        for (at, item) in self.0.split(is_separator).enumerate() {
             if at > 0 {
                 f.write_str(" or ")?;
             }
@@ -118,8 +118,9 @@ fn is_sign(byte: &u8) -> bool {
     matches!(*byte, b':' | b'-' | b'.')
 }
 
-fn is_comma(byte: &u8) -> bool {
-    *byte == b','
+/// Whether a byte separates the items of a list.
+fn is_separator(byte: &u8) -> bool {
+    *byte == b',' || *byte == b'|'
 }
 
 /// Whether a text has only hexadecimal digits, from `least` to `most` of them.
@@ -309,16 +310,16 @@ pub(crate) fn of_ethernet<'a>(alloc: Global, spot: Spot<'a>) -> Found<'a> {
     }
 }
 
-/// How many bytes a list goes on: items, commas, and the blanks after these.
+/// How many bytes a list goes on: items, what separates them, and the blanks after that.
 fn list_len(rest: &[u8]) -> usize {
-    let mut is_after_comma = false;
+    let mut is_after_separator = false;
     for (at, byte) in rest.iter().enumerate() {
         let is_blank = *byte == b' ' || *byte == b'\t';
-        if is_comma(byte) {
-            is_after_comma = true;
+        if is_separator(byte) {
+            is_after_separator = true;
         } else if is_in_item(byte) {
-            is_after_comma = false;
-        } else if !is_blank || !is_after_comma {
+            is_after_separator = false;
+        } else if !is_blank || !is_after_separator {
             return at;
         }
     }
@@ -332,14 +333,14 @@ fn is_in_item(byte: &u8) -> bool {
 
 /// Whether each item of a list begins with a digit.
 fn has_numbers(list: &[u8]) -> bool {
-    list.split(is_comma).all(|item| match after_blanks(item).first() {
+    list.split(is_separator).all(|item| match after_blanks(item).first() {
         Some(first) => first.is_ascii_digit(),
         None => false,
     })
 }
 
-/// What helps at a comma of a list, as `80,443`.
-pub(crate) fn of_comma<'a>(alloc: Global, spot: Spot<'a>) -> Found<'a> {
+/// What helps at a comma or a bar of a list, as `80,443`.
+pub(crate) fn of_list<'a>(alloc: Global, spot: Spot<'a>) -> Found<'a> {
     let start = match spot.before().iter().rposition(|byte| !is_in_item(byte)) {
         Some(outside) => outside + 1,
         None => 0,
@@ -377,17 +378,21 @@ pub(crate) fn of_range<'a>(alloc: Global, spot: Spot<'a>) -> Found<'a> {
     }
     match spot.without(first.start_of_last(), first.last().len()) {
         Some(gap) if gap.takes(alloc, "portrange")? => {
-            Ok(Some(Advice::Round("write `portrange ", run.bytes, "`")))
+            Ok(Some(Advice::Round("write `portrange` for `port` before `", run.bytes, "`")))
         }
         _ => Ok(None),
     }
 }
 
+fn is_one_to_nine(byte: &u8) -> bool {
+    byte.is_ascii_digit() && *byte != b'0'
+}
+
 /// What is said of a net with bits outside its mask, or with a mask that begins with zeros.
 pub(crate) fn said_of_net(spot: Spot<'_>) -> Option<&'static str> {
     let after = after_blanks(spot.after_word());
-    let mask = after_blanks(after.strip_prefix(b"mask")?);
-    if mask.starts_with(b"0.") {
+    let mask = first_word(after_blanks(after.strip_prefix(b"mask")?));
+    if mask.starts_with(b"0.") && mask.iter().any(is_one_to_nine) {
         Some("a mask has its ones in front: `mask 255.255.255.0`, not `mask 0.0.0.255`")
     } else {
         None
@@ -465,7 +470,9 @@ pub(crate) fn of_masked_host<'a>(alloc: Global, spot: Spot<'a>) -> Found<'a> {
         return of_masked_side(alloc, first, net);
     }
     match spot.without(first.start_of_last(), HOST.len()) {
-        Some(gap) if gap.takes(alloc, "net")? => Ok(Some(Advice::Round("write `net ", net, "`"))),
+        Some(gap) if gap.takes(alloc, "net")? => {
+            Ok(Some(Advice::Round("write `net` for `host` before `", net, "`")))
+        }
         _ => Ok(None),
     }
 }

@@ -7,22 +7,22 @@ ghost use Rattle.filtergen_facts.specs.declared.refusal.Refusal.TheVariants as R
 ghost use Rattle.filterlang.specs.declared.fault.Fault.TheVariants as Fault;
 
 use crate::addresses::{
-    is_number, is_port_range, of_comma, of_ethernet, of_ipv6, of_mask, of_masked_host, of_net,
-    of_range, said_of_net,
+    is_dotted, is_number, is_port_range, of_ethernet, of_ipv6, of_list, of_mask, of_masked_host,
+    of_net, of_range, said_of_net,
 };
 use crate::advice::{Advice, Found};
 use crate::colons::{of_endpoint, of_other_range};
 use crate::comparisons::of_compared;
 use crate::dots::of_dots;
 use crate::flags::{of_flag, of_layer_field};
-use crate::instead::Instead;
+use crate::instead::{Instead, advise_instead};
 use crate::left_sides::{of_operand, of_sign};
 use crate::other_words::{
     of_every_packet, of_ip_broadcast, of_left_out, of_other_word, of_sctp, of_text, of_unit,
     of_value,
 };
 use crate::services::{of_service, port_named};
-use crate::terms::{is_bound, is_of_comparison};
+use crate::terms::{has_or, is_alone, is_of_comparison, without_joint};
 use crate::values::of_comparison;
 use filter_spots::{
     PROTO, Spot, after_blanks, first_word, in_small_letters, port_of, without_blanks,
@@ -121,13 +121,30 @@ fn of_name<'a>(spot: Spot<'a>) -> Advice<'a> {
             "`",
         )
     } else if spot.takes_address() {
-        Advice::host(name)
+        of_address_name(name)
     } else {
         Advice::Round(
             "`",
             name,
             "` is no word of the language, and names are not supported",
         )
+    }
+}
+
+/// What helps at a word where an address goes.
+fn of_address_name<'a>(name: &'a [u8]) -> Advice<'a> {
+    match name {
+        b"addr" | b"address" | b"is" | b"from" => Advice::Round(
+            "leave out `",
+            name,
+            "`: an address follows `host`, `src` and `dst` by itself",
+        ),
+        b"any" => Advice::Said("an address that may be any is left out, with the words before it"),
+        b"in" => Advice::Said("several addresses are `host (192.0.2.1 or 192.0.2.2)`"),
+        b"mac" => Advice::Said(
+            "an Ethernet address follows `ether host`, `ether src` and `ether dst`",
+        ),
+        _ => Advice::host(name),
     }
 }
 
@@ -210,48 +227,88 @@ fn begins_with_quote(text: &[u8]) -> bool {
     }
 }
 
-/// Whether a sign that compares is right before a place.
-fn is_after_sign(spot: Spot<'_>) -> bool {
-    match without_blanks(spot.before()).last() {
-        Some(byte) => is_of_comparison(byte),
-        None => false,
+/// Whether bytes of a packet and a sign that compares them are right before a place, and the text
+/// there begins with a letter, whatever quote is before it.
+fn is_compared_text(spot: Spot<'_>) -> bool {
+    let before = without_blanks(spot.before());
+    let end = match before.iter().rposition(|byte| !is_of_comparison(byte)) {
+        Some(last) => last + 1,
+        None => 0,
+    };
+    let left = without_blanks(before.get(..end).unwrap_or(&[]));
+    let first = spot.rest().iter().find(|byte| byte.is_ascii_alphanumeric());
+    let has_letter = first.is_some_and(|byte| byte.is_ascii_alphabetic());
+    end < before.len() && left.ends_with(b"]") && has_letter
+}
+
+/// What helps at a byte for which nothing else helps: a comma, or one that there is not.
+fn of_other_byte<'a>(spot: Spot<'a>) -> Advice<'a> {
+    if spot.rest().starts_with(b",") {
+        Advice::Said(
+            "a list has `or` and parentheses: `port (80 or 443)`, `(tcp or udp) and port 53`",
+        )
+    } else {
+        Advice::Round("no word, number or sign begins with `", spot.token(), "`")
     }
 }
 
 /// What helps at a byte that begins no token.
 fn of_byte<'a>(alloc: Global, spot: Spot<'a>) -> Result<Advice<'a>, AllocError> {
-    if begins_with_quote(spot.rest())
-        && spot.last() != b"contains".as_slice()
-        && is_after_sign(spot)
-    {
+    if begins_with_quote(spot.rest()) && is_compared_text(spot) {
         Ok(Advice::Said("text is a number here, of up to four bytes: 0x47455420 is `GET `"))
     } else if begins_with_quote(spot.rest()) {
         Ok(Advice::Said("quotes are for the shell, not part of an expression"))
     } else if spot.rest().is_empty() {
         Ok(Advice::Said("no word, number or sign begins here"))
+    } else if spot.rest().starts_with(b"#") {
+        Ok(Advice::Said("an expression has no comments: sed 's/#.*//' FILE leaves them out"))
     } else {
         let list = if spot.rest().starts_with(b",") {
-            of_comma(alloc, spot)?
+            of_list(alloc, spot)?
         } else {
             None
         };
-        Ok(list.unwrap_or(Advice::Round(
-            "no word, number or sign begins with `",
-            spot.token(),
-            "`",
-        )))
+        Ok(list.unwrap_or(of_other_byte(spot)))
     }
 }
 
-/// What helps at a `|` or a `&` between two tests.
+/// What is written for a single sign between two tests, and what is said of that.
+fn joint_for(sign: &[u8]) -> Option<(&'static str, &'static str)> {
+    match sign {
+        b"|" => Some((" or ", "between two tests write `or` or `||` for `")),
+        b"&" => Some((" and ", "between two tests write `and` or `&&` for `")),
+        _ => None,
+    }
+}
+
+/// What is said after a sign or a word that joins two tests: parentheses go round these, if there
+/// are more.
+fn said_after_joint(spot: Spot<'_>, rest: &[u8]) -> &'static str {
+    if is_alone(spot.before()) && !has_or(rest) {
+        "`"
+    } else {
+        "`, and parentheses round what it joins"
+    }
+}
+
+/// What helps at a `|` or a `&` between two tests, or at a `|` between two values.
 fn of_single_sign<'a>(alloc: Global, spot: Spot<'a>) -> Found<'a> {
-    let (joint, said) = match spot.rest().first() {
-        Some(b'|') => (" or ", "between two tests write `or` or `||` for `|`"),
-        Some(b'&') => (" and ", "between two tests write `and` or `&&` for `&`"),
-        _ => return Ok(None),
+    let sign = spot.token();
+    let Some((joint, said)) = joint_for(sign) else {
+        return Ok(None);
+    };
+    if let Some(list) = of_list(alloc, spot)? {
+        return Ok(Some(list));
+    }
+    let right = after_blanks(spot.rest().get(1..).unwrap_or(&[]));
+    let rest = right.get(first_word(right).len()..).unwrap_or(&[]);
+    let after = if sign == b"&".as_slice() || after_blanks(rest).is_empty() {
+        said_after_joint(spot, rest)
+    } else {
+        "`, and parentheses round what it joins"
     };
     match spot.without(spot.before().len(), 1) {
-        Some(gap) if gap.takes(alloc, joint)? => Ok(Some(Advice::Said(said))),
+        Some(gap) if gap.takes(alloc, joint)? => Ok(Some(Advice::Round(said, sign, after))),
         _ => Ok(None),
     }
 }
@@ -267,6 +324,25 @@ fn after_side<'a>(spot: Spot<'a>) -> &'a [u8] {
     }
 }
 
+/// Whether a word is a port, or what is between two in parentheses.
+fn is_port_or_joint(word: &[u8]) -> bool {
+    word.is_empty() || word == b"or".as_slice() || port_of(word).is_some()
+}
+
+/// Whether a text begins with ports in parentheses.
+fn begins_with_ports(text: &[u8]) -> bool {
+    let Some(inside) = text.strip_prefix(b"(") else {
+        return false;
+    };
+    let inside = after_blanks(inside);
+    let len = inside
+        .iter()
+        .position(|byte| *byte == b')')
+        .unwrap_or(inside.len());
+    let ports = inside.get(..len).unwrap_or(&[]);
+    port_of(first_word(ports)).is_some() && ports.split(|byte| *byte == b' ').all(is_port_or_joint)
+}
+
 /// What helps at the number of a port without `port` after a protocol, as `tcp 80`: a range too,
 /// and several in parentheses.
 fn of_bare_port<'a>(alloc: Global, spot: Spot<'a>) -> Found<'a> {
@@ -276,7 +352,7 @@ fn of_bare_port<'a>(alloc: Global, spot: Spot<'a>) -> Found<'a> {
         ("portrange ", "write `portrange` before `", number)
     } else if port_of(number).is_some() {
         ("port ", "write `port` before `", number)
-    } else if port_of(first_word(rest.strip_prefix(b"(").unwrap_or(&[]))).is_some() {
+    } else if begins_with_ports(rest) {
         ("port ", "write `port` before `", b"(".as_slice())
     } else {
         return Ok(None);
@@ -296,7 +372,41 @@ fn of_qualifier<'a>(alloc: Global, spot: Spot<'a>, fault: Fault) -> Result<Advic
     }
     match of_bare_port(alloc, spot)? {
         Some(advice) => Ok(advice),
+        None if after_blanks(spot.after_word()).starts_with(b"(") => {
+            Ok(Advice::Round("write `and` before the `(` after `", spot.word(), "`"))
+        }
         None => Ok(of_sctp(spot).unwrap_or(Advice::Said(sentence(fault)))),
+    }
+}
+
+/// What helps at a number right after `src` or `dst`: it may be a port, or the first part of a net.
+fn of_number_of_side<'a>(number: &'a [u8]) -> Advice<'a> {
+    match port_of(number) {
+        Some(part) if part < 256 => Advice::Round(
+            "write `port` before `",
+            number,
+            "`, or `net` if it is the first part of addresses",
+        ),
+        _ => Advice::Round("write `port` before `", number, "`"),
+    }
+}
+
+/// What helps at a number or an address that is joined to a test of another type, as in
+/// `host 10.0.0.1 and 80`.
+fn of_inherited<'a>(alloc: Global, spot: Spot<'a>) -> Found<'a> {
+    let word = spot.word();
+    let (put, said) = if port_of(word).is_some() {
+        ("port ", "write `port` before `")
+    } else if is_dotted(word) {
+        ("host ", "write `host` before `")
+    } else {
+        return Ok(None);
+    };
+    match spot.before_word() {
+        Some(gap) if without_joint(spot.before()).is_some() && gap.takes(alloc, put)? => {
+            Ok(Some(Advice::Round(said, word, "`")))
+        }
+        _ => Ok(None),
     }
 }
 
@@ -309,20 +419,29 @@ fn of_identifier<'a>(
     if let Some(advice) = of_masked_host(alloc, spot)? {
         return Ok(advice);
     }
+    if let Some(advice) = of_inherited(alloc, spot)? {
+        return Ok(advice);
+    }
     match spot.before_word() {
         Some(gap)
             if port_of(spot.word()).is_some()
                 && BEFORE_PORTS.contains(&spot.last())
-                && gap.takes(alloc, "port ")? => {
-            Ok(Advice::Round("write `port` before `", spot.word(), "`"))
-        }
+                && gap.takes(alloc, "port ")? => { Ok(of_number_of_side(spot.word())) }
         _ => Ok(Advice::Said(sentence(fault))),
     }
 }
 
 /// What helps at a number or an address that is none.
 fn of_number<'a>(word: &[u8]) -> Advice<'a> {
-    if word.contains(&b'.') {
+    if word.windows(2).any(|pair| pair == b"..".as_slice()) {
+        Advice::Said(
+            "a range is `portrange 80-90`, or two comparisons: `(60 <= len and len <= 100)`",
+        )
+    } else if word.starts_with(b"0x") {
+        Advice::Said(
+            "a number is at most 4294967295, eight digits after 0x; an Ethernet address follows `ether host`",
+        )
+    } else if word.contains(&b'.') {
         Advice::Said("an address has two to four parts of at most three digits, each up to 255")
     } else if word.starts_with(b"0") {
         Advice::Said(
@@ -334,7 +453,7 @@ fn of_number<'a>(word: &[u8]) -> Advice<'a> {
 }
 
 /// Whether each `(` of a text is closed in it.
-fn closes_nothing(text: &[u8]) -> bool {
+fn all_are_closed(text: &[u8]) -> bool {
     let opened = text.iter().filter(|byte| **byte == b'(').count();
     let closed = text.iter().filter(|byte| **byte == b')').count();
     opened <= closed
@@ -359,7 +478,7 @@ fn operand_at(spot: Spot<'_>) -> Option<&'static str> {
         Some(
             "write a number after `proto`, as in `proto 17`, or a name with a backslash, as in `proto \\udp`",
         )
-    } else if spot.rest().starts_with(b")") && closes_nothing(spot.before()) {
+    } else if spot.rest().starts_with(b")") && all_are_closed(spot.before()) {
         Some("no `(` is open at this `)`")
     } else if spot.takes_address() {
         Some("write an address after `src` and `dst`, or `host`, `net` or `port` before it")
@@ -390,7 +509,9 @@ fn said_of_joint(spot: Spot<'_>) -> Option<&'static str> {
             "`len` is the length of the frame, and `ip[2:2]` that of the IPv4 packet: neither goes after a protocol",
         )
     } else if TRANSPORTS.contains(&spot.word()) && TRANSPORTS.contains(&spot.last()) {
-        Some("a packet has one of these protocols: write `(tcp or udp) and port 53`")
+        Some(
+            "a packet has one of these protocols: join them by `or` in parentheses, as in `(tcp or udp) and port 53`",
+        )
     } else {
         None
     }
@@ -404,23 +525,38 @@ fn of_joint<'a>(alloc: Global, spot: Spot<'a>) -> Found<'a> {
     if spot.token() == b"-".as_slice() {
         return Ok(None);
     }
-    let after = if is_bound(spot.before()) {
-        "`, and parentheses round what it joins"
-    } else {
-        "`"
-    };
     match spot.before_word() {
         Some(gap) if gap.takes(alloc, "and ")? => Ok(Some(Advice::Round(
             "write `and` or `or` before `",
             spot.token(),
-            after,
+            said_after_joint(spot, spot.after_word()),
         ))),
         _ => Ok(None),
     }
 }
 
+/// What helps at a side or a protocol after the word that it goes before, as in `port src 80`.
+fn of_exchanged<'a>(alloc: Global, spot: Spot<'a>) -> Found<'a> {
+    let (last, word) = (spot.last(), spot.word());
+    let is_side = BEFORE_PORTS.contains(&word);
+    let is_exchanged = match last {
+        b"port" | b"portrange" => is_side || TRANSPORTS.contains(&word),
+        b"host" | b"net" => is_side,
+        _ => false,
+    };
+    let next = after_blanks(spot.after_word());
+    if !is_exchanged || !next.first().is_some_and(|first| first.is_ascii_hexdigit()) {
+        return Ok(None);
+    }
+    let instead = Instead::Valued("", word, last);
+    advise_instead(alloc, spot, spot.start_of_last(), spot.end(), instead)
+}
+
 /// What helps at a token after which, or before which, something is written otherwise here.
 fn of_other_form<'a>(alloc: Global, spot: Spot<'a>) -> Found<'a> {
+    if let Some(advice) = of_exchanged(alloc, spot)? {
+        return Ok(Some(advice));
+    }
     if let Some(advice) = of_comparison(alloc, spot, "!= 0 ")? {
         return Ok(Some(advice));
     }

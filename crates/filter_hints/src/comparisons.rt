@@ -1,17 +1,17 @@
 //! What helps at a comparison where a value follows by itself, as `port > 1024` or `host != 10.0.0.1`.
 
 use crate::addresses::is_dotted;
-use crate::advice::Found;
-use crate::choice::PORT;
+use crate::advice::{Advice, Found};
+use crate::choice::{PORT, PORTRANGE};
 use crate::instead::{Instead, advise_instead};
-use crate::terms::is_of_comparison;
+use crate::terms::{after_joint, is_of_comparison};
 use filter_spots::{
     HOST, PROTO, Spot, after_blanks, first_word, port_of, ports_of, without_blanks,
 };
 use std::alloc::Global;
 
 /// Words that a value follows.
-static BEFORE_VALUES: [&[u8]; 6] = [PORT, HOST, b"net", PROTO, b"src", b"dst"];
+static BEFORE_VALUES: [&[u8]; 7] = [PORT, PORTRANGE, HOST, b"net", PROTO, b"src", b"dst"];
 
 /// Words of a test before its value.
 static OF_TESTS: [&[u8]; 14] = [
@@ -33,6 +33,14 @@ static WORDS: [(&[u8], &[u8]); 8] = [
     (b"ge", b">="),
     (b"le", b"<="),
 ];
+
+/// What is said of several values that a test is not to have.
+pub(crate) const NEITHER: &str =
+    "for none of several write `not` before them all, as in `ip and not port (80 or 443)`";
+
+/// What is said of a sign that asks for another value, where no words can stand for it.
+const NOT_BEFORE: &str =
+    "for another value write `not` before the test, and no sign: `not port 80`";
 
 /// A sign or a word that compares, the value after it, and how many bytes both have.
 #[derive(Clone, Copy)]
@@ -98,11 +106,16 @@ pub(crate) fn of_compared<'a>(alloc: Global, spot: Spot<'a>) -> Found<'a> {
     let Some(compared) = compared_at(spot.rest()) else {
         return Ok(None);
     };
-    if compared.value.is_empty() {
-        return Ok(None);
-    }
+    let is_other = compared.sign == b"!=".as_slice() || compared.sign == b"!".as_slice();
     if !BEFORE_VALUES.contains(&spot.last()) {
         return of_protocol(alloc, spot, compared);
+    }
+    if is_other {
+        let found = of_other_value(alloc, spot, compared)?;
+        return Ok(Some(found.unwrap_or(Advice::Said(NOT_BEFORE))));
+    }
+    if compared.value.is_empty() {
+        return Ok(None);
     }
     let place = spot.before().len();
     let end = place.saturating_add(compared.len);
@@ -112,15 +125,33 @@ pub(crate) fn of_compared<'a>(alloc: Global, spot: Spot<'a>) -> Found<'a> {
             let instead = Instead::Valued("", spot.last(), compared.value);
             advise_instead(alloc, spot, last, end, instead)
         }
-        b"!=" | b"!" => of_other_value(alloc, spot, compared),
         _ => of_ports(alloc, spot, compared),
     }
+}
+
+/// Whether a text begins with one more value, that `and` or `or` joins to one before it.
+pub(crate) fn joins_value(text: &[u8]) -> bool {
+    let Some(after) = after_joint(text) else {
+        return false;
+    };
+    let rest = after_blanks(after);
+    let value = first_word(rest);
+    let next = after_blanks(rest.get(value.len()..).unwrap_or(&[]));
+    let ends_term = match next.first() {
+        Some(byte) => byte.is_ascii_alphabetic() || ends_value(byte),
+        None => true,
+    };
+    ends_term && value.first().is_some_and(|first| first.is_ascii_digit())
 }
 
 /// What helps at a sign that asks for another value: a `not` before the test, or between a protocol
 /// and its test.
 fn of_other_value<'a>(alloc: Global, spot: Spot<'a>, compared: Compared<'a>) -> Found<'a> {
     let place = spot.before().len();
+    let end = place.saturating_add(compared.len);
+    if compared.value.is_empty() || joins_value(spot.at(end).rest()) {
+        return Ok(Some(Advice::Said(NEITHER)));
+    }
     let start = start_of_test(spot);
     let test = without_blanks(spot.between(start, place));
     let layer = first_word(test);
@@ -130,7 +161,6 @@ fn of_other_value<'a>(alloc: Global, spot: Spot<'a>, compared: Compared<'a>) -> 
     } else {
         Instead::Valued("not ", test, compared.value)
     };
-    let end = place.saturating_add(compared.len);
     advise_instead(alloc, spot, start, end, instead)
 }
 
@@ -179,10 +209,19 @@ fn joined_at<'a>(text: &'a [u8], test: &[u8]) -> Option<(Compared<'a>, usize)> {
     Some((compared, text.len().saturating_sub(left)))
 }
 
+/// Whether a `not` or a `!` is right before a place.
+fn is_after_not(spot: Spot<'_>) -> bool {
+    spot.last() == b"not".as_slice() || without_blanks(spot.before()).ends_with(b"!")
+}
+
 /// The ports of a comparison and of one of the same test that `and` joins to it, and where the
-/// text goes on after that.
+/// text goes on after that. A `not` before the first is not one before both.
 fn ports_of_both(spot: Spot<'_>, ports: (u16, u16), end: usize) -> Option<(u16, u16, usize)> {
-    let test = spot.between(start_of_test(spot), spot.before().len());
+    let start = start_of_test(spot);
+    if is_after_not(spot.at(start)) {
+        return None;
+    }
+    let test = spot.between(start, spot.before().len());
     let (second, len) = joined_at(spot.at(end).rest(), without_blanks(test))?;
     let other = ports_at(second)?;
     let (first, last) = (ports.0.max(other.0), ports.1.min(other.1));

@@ -3,7 +3,7 @@
 use crate::advice::{Advice, Found};
 use crate::instead::{Instead, advise_instead};
 use crate::other_words::of_written;
-use crate::terms::is_of_comparison;
+use crate::terms::{after_joint, is_of_comparison, without_joint};
 use filter_spots::{Run, Spot, after_blanks, first_word, without_blanks};
 use std::alloc::Global;
 
@@ -13,10 +13,11 @@ const FLAGS_FORM: &str =
 
 /// What is said of flags that `and` or `or` joins.
 pub(crate) const JOINED_FLAGS: &str =
-    "write flags as one number: `tcp[tcpflags] & (tcp-syn|tcp-ack) != 0` if one of them is set, `= tcp-syn|tcp-ack` if both are";
+    "write flags as one number: `tcp[tcpflags] & (tcp-syn|tcp-ack) != 0` if one of them is set, with `= tcp-syn|tcp-ack` for `!= 0` if both are";
 
-/// Words that join two tests.
-static JOINTS: [&[u8]; 2] = [b"and", b"or"];
+/// What is said of a value after `and` or `or`, before which a field is compared with another.
+pub(crate) const COMPARED_AGAIN: &str =
+    "compare again after `and` and `or`, as in `tcp[tcpflags] = tcp-syn or tcp[tcpflags] = tcp-ack`";
 
 /// The layer of the flags.
 const TCP: &[u8] = b"tcp";
@@ -236,10 +237,23 @@ fn kind_named(word: &[u8], layer: &[u8]) -> Option<&'static Kind> {
     KINDS.iter().find(|kind| kind.words.contains(&word) && (kind.is_alone || kind.layer == layer))
 }
 
+/// What is said of an echo and a word after it.
+const ECHOES: &str =
+    "a ping is `icmp[icmptype] = icmp-echo`, and its answer `icmp[icmptype] = icmp-echoreply`";
+
+/// Whether `echo` or `ping` is at a place, and `reply` or `request` after it.
+fn is_echo_answer(spot: Spot<'_>) -> bool {
+    let next = first_word(after_blanks(spot.after_word()));
+    matches!(spot.word(), b"echo" | b"ping") && matches!(next, b"reply" | b"request")
+}
+
 /// What helps at the name of a flag of TCP, or of a kind of packet.
 pub(crate) fn of_flag<'a>(alloc: Global, spot: Spot<'a>) -> Found<'a> {
     if spot.has_backslash() {
         return Ok(None);
+    }
+    if is_echo_answer(spot) {
+        return Ok(Some(Advice::Said(ECHOES)));
     }
     if let Some(kind) = kind_named(spot.word(), spot.last()) {
         return of_named(alloc, spot, kind.layer, kind.asked);
@@ -250,16 +264,42 @@ pub(crate) fn of_flag<'a>(alloc: Global, spot: Spot<'a>) -> Found<'a> {
     if let Some(advice) = of_both_flags(alloc, spot, spot.end(), flag.value)? {
         return Ok(Some(advice));
     }
+    if is_after_named_values(spot.before()) {
+        return Ok(Some(Advice::Said(COMPARED_AGAIN)));
+    }
     if is_operand(spot) {
         return of_written(alloc, spot, flag.value);
     }
     if is_computed_with(spot) {
-        return Ok(Some(Advice::Said(FLAGS_FORM)));
+        return of_computed_flag(alloc, spot, flag);
     }
     match of_named(alloc, spot, TCP, flag.asked)? {
         Some(advice) => Ok(Some(advice)),
         None => Ok(of_part(spot)),
     }
+}
+
+/// Whether a text has flags of TCP that are asked for, and ends where values of these go: not in
+/// their index, nor after a `&` without a parenthesis, which binds more tightly than `|`.
+fn takes_values(before: &[u8]) -> bool {
+    let after_bits = match before.iter().rposition(|byte| *byte == b'&') {
+        Some(sign) => &before[sign..],
+        None => &[],
+    };
+    let is_open = after_bits.is_empty()
+        || after_bits.iter().any(|byte| matches!(*byte, b'(' | b'='));
+    before.contains(&b'[') && !before.ends_with(b"[") && is_open
+}
+
+/// What helps at a flag that is computed with: its name as a value, if the flags are asked for
+/// before it.
+fn of_computed_flag<'a>(alloc: Global, spot: Spot<'a>, flag: &'static Flag) -> Found<'a> {
+    if takes_values(spot.before()) {
+        if let Some(advice) = of_written(alloc, spot, flag.value)? {
+            return Ok(Some(advice));
+        }
+    }
+    Ok(Some(Advice::Said(FLAGS_FORM)))
 }
 
 /// Whether a byte is one of a sign that compares values or computes with them, or ends an index.
@@ -316,14 +356,17 @@ fn of_layer_and_word<'a>(alloc: Global, spot: Spot<'a>, written: &'static str) -
     )
 }
 
-/// Whether a text ends with `or` after a comparison of flags with `=`.
-pub(crate) fn is_after_flags(text: &[u8]) -> bool {
-    let text = without_blanks(text);
-    match text
-        .strip_suffix(b" or")
-        .or_else(|| text.strip_suffix(b"||"))
-    {
-        Some(before) => flags_at_end(without_blanks(before)).is_some(),
+/// Whether a text ends with `and` or `or` after a comparison with named values.
+pub(crate) fn is_after_named_values(text: &[u8]) -> bool {
+    let Some(before) = without_joint(text) else {
+        return false;
+    };
+    let before = without_blanks(before);
+    match before.iter().rposition(is_of_comparison) {
+        Some(sign) => {
+            let value = after_blanks(before.get(sign + 1..).unwrap_or(&[]));
+            value.starts_with(b"tcp-") || value.starts_with(b"icmp-")
+        }
         None => false,
     }
 }
@@ -368,6 +411,14 @@ pub(crate) fn of_both_flags<'a>(
     advise_instead(alloc, spot, start, end, Instead::Flags(flags, flag))
 }
 
+/// What is written in brackets, without its size if one follows there.
+fn without_size(written: &'static str, after: &[u8]) -> &'static str {
+    match written.split_once(":") {
+        Some((place, _)) if after.starts_with(b":") => place,
+        _ => written,
+    }
+}
+
 /// What helps at the field of a display filter in the brackets of its layer.
 pub(crate) fn of_index<'a>(alloc: Global, spot: Spot<'a>, field: Run<'a>) -> Found<'a> {
     let start = spot.at(field.start);
@@ -377,26 +428,28 @@ pub(crate) fn of_index<'a>(alloc: Global, spot: Spot<'a>, field: Run<'a>) -> Fou
         return Ok(None);
     };
     let end = field.start.saturating_add(field.bytes.len());
-    advise_instead(alloc, spot, field.start, end, Instead::Text(index.written))
+    let written = without_size(index.written, spot.at(end).rest());
+    advise_instead(alloc, spot, field.start, end, Instead::Text(written))
 }
 
 /// Whether the text after a place joins a flag to what is before it, as `and tcp-ack` does.
 pub(crate) fn is_flag_joined(rest: &[u8]) -> bool {
-    let rest = after_blanks(rest);
-    let joint = first_word(rest);
-    let after = if JOINTS.contains(&joint) {
-        rest.strip_prefix(joint)
-    } else {
-        rest.strip_prefix(b"&&")
-            .or_else(|| rest.strip_prefix(b"||"))
-    };
-    match after {
+    match after_joint(rest) {
         Some(after) => after_blanks(after).starts_with(b"tcp-"),
         None => false,
     }
 }
 
-/// What helps at `flags` after `tcp` and before the name of one, as in `tcp flags syn`.
+/// Whether a text goes on with the name of a flag, whatever blanks and signs are before it.
+fn is_flag_next(text: &[u8]) -> bool {
+    match text.iter().position(|byte| byte.is_ascii_alphabetic()) {
+        Some(start) => flag_named(first_word(&text[start..])).is_some(),
+        None => false,
+    }
+}
+
+/// What helps at `flags` after `tcp` and before the name of one, as in `tcp flags syn`, or before
+/// several.
 fn of_named_flag<'a>(alloc: Global, spot: Spot<'a>) -> Found<'a> {
     let rest = after_blanks(spot.after_word());
     let name = first_word(rest);
@@ -407,6 +460,9 @@ fn of_named_flag<'a>(alloc: Global, spot: Spot<'a>) -> Found<'a> {
         return Ok(None);
     }
     let left = rest.len().saturating_sub(name.len());
+    if is_flag_next(rest.get(name.len()..).unwrap_or(&[])) {
+        return Ok(Some(Advice::Said(JOINED_FLAGS)));
+    }
     let text = spot.at(0).rest();
     advise_instead(
         alloc,
@@ -423,7 +479,8 @@ pub(crate) fn of_layer_field<'a>(alloc: Global, spot: Spot<'a>) -> Found<'a> {
     let index = INDEXES.iter().find(|index| index.word == word
         && spot.before().ends_with(index.before));
     if let Some(index) = index {
-        return of_written(alloc, spot, index.written);
+        let written = without_size(index.written, spot.after_word());
+        return of_written(alloc, spot, written);
     }
     let field = LAYER_FIELDS
         .iter()

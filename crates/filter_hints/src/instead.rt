@@ -16,7 +16,7 @@ pub enum Instead<'a> {
     Text(&'static str),
     /// An address with a port, as two tests.
     Endpoint(Endpoint<'a>),
-    /// A list with commas, as a group.
+    /// A list with commas or bars, as a group.
     Group(&'a [u8]),
     /// The two numbers of a range.
     Range(&'a [u8], &'a [u8]),

@@ -2,12 +2,22 @@
 //! `60 < len < 100`.
 
 use crate::advice::{Advice, Found};
-use crate::terms::{is_bound, is_constant, is_of_comparison, last_value, without_joint};
+use crate::terms::{
+    is_bound, is_constant, is_negated, is_of_comparison, last_value, without_joint,
+};
 use filter_spots::{Spot, after_blanks, first_word, without_blanks};
 use std::alloc::Global;
 use std::fmt;
 use std::fmt::{Display, Formatter};
 use visible_text::Shown;
+
+/// What is said of a comparison that lacks a side, if another term is before both.
+const TWO_SIDES: &str =
+    "a comparison has two sides: write two of them in parentheses, as `(60 < len and len < 100)`";
+
+/// What is said of several values that are not to be.
+const NONE_OF_SEVERAL: &str =
+    "for none of several join comparisons by `and`, as in `(len != 60 and len != 100)`";
 
 /// A longer value is not written out.
 const MAX_VALUE: usize = 40;
@@ -88,9 +98,13 @@ fn comparison_at<'a>(text: &'a [u8], sign: &[u8]) -> &'a [u8] {
 /// What helps at the sign of a comparison right after what joins two terms: the left side of the
 /// comparison before it, written again.
 fn of_left_side<'a>(alloc: Global, spot: Spot<'a>, sign: &'a [u8]) -> Found<'a> {
-    let Some(value) = without_joint(spot.before()).and_then(last_left_side) else {
+    let before = without_joint(spot.before()).unwrap_or(&[]);
+    let Some(value) = last_left_side(before) else {
         return Ok(None);
     };
+    if is_bound(before) {
+        return Ok(Some(Advice::Said(TWO_SIDES)));
+    }
     let written = format!(in alloc; "{} ", Shown(value))?;
     match spot.before_word() {
         Some(gap) if gap.takes(alloc, written.as_str())? => {
@@ -108,9 +122,7 @@ fn of_chain<'a>(alloc: Global, spot: Spot<'a>, sign: &'a [u8]) -> Found<'a> {
         return Ok(None);
     };
     if is_bound(spot.before()) {
-        return Ok(Some(Advice::Said(
-            "a comparison has two sides: write two of them in parentheses, as `(60 < len and len < 100)`",
-        )));
+        return Ok(Some(Advice::Said(TWO_SIDES)));
     }
     let written = format!(in alloc; " and {} ", Shown(value))?;
     match spot.before_word() {
@@ -146,6 +158,12 @@ pub(crate) fn of_operand<'a>(alloc: Global, spot: Spot<'a>) -> Found<'a> {
     let (Some(left), true) = (left, first_word(operand).len() == operand.len()) else {
         return Ok(None);
     };
+    if is_negated(before) {
+        return Ok(Some(Advice::Said(TWO_SIDES)));
+    }
+    if left.ends_with(b"!=") {
+        return Ok(Some(Advice::Said(NONE_OF_SEVERAL)));
+    }
     let written = format!(in alloc; "{} ", Shown(left))?;
     match spot.before_word() {
         Some(gap) if gap.takes(alloc, written.as_str())? => {

@@ -143,7 +143,23 @@ struct OtherWord {
     written: &'static str,
 }
 
-static OTHER_WORDS: [OtherWord; 13] = [
+static OTHER_WORDS: [OtherWord; 17] = [
+    OtherWord {
+        word: b"source",
+        written: "src",
+    },
+    OtherWord {
+        word: b"destination",
+        written: "dst",
+    },
+    OtherWord {
+        word: b"from",
+        written: "src",
+    },
+    OtherWord {
+        word: b"to",
+        written: "dst",
+    },
     OtherWord {
         word: b"length",
         written: "len",
@@ -219,7 +235,17 @@ struct OtherValue {
 }
 
 /// Flags of TCP and types of ICMP that the language has no names for.
-static OTHER_VALUES: [OtherValue; 11] = [
+static OTHER_VALUES: [OtherValue; 13] = [
+    OtherValue {
+        prefix: "tcp-",
+        name: b"psh",
+        number: "tcp-push",
+    },
+    OtherValue {
+        prefix: "tcp-",
+        name: b"reset",
+        number: "tcp-rst",
+    },
     OtherValue {
         prefix: "tcp-",
         name: b"ece",

@@ -34,6 +34,21 @@ pub(crate) fn without_joint(text: &[u8]) -> Option<&[u8]> {
     None
 }
 
+/// A text without what joins it to a term before it; nothing if nothing does.
+pub(crate) fn after_joint(text: &[u8]) -> Option<&[u8]> {
+    let text = after_blanks(text);
+    let word = first_word(text);
+    if JOINING_WORDS.contains(&word) {
+        return text.strip_prefix(word);
+    }
+    for sign in JOINING_SIGNS.iter() {
+        if let Some(after) = text.strip_prefix(*sign) {
+            return Some(after);
+        }
+    }
+    None
+}
+
 /// How many bytes at the front of a text come before a term there; nothing if no term begins after
 /// them.
 fn joint_len(text: &[u8]) -> Option<usize> {
@@ -99,10 +114,26 @@ pub(crate) fn is_constant(value: &[u8]) -> bool {
     !value.contains(&b'[') && !value.windows(3).any(|word| word == b"len".as_slice())
 }
 
+/// Whether a text is one term, or nothing, and no `not` comes before it.
+pub(crate) fn is_alone(text: &[u8]) -> bool {
+    last_term(text) == text && !is_negated(text)
+}
+
+/// Whether a `not` or a `!` comes before the last term of a text.
+pub(crate) fn is_negated(text: &[u8]) -> bool {
+    after_not(after_blanks(last_term(text))).is_some()
+}
+
+/// Whether a text has an `or`.
+pub(crate) fn has_or(text: &[u8]) -> bool {
+    text.windows(4).any(|part| part == b" or ".as_slice())
+        || text.windows(2).any(|part| part == b"||".as_slice())
+}
+
 /// Whether what `and` joins to the end of a text would bind otherwise than its last term does, which
 /// a `not` or an `or` comes before.
 pub(crate) fn is_bound(text: &[u8]) -> bool {
     let term = last_term(text);
     let before = text.strip_suffix(term).unwrap_or(text);
-    before.ends_with(b" or ") || before.ends_with(b"||") || after_not(after_blanks(term)).is_some()
+    before.ends_with(b" or ") || before.ends_with(b"||") || is_negated(text)
 }

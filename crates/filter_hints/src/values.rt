@@ -2,18 +2,16 @@
 
 use crate::addresses::is_port_range;
 use crate::advice::{Advice, Found};
-use crate::flags::{JOINED_FLAGS, is_after_flags, is_flag_joined, of_both_flags};
+use crate::flags::{
+    COMPARED_AGAIN, JOINED_FLAGS, is_after_named_values, is_flag_joined, of_both_flags,
+};
 use crate::instead::{Instead, advise_instead};
-use crate::terms::{is_constant, last_value};
-use filter_spots::{Spot, after_blanks, without_blanks};
+use crate::terms::{after_joint, is_constant, is_of_comparison, last_value};
+use filter_spots::{Spot, after_blanks, first_word, without_blanks};
 use std::alloc::Global;
 
 /// A longer value is not written out.
 const MAX_VALUE: usize = 60;
-
-/// What is said of a flag after `or`, before which the flags are compared with others.
-const COMPARED_AGAIN: &str =
-    "compare again after `or`, as in `tcp[tcpflags] = tcp-syn or tcp[tcpflags] = tcp-ack`";
 
 /// A named value, and what asks for it, or for the field that it is the place of.
 struct NamedValue {
@@ -109,12 +107,12 @@ fn of_named_value<'a>(
     named: &'static NamedValue,
 ) -> Found<'a> {
     if named.name.starts_with("tcp-") {
-        if is_after_flags(start.before()) {
-            return Ok(Some(Advice::Said(COMPARED_AGAIN)));
-        }
         if let Some(advice) = of_both_flags(alloc, start, end, named.name)? {
             return Ok(Some(advice));
         }
+    }
+    if is_after_named_values(start.before()) {
+        return Ok(Some(Advice::Said(COMPARED_AGAIN)));
     }
     advise_instead(
         alloc,
@@ -157,11 +155,34 @@ fn uncompared(spot: Spot<'_>) -> &'static str {
     }
 }
 
+/// What is said of bits after a sign that joins two tests.
+const BITS: &str =
+    "`&` takes bits of a value, as in `tcp[13] & 2 != 0`: `&&` and `and` join two tests";
+
+/// Whether a constant and a comparison are joined to the value before a place, as in
+/// `tcp[13] && 2 != 0`.
+fn is_bits_joined(spot: Spot<'_>) -> bool {
+    let value = last_value(spot.before());
+    let Some(after) = after_joint(spot.rest()) else {
+        return false;
+    };
+    let bits = after_blanks(after);
+    let constant = first_word(bits);
+    let next = after_blanks(bits.get(constant.len()..).unwrap_or(&[]));
+    let is_number = constant.first().is_some_and(|first| first.is_ascii_digit());
+    let is_one = is_number || constant.starts_with(b"tcp-");
+    let is_compared = next.first().is_some_and(is_of_comparison);
+    value.ends_with(b"]") && !value.contains(&b'&') && is_one && is_compared
+}
+
 /// What helps at the end of a value that nothing compares, if the text is an expression with this
 /// comparison there.
 pub(crate) fn of_comparison<'a>(alloc: Global, spot: Spot<'a>, comparison: &str) -> Found<'a> {
     if has_flags(last_value(spot.before())) && is_flag_joined(spot.rest()) {
         return Ok(Some(Advice::Said(JOINED_FLAGS)));
+    }
+    if is_bits_joined(spot) {
+        return Ok(Some(Advice::Said(BITS)));
     }
     match spot.before_word() {
         Some(gap) if gap.is_whole_with(alloc, comparison)? => {}
