@@ -231,7 +231,12 @@ def each_command_takes_assembly(scene):
     scene.check("explained", seen.out.decode().splitlines()[-1], "1 packets: 1 Yes, 0 No, 0 Abort")
     seen = scene.run("compare -f program.bpf ip in.pcap")
     scene.check("compared", seen.out.decode().splitlines()[-1], "1 packets: 0 differ, 0 accepted by the first alone, 0 by the second")
+    scene.put({"linux.bpf": "ldb [vlanp]\nret #0\n"})
+    seen = scene.run("--hints check -f linux.bpf")
+    scene.check("hints of an extension", (seen.err.decode(), seen.status), (
+        "bpftap: BadOperand 1\n  line 1 is: ldb [vlanp]\n"
+        "  this is an extension of Linux: tcpdump -y EN10MB -ddd EXPR, without -i, makes a program that has none\n", 1))
     for words in "cut -s 0 -f bad.bpf in.pcap out.pcap", "explain -f bad.bpf in.pcap", "compare -f bad.bpf ip in.pcap", "check -f bad.bpf":
         seen = scene.run(f"--hints {words}")
         scene.check(f"hints of {words}", (seen.err.decode(), seen.status), (
-            "bpftap: BadOperand 2\n  line 2 is: ret #x\n  write a number as #3, a jump as `jeq #3, LABEL`, a comment after `;`: docs/ASSEMBLY.md has the operands of each name\n", 1))
+            "bpftap: BadOperand 2\n  line 2 is: ret #x\n  write a number as #3, a jump as `jeq #3, LABEL` (`a` and `x` are registers, no labels), a comment after `;`: docs/ASSEMBLY.md has the operands of each name\n", 1))

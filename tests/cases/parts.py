@@ -310,7 +310,8 @@ HINTS = [
     ("join missing.txt out.pcap", ["missing.txt:", "sort LINES by sort -t- -k1,1n -k2,2nr; is a part missing?"]),
     ("join bad.txt out.pcap", [
         "bad.txt:", "line 2 is: x", "its form is: as cut --bytes prints it: FIRST-END of SIZE packets N kept N bytes N Clean FILE"]),
-    ("join in.pcap out.pcap", ["in.pcap:", "this is a capture, and no file of lines: captures are the last words, IN"]),
+    ("join in.pcap out.pcap", ["in.pcap:", "this is a capture, and no file of lines: IN comes after LINES, LISTENERS and SCRIPT; join takes none, and cut -s 0 -w OUT IN.. joins captures",
+                            "a line of the file that is wanted: as cut --bytes prints it: FIRST-END of SIZE packets N kept N bytes N Clean FILE"]),
 ]
 
 

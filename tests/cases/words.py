@@ -67,7 +67,7 @@ POINTED = [
     ("count in.pcap", b"bpftap explain -c"), ("filter tcp in.pcap out.pcap", b"bpftap cut"), ("read in.pcap", b"bpftap explain"),
     ("merge a.pcap b.pcap", b"mergecap"), ("print in.pcap", b"tcpdump -nr IN"), ("show", b"tcpdump -nr IN"), ("dump x", b"tcpdump -nr IN"),
     ("hexdump in.pcap", b"bpftap explain -p PLACE -e '' IN"), ("diff a b", b"bpftap compare EXPR1 EXPR2 IN"), ("version", b"bpftap --version"),
-    ("head in.pcap", b"editcap -r -F nsecpcap IN OUT 1-10"), ("assemble x", b"bpftap check -f FILE"),
+    ("head in.pcap", b"editcap -r -F nsecpcap IN OUT 1-N"), ("assemble x", b"bpftap check -f FILE"),
     ("disassemble x", b"bpftap check -d -f FILE"), ("completions bash", b"./install"), ("search tcp in.pcap", b"bpftap explain -l -e EXPR IN"),
     ("parse in.pcap", b"bpftap explain -e EXPR IN"), ("decode in.pcap", b"tcpdump -nr IN"), ("packets in.pcap", b"bpftap info IN"),
     ("stat in.pcap", b"bpftap info IN"), ("repair in.pcap", b"bpftap info IN"), ("dot ip", b"bpftap check --dot EXPR"), ("draw ip", b"bpftap check --dot EXPR"),
@@ -83,7 +83,8 @@ PIECES = "in pieces: editcap -c PACKETS -F nsecpcap IN OUT, or -i SECONDS in pla
 
 # Words that are refused or that a file fails by, the status, and the hints below all else.
 WORDS_OF_OTHERS = [
-    ("cut -s 0 -F x in.pcap out.pcap", 1, ["OUT is a classic savefile: leave this option out"]),
+    ("cut -s 0 -F x in.pcap out.pcap", 1, ['to read an expression from a file: -e "$(cat FILE)", or for check "$(cat FILE)"']),
+    ("cut -s 0 -F nsecpcap in.pcap out.pcap", 1, ["OUT is a classic savefile: leave this option out"]),
     ("explain -F x in.pcap", 1, ['to read an expression from a file: -e "$(cat FILE)", or for check "$(cat FILE)"']),
     ("check -F x", 1, ['to read an expression from a file: -e "$(cat FILE)", or for check "$(cat FILE)"']),
     ("cut -s 0 -A 2026-11-24 in.pcap out.pcap", 1,
@@ -92,13 +93,13 @@ WORDS_OF_OTHERS = [
     ("explain -e ip -w out.pcap in.pcap", 1, ["cut writes a capture: bpftap cut -s 0 -e EXPR IN OUT"]),
     ("cut -s 0 in.pcap -w out.pcap", 0, []),
     ("compare -w out.pcap -z tcp udp", 1, []),
-    ("explain -m 10 -e ip in.pcap", 1, ["to keep the first ten packets: editcap -r -F nsecpcap IN OUT 1-10"]),
+    ("explain -m 10 -e ip in.pcap", 1, ["to keep the first N packets: editcap -r -F nsecpcap IN OUT 1-N"]),
     ("cut -s 0 -G 60 in.pcap out.pcap", 1, [PIECES]),
     ("cut -s 0 -W 10 in.pcap out.pcap", 1, [PIECES]),
     ("explain -d -e ip in.pcap", 1, ["to print a program: bpftap check -d EXPR"]),
     ("compare -x ip tcp", 1, ["to print an expression as it was read: bpftap check -x EXPR"]),
     ("explain --dot -e ip in.pcap", 1, ["to draw a program: bpftap check --dot EXPR | dot -Tsvg > OUT"]),
-    ("cut -v -s 0 in.pcap out.pcap", 1, ["to keep what a filter rejects: -e 'not (EXPR)'"]),
+    ("cut -v -s 0 in.pcap out.pcap", 1, ["what a filter rejects: write not (EXPR) for EXPR; packets that are too short for a test are in neither"]),
     # These have the option themselves: it is another one that there is not.
     ("check -d -z ip", 1, []),
     ("check -x -z ip", 1, []),
@@ -110,7 +111,7 @@ WORDS_OF_OTHERS = [
     ("cut -s 0 -e ip in.pcap", 1, []),
     ("split", 1, []),
     ("cut -c 10 -s 0 -e ip in.pcap out.pcap", 1,
-     ["-c takes no number: it counts packets", "to keep the first ten packets: editcap -r -F nsecpcap IN OUT 1-10"]),
+     ["-c takes no number: it counts packets", "to keep the first N packets: editcap -r -F nsecpcap IN OUT 1-N"]),
     ("cut -s 0 -e ip - out.pcap", 3,
      ["`-` is the name of a file here: standard input is /dev/stdin, standard output /dev/stdout"]),
     ("check -f -", 3, ["`-` is the name of a file here: standard input is /dev/stdin, standard output /dev/stdout"]),

@@ -99,6 +99,7 @@ fn dispatch<
             let status = cut(rt, &asked, out, err);
             if status == Status::Clean || status == Status::Damaged {
                 hint_dash_output(asked.output, err);
+                hint_expression_as_output(asked.output, err);
             }
             hint_several(rt.alloc(), words, asked.inputs.as_slice(), status, err)
         }
@@ -319,6 +320,16 @@ fn report_usage<S: AsStr, O: Write, E: HintSink>(
     status
 }
 
+/// A hint on an OUT of `cut` that looks like an expression.
+fn hint_expression_as_output<E: HintSink>(output: &str, err: &mut E) {
+    if output.contains(' ') && begins_with_word(output) {
+        give_hint(
+            "the packets are in a file of this name: an expression goes after -e",
+            err,
+        );
+    }
+}
+
 /// Whether an argument begins with a word of the filter language.
 fn begins_with_word(word: &str) -> bool {
     match word.split_once(|one: char| one == ' ' || one == '[') {
@@ -347,10 +358,14 @@ fn hint_missing_word<S: AsStr, E: HintSink>(alloc: Global, words: &[S], err: &mu
     }
 }
 
-/// Whether these are arguments of `explain` without a filter: it took an expression that is given
-/// without `-e` for a capture.
+/// Whether these are arguments of `explain` or `cut` without a filter: it took an expression that
+/// is given without `-e` for a capture.
 fn takes_expression_for_capture<S: AsStr>(words: &[S]) -> bool {
-    words.iter().take(3).any(|word| word.as_str() == "explain") && !words.iter().any(gives_filter)
+    words
+        .iter()
+        .take(3)
+        .any(|word| matches!(word.as_str(), "explain" | "cut"))
+        && !words.iter().any(gives_filter)
 }
 
 /// Whether a word is an option that gives a filter.

@@ -9,7 +9,7 @@ use cli_report::HintSink;
 use cli_report::files::{line_at, show_line};
 use cli_report::stream::give_hint;
 use filterlang::parse;
-use std::alloc::Global;
+use std::alloc::{AllocError, Global};
 use std::str;
 
 /// Whether a byte is no blank of assembly.
@@ -114,7 +114,7 @@ fn advice_of(cause: Cause) -> &'static str {
         Cause::UnknownName =>
             "no instruction has this name, or this label is a word of assembly: names are in small letters, comments begin with `;`",
         Cause::BadOperand =>
-            "write a number as #3, a jump as `jeq #3, LABEL`, a comment after `;`: docs/ASSEMBLY.md has the operands of each name",
+            "write a number as #3, a jump as `jeq #3, LABEL` (`a` and `x` are registers, no labels), a comment after `;`: docs/ASSEMBLY.md has the operands of each name",
         Cause::LabelTwice => "an earlier line has this label: choose another",
         Cause::BadPlace =>
             "the number in parentheses counts the instructions before it: a line is missing or repeated, so print the image again",
@@ -125,20 +125,66 @@ fn advice_of(cause: Cause) -> &'static str {
     }
 }
 
-/// Whether a text is a filter expression.
+/// A text without what comes after a `#` in its lines.
+fn without_comments(alloc: Global, text: &[u8]) -> Result<Vec<u8>, AllocError> {
+    let mut rest = Vec::new(alloc);
+    for line in text.split(|byte| *byte == b'\n') {
+        let end = line.iter().position(|byte| *byte == b'#');
+        rest.extend_from_slice(&line[..end.unwrap_or(line.len())])?;
+        rest.push(b'\n')?;
+    }
+    Ok(rest)
+}
+
+/// Whether a text is a filter expression, with comments or without.
 fn is_expression(alloc: Global, text: &[u8]) -> bool {
-    match str::from_utf8(text) {
+    let Ok(text) = without_comments(alloc, text) else {
+        return false;
+    };
+    match str::from_utf8(text.as_slice()) {
         Ok(text) => parse(alloc, text).is_ok(),
         Err(_) => false,
     }
 }
 
+/// Whether a line is one of an array of C, or begins one.
+fn is_of_array(line: &[u8]) -> bool {
+    let line = skip_blanks(line);
+    line.starts_with(b"{") || line.starts_with(b"struct ") || line.starts_with(b"BPF_")
+}
+
+/// What of Linux's extensions stands in assembly, in brackets or after `#`.
+static EXTENSIONS: [&[u8]; 14] = [
+    b"proto",
+    b"type",
+    b"poff",
+    b"ifidx",
+    b"nla",
+    b"nlan",
+    b"mark",
+    b"queue",
+    b"hatype",
+    b"rxhash",
+    b"cpu",
+    b"rand",
+    b"vlan_tci",
+    b"vlanp",
+];
+
+/// Whether a line of assembly asks for an extension of Linux.
+fn has_extension(line: &[u8]) -> bool {
+    line.split(|byte| !is_in_name(byte))
+        .any(|word| EXTENSIONS.contains(&word))
+}
+
 /// How to fix a line of a text that is no assembly, which may be of another kind.
 fn advice_on(alloc: Global, text: &[u8], line: &[u8], cause: Cause) -> &'static str {
     if is_expression(alloc, text) {
-        "this is a filter expression: give it as \"$(cat FILE)\" where an expression goes, as after -e"
-    } else if without_blanks(line).starts_with(b"{") {
-        "this looks like an array of C, as check -dd prints it: give what check or check -d prints"
+        "this is a filter expression: give it as \"$(sed 's/#.*//' FILE)\" where an expression goes, as after -e"
+    } else if is_of_array(line) {
+        "this looks like an array of C, as check -dd prints it: docs/RECIPES.md makes a listing of one"
+    } else if cause == Cause::BadOperand && has_extension(line) {
+        "this is an extension of Linux: tcpdump -y EN10MB -ddd EXPR, without -i, makes a program that has none"
     } else {
         advice_of(cause)
     }

@@ -257,10 +257,7 @@ fn hint_expression_of_filter<E: HintSink>(
             format_args!("an expression goes after -e, in quotes: -e '{text}'"),
             err,
         ),
-        (false, true) => give_hint(
-            "an expression goes after -e, in quotes, as -e 'tcp port 80'",
-            err,
-        ),
+        (false, true) => give_hint(AFTER_OPTION, err),
         (true, false) => give_hint(
             format_args!("an expression is one word, in quotes: '{text}'"),
             err,
@@ -317,8 +314,28 @@ pub fn hint_unquoted<S: AsStr, E: HintSink>(alloc: Global, words: &[S], err: &mu
     ensures quiet { E.takes_hints err.old ≡ false → err.new ≡ err.old }
 {
     if let Ok(expression) = expression_in(alloc, words) {
+        if expression.is_empty() && lacks_option(words) && words.iter().any(is_filter_of_others) {
+            return give_hint(AFTER_OPTION, err);
+        }
         let _ = hint_expression_in(alloc, words, expression, err);
     }
+}
+
+/// Whether a word looks like a filter of another language, or gives one by an option of another
+/// tool.
+fn is_filter_of_others<S: AsStr>(word: &S) -> bool {
+    let word = word.as_str();
+    word.contains("==") || word.starts_with("--filter=")
+}
+
+/// How an expression is given to `explain` and `cut`.
+const AFTER_OPTION: &str = "an expression goes after -e, in quotes, as -e 'tcp port 80'";
+
+/// Whether these are arguments of `cut` for one IN, without a filter.
+fn lacks_filter_of_cut<S: AsStr>(words: &[S]) -> bool {
+    command_of(words) == Some("cut")
+        && lacks_option(words)
+        && !words.iter().any(|word| word.as_str() == "-w")
 }
 
 /// A hint on arguments with which a command failed to open a file: an expression, if the command
@@ -333,6 +350,8 @@ pub fn hint_filter_word<S: AsStr, E: HintSink>(words: &[S], err: &mut E)
     if let (true, Some(command)) = (has_filter, command_of(words)) {
         if let Some(hint) = way_of_filter(command) {
             give_hint(hint, err);
+        } else if lacks_filter_of_cut(words) {
+            give_hint(AFTER_OPTION, err);
         }
     }
 }

@@ -17,23 +17,23 @@ const ANOTHER_FORMAT: &str =
 static OTHER_FORMATS: [(&[u8], &str); 8] = [
     (
         &[0x0a, 0x0d, 0x0d, 0x0a],
-        "this is pcapng: convert it with editcap -F nsecpcap IN OUT",
+        "this is pcapng: convert it with editcap -F nsecpcap IN OUT, and see docs/RECIPES.md if it has several link types",
     ),
     (
         &[0x1f, 0x8b],
-        "this is compressed: unpack it with gzip -dc IN, and read it from /dev/stdin",
+        "this is compressed: unpack it with gzip -dc IN, into a file or to /dev/stdin",
     ),
     (
         &[0x28, 0xb5, 0x2f, 0xfd],
-        "this is compressed: unpack it with zstd -dc IN, and read it from /dev/stdin",
+        "this is compressed: unpack it with zstd -dc IN, into a file or to /dev/stdin",
     ),
     (
         &[0xfd, b'7', b'z', b'X', b'Z'],
-        "this is compressed: unpack it with xz -dc IN, and read it from /dev/stdin",
+        "this is compressed: unpack it with xz -dc IN, into a file or to /dev/stdin",
     ),
     (
         b"BZh",
-        "this is compressed: unpack it with bzip2 -dc IN, and read it from /dev/stdin",
+        "this is compressed: unpack it with bzip2 -dc IN, into a file or to /dev/stdin",
     ),
     (&[0x34, 0xcd, 0xb2, 0xa1], ANOTHER_FORMAT),
     (&[0xa1, 0xb2, 0xcd, 0x34], ANOTHER_FORMAT),
@@ -93,20 +93,20 @@ fn link_type(header: &[u8; 24]) -> u32 {
     }
 }
 
-/// Whether a link type is one of the two of Linux cooked captures.
-fn is_cooked(number: u32) -> bool {
-    number == 113 || number == 276
-}
-
 /// The name of a common link type.
 fn link_name(number: u32) -> &'static str {
     match number {
         0 | 108 => " (BSD loopback)",
         12 | 14 | 101 => " (raw IP)",
         105 | 127 => " (wireless)",
-        _ if is_cooked(number) => " (Linux cooked, as from the interface `any`)",
+        113 | 276 => " (Linux cooked, as from the interface `any`)",
         _ => "",
     }
+}
+
+/// Whether frames of a link type can be written as those of Ethernet.
+fn is_cooked(number: u32) -> bool {
+    matches!(number, 0 | 12 | 14 | 101 | 108 | 113 | 276)
 }
 
 fn hint_link_type<E: HintSink>(header: &[u8; 24], err: &mut E)

@@ -133,7 +133,7 @@ const OUT_IS_A_WORD: &str = "OUT is the word after IN, or that of -w";
 const PRINT: &str = "to print packets: tcpdump -nr IN";
 
 /// How to keep the first packets of a capture.
-const FIRST_PACKETS: &str = "to keep the first ten packets: editcap -r -F nsecpcap IN OUT 1-10";
+const FIRST_PACKETS: &str = "to keep the first N packets: editcap -r -F nsecpcap IN OUT 1-N";
 
 /// Where the completions of shells are.
 const COMPLETIONS: &str =
@@ -188,7 +188,8 @@ static OPTION_WAYS: [(&str, &str); 32] = [
 ];
 
 /// How to keep what a filter rejects.
-const REJECTED: &str = "to keep what a filter rejects: -e 'not (EXPR)'";
+const REJECTED: &str =
+    "what a filter rejects: write not (EXPR) for EXPR; packets that are too short for a test are in neither";
 
 /// How to print more of a packet.
 const IN_FULL: &str = "explain prints why for each packet; -p PLACE prints one in full";
@@ -201,7 +202,7 @@ const OBJECTS: &str =
 const PIECES: &str =
     "in pieces: editcap -c PACKETS -F nsecpcap IN OUT, or -i SECONDS in place of -c PACKETS";
 
-/// How to count what the lines of `split` keep, and how to write pieces of as many packets each.
+/// How to count what the lines of `split` keep, and how to write pieces of N packets each.
 const COUNTS_OF_SPLIT: &str =
     "to count only: /dev/null as OUT of each line; pieces of N packets: editcap -c N -F nsecpcap IN OUT";
 
@@ -213,7 +214,8 @@ const FILTERS_OF_RUN: &str =
     "filters are in LISTENERS: INTERFACE FLUSH SNAP CAPACITY SPARES OUT EXPRESSION";
 
 /// How `join` is called.
-const WORDS_OF_JOIN: &str = "join takes two words and no option: bpftap join LINES OUT";
+const WORDS_OF_JOIN: &str =
+    "join takes LINES, what cut --bytes prints, and OUT; captures become one by bpftap cut -s 0 -w OUT IN.., by time with mergecap";
 
 /// How a capture is written, for `explain` and `info`, which write none.
 const CUT_WRITES: &str = "cut writes a capture: bpftap cut -s 0 -e EXPR IN OUT";
@@ -221,6 +223,9 @@ const CUT_WRITES: &str = "cut writes a capture: bpftap cut -s 0 -e EXPR IN OUT";
 /// How to keep the packets between two times.
 const BETWEEN_TIMES: &str =
     "to keep packets between two times: editcap -A START -B STOP -F nsecpcap IN OUT";
+
+/// Formats of captures, by their names in editcap.
+static FORMATS: [&str; 3] = ["pcap", "nsecpcap", "pcapng"];
 
 /// How captures are given.
 const WITHOUT_OPTION: &str =
@@ -247,6 +252,9 @@ pub fn command_way<S: AsStr>(words: &[S]) -> Option<&'static str> {
     let command = command_of(words)?;
     if command == "help" {
         return way_of(&WAYS, words.get(2)?.as_str());
+    }
+    if command == "cmp" || (command == "diff" && words.iter().any(is_capture_name)) {
+        return Some("to compare two captures: cmp, or tcpdump -ttnxxr IN of both and diff");
     }
     if is_capture_name(&command) {
         return Some("a command comes first: bpftap info IN, bpftap explain -e EXPR IN");
@@ -305,7 +313,10 @@ fn way_of_command(command: &str, option: &str) -> Option<&'static str> {
         ("parts", "-n") => Some("parts takes N as a word: bpftap parts 4 IN"),
         ("split", "-c" | "--count") => Some(COUNTS_OF_SPLIT),
         ("split", "-l" | "-n") => Some(PIECES),
-        ("cut" | "split", "-F") => Some("OUT is a classic savefile: leave this option out"),
+        ("explain", "-A") => Some(PRINT),
+        ("explain" | "cut", "-x" | "-xx" | "-X" | "-XX") => Some(BYTES),
+        ("cut" | "split", "-T") => Some("captures are of Ethernet here: leave this option out"),
+        ("info" | "compare", "-c") => Some("it prints counts: leave this option out"),
         ("info", "-A" | "-T" | "-B") => Some("info prints all that it has: leave this option out"),
         ("cut" | "split", "-v") => Some(REJECTED),
         (_, "-e" | "-f") => way_of_filter(command),
@@ -325,12 +336,24 @@ fn way_of_option<S: AsStr>(words: &[S], option: &str) -> Option<&'static str> {
     }
 }
 
-/// Whether an option comes where the command does.
-fn lacks_command<S: AsStr>(words: &[S]) -> bool {
-    match command_of(words) {
-        Some(word) => way_of(&OPTION_WAYS, word).is_some() || word == "-e" || word == "-f",
-        None => false,
+/// What is said of an option where the command comes: the command that does the same.
+fn missing_command<S: AsStr>(words: &[S]) -> Option<&'static str> {
+    if !command_of(words)?.starts_with("-") {
+        return None;
     }
+    if has_word(words, "-i") {
+        return way_of(&OPTION_WAYS, "-i");
+    }
+    if has_word(words, "-w") {
+        return Some("a command comes first: bpftap cut -s 0 -e EXPR IN OUT");
+    }
+    if has_word(words, "-ddd") {
+        return Some("a command comes first: bpftap check EXPR");
+    }
+    if has_word(words, "-d") || has_word(words, "-dd") {
+        return Some("a command comes first: bpftap check -d EXPR, or -dd for an array of C");
+    }
+    Some("a command comes first: bpftap explain -e EXPR IN")
 }
 
 /// Whether the name of a capture follows an option `-i` or `-o`.
@@ -341,18 +364,29 @@ fn gives_capture<S: AsStr>(words: &[S], option: &str) -> bool {
     })
 }
 
+/// Whether a format of captures follows an option `-F`, as editcap takes it.
+fn gives_format<S: AsStr>(words: &[S]) -> bool {
+    words.windows(2).any(|pair| match pair {
+        [first, second] => first.as_str() == "-F" && FORMATS.contains(&second.as_str()),
+        _ => false,
+    })
+}
+
 /// How to do what the first of the arguments does that is such an option.
 fn option_way<S: AsStr>(words: &[S]) -> Option<&'static str> {
-    if lacks_command(words) {
-        return Some("a command comes first: bpftap explain -e EXPR IN");
+    if let Some(way) = missing_command(words) {
+        return Some(way);
     }
     if gives_capture(words, "-i") {
         return Some(WITHOUT_OPTION);
     }
+    if gives_format(words) {
+        return Some("OUT is a classic savefile: leave this option out");
+    }
     if gives_number(words, "-n") && (is_cut(words) || command_of(words) == Some("explain")) {
         return Some(FIRST_PACKETS);
     }
-    if gives_number(words, "-i") {
+    if gives_number(words, "-i") && matches!(command_of(words), Some("cut" | "split")) {
         return Some(PIECES);
     }
     for word in words {
@@ -360,7 +394,11 @@ fn option_way<S: AsStr>(words: &[S]) -> Option<&'static str> {
             return Some(way);
         }
     }
-    None
+    if command_of(words) == Some("join") {
+        Some(WORDS_OF_JOIN)
+    } else {
+        None
+    }
 }
 
 /// A hint on an option that there is not, if one of the arguments is an option of another tool.
@@ -389,13 +427,17 @@ pub fn hint_value<S: AsStr, E: HintSink>(words: &[S], err: &mut E)
 pub fn hint_conflict<S: AsStr, E: HintSink>(words: &[S], err: &mut E)
     ensures quiet { E.takes_hints err.old ≡ false → err.new ≡ err.old }
 {
-    if command_of(words) == Some("check") && words.iter().any(is_capture_name) {
+    let asks_graph = has_word(words, "--dot") || has_word(words, "-p");
+    if command_of(words) == Some("check") && asks_graph && words.iter().any(is_capture_name) {
         give_hint(
             "a packet in a graph: bpftap check --dot -p PLACE EXPR IN, without -e",
             err,
         );
     }
 }
+
+/// Options of `cut` that a value follows.
+static CUT_VALUES: [&str; 7] = ["-e", "-f", "-s", "-o", "-u", "-w", "--bytes"];
 
 /// Whether one of the arguments is this word.
 fn has_word<S: AsStr>(words: &[S], wanted: &str) -> bool {
@@ -405,6 +447,15 @@ fn has_word<S: AsStr>(words: &[S], wanted: &str) -> bool {
 /// Whether these are arguments of `cut`.
 fn is_cut<S: AsStr>(words: &[S]) -> bool {
     command_of(words) == Some("cut")
+}
+
+/// Whether one of the arguments after the command is no option, nor the value of one of `cut`.
+fn has_plain_word<S: AsStr>(words: &[S]) -> bool {
+    words.windows(2).skip(1).any(|pair| match pair {
+        [first, second] => !second.as_str().starts_with("-")
+            && !CUT_VALUES.contains(&first.as_str()),
+        _ => false,
+    })
 }
 
 /// Hints on arguments of `cut` of which one is missing: the snapshot length, OUT if packets are
@@ -420,7 +471,7 @@ fn hint_missing_of_cut<S: AsStr, E: HintSink>(words: &[S], err: &mut E)
             err,
         )
     }
-    if !words.iter().any(is_capture_name) {
+    if !has_plain_word(words) {
         give_hint(
             "IN and OUT are words: of the standard streams /dev/stdin and /dev/stdout",
             err,
@@ -481,7 +532,12 @@ fn missing_word<S: AsStr>(words: &[S]) -> Option<&'static str> {
             "LINES is missing, a file of which each line is SNAP OUT EXPRESSION",
         ),
         ("steps", 2, true) => Some("a file is missing: bpftap steps LISTENERS SCRIPT IN"),
-        ("run", 1, true) => Some("LISTENERS is missing: bpftap run LISTENERS IN"),
+        ("run", 1, true) => Some(
+            "LISTENERS is missing, a file of lines INTERFACE FLUSH SNAP CAPACITY SPARES OUT EXPRESSION; to filter only: bpftap cut",
+        ),
+        ("steps", 0 | 1, _) => Some(
+            "LISTENERS has lines of SNAP CAPACITY EXPRESSION, and SCRIPT of arrive, flush L, read L or close L: bpftap steps LISTENERS SCRIPT IN",
+        ),
         _ => None,
     }
 }

@@ -66,8 +66,8 @@ pub fn show_line<E: HintSink>(text: &[u8], number: usize, err: &mut E)
 }
 
 /// What is said of a capture if another file is wanted.
-pub const CAPTURE: &str =
-    "this is a capture, and no file of lines: captures are the last words, IN";
+const CAPTURE: &str =
+    "this is a capture, and no file of lines: IN comes after LINES, LISTENERS and SCRIPT; join takes none, and cut -s 0 -w OUT IN.. joins captures";
 
 /// Hints on a malformed line: the line itself, and the form. Of a capture only that it is one.
 pub fn hint_bad_line<E: HintSink>(text: &[u8], number: usize, form: &str, err: &mut E)
@@ -75,7 +75,10 @@ pub fn hint_bad_line<E: HintSink>(text: &[u8], number: usize, form: &str, err: &
 {
     if is_capture(text) {
         give_hint(CAPTURE, err);
-        return;
+        return give_hint(
+            format_args!("a line of the file that is wanted: {form}"),
+            err,
+        );
     }
     show_line(text, number, err);
     if line_at(text, number).ends_with(b"\r") {
