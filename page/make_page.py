@@ -157,7 +157,7 @@ def bytes_of(literal):
     return [int(number, 0) if number else ord(character) for number, character in re.findall(r"(0x\w+)|b'(.)'", literal)]
 
 
-# The texts on captures, and the link types of cooked ones, by the names that the page has for them.
+# The texts on captures, and the link types that cooked.py takes, by the names that the page has for them.
 CAPTURE_TEXTS = {
     "other": r'"(not a classic .*?)\{\}"', "link": r'"link type \{number\}\{\}(; .*?)"', "checked": r'"(link type 1 .*?)"',
     "capture": r'"(capture on an Ethernet .*?)"', "convert": r'"(one that you have: .*?)"', "cooked": r"fn is_cooked\(number: u32\) -> bool \{\s+(.*)",
@@ -175,15 +175,15 @@ def hints():
     table = re.search(r"static OTHER_FORMATS: .*?= \[(.*?)\n\];", captures, re.S)
     rows = re.findall(r'\(\s*(&\[.*?\]|b".*?"),\s*(?:"(.*?)"|(\w+)),?\s*\)', table[1] if table else "", re.S)
     found = {name: re.search(form, captures) for name, form in CAPTURE_TEXTS.items()}
-    names = re.findall(r'^ +(\d[\d |]*|_ if is_cooked\(number\)) => "(.*?)",', captures, re.M)
+    names = re.findall(r'^ +(\d[\d |]*) => "(.*?)",', captures, re.M)
     is_known = table and len(rows) == table[1].count("(") and all(found.values()) and names and {"LISTENERS_OF_STEPS", "SCRIPT"} <= set(named)
     if not is_known:
         raise Refused(f"the hints of {CAPTURE_HINTS.parent} have another form, which this does not know")
-    formats = [[bytes_of(begins), (text or named[name]).removesuffix(", and read it from /dev/stdin")] for begins, text, name in rows]
+    formats = [[bytes_of(begins), (text or named[name]).removesuffix(", into a file or to /dev/stdin")] for begins, text, name in rows]
     texts = {name: text[1] for name, text in found.items()}
-    numbers = lambda words: [int(number) for number in re.findall(r"\d+", words if words[0] != "_" else texts["cooked"])]
-    texts["linkNames"] = [[numbers(words), text] for words, text in names]
-    return {**texts, "formats": formats, "listeners": named["LISTENERS_OF_STEPS"], "script": named["SCRIPT"]}
+    numbers = lambda words: [int(number) for number in re.findall(r"\d+", words)]
+    links = {"linkNames": [[numbers(words), text] for words, text in names], "cooked": numbers(texts["cooked"])}
+    return {**texts, **links, "formats": formats, "listeners": named["LISTENERS_OF_STEPS"], "script": named["SCRIPT"]}
 
 
 def packed(content):

@@ -14,7 +14,7 @@ import { find } from "./dom.js";
  * Texts of the program: what files of other formats begin with, and what to do with them; names of link types; one text for each name of
  * CAPTURE_TEXTS in make_page.py; the forms of lines.
  * @typedef {{ formats: [number[], string][], linkNames: [number[], string][], listeners: string, script: string,
- *   other: string, link: string, checked: string, capture: string, convert: string, cooked: string, short: string, version: string, torn: string,
+ *   other: string, link: string, checked: string, capture: string, convert: string, cooked: number[], short: string, version: string, torn: string,
  *   fraction: string, smallFraction: string, long: string }} Texts
  */
 
@@ -35,10 +35,10 @@ function otherFormat(file) {
  * @returns {string}
  */
 function linkHint(number) {
-  const { linkNames, link, checked, capture, convert } = texts();
+  const { linkNames, cooked, link, checked, capture, convert } = texts();
   if (number % 65536 === 1) return checked;
-  const [numbers, name] = linkNames.find(([known]) => known.includes(number)) || [[], ""], isCooked = numbers.includes(113);
-  return [`link type ${number}${name}${link}`, capture, ...(isCooked ? [convert] : [])].join("\n");
+  const [, name] = linkNames.find(([known]) => known.includes(number)) || [[], ""];
+  return [`link type ${number}${name}${link}`, capture, ...(cooked.includes(number) ? [convert] : [])].join("\n");
 }
 
 /**

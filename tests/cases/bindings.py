@@ -125,6 +125,17 @@ def loses_what_steps_loses(scene):
     scene.check("tap: drops", (sum(line.startswith("dropped:") for line in lines), int(dropped) > 0), (int(dropped), True))
 
 
+def records_of_bpf(text):
+    """The packets of a buffer of bpf(4), each as a record of a capture: as a reader of one goes on, by the header's length and BPF_WORDALIGN."""
+    place, found = 0, []
+    while place < len(text):
+        times = text[place : place + 4], text[place + 8 : place + 12]
+        captured, size = int.from_bytes(text[place + 16 : place + 20], "little"), int.from_bytes(text[place + 24 : place + 26], "little")
+        found.append(b"".join(times) + text[place + 16 : place + 24] + text[place + size : place + size + captured])
+        place += (size + captured + 7) & ~7
+    return found
+
+
 @case
 def examples_do_what_they_say(scene):
     """The examples in C, which are C++ too, and in Python: the filter keeps what `bpftap cut` keeps, and the kernel takes a program."""
@@ -153,6 +164,9 @@ def examples_do_what_they_say(scene):
         ["No tcp dst port 443", "Yes tcp dst port 80", "96 bytes are kept", "Abort tcp dst port 80, byte 36 is not captured"], 0))
     scene.put({"listeners": "96 4096 len > 50\n", "script": ("arrive\n" * 125 + "read 0\n") * 2})
     counts = re.findall(r"\d+", scene.run(["steps", "listeners", "script", str(VETH)]).out.decode())
+    said, status = done(scene, [sys.executable, ROOT / "examples" / "python" / "bpf_buffer.py", "tcp", VETH, "buffer"], env=environment)
+    scene.check("bpf_buffer.py", (said, status), ("", 0))
+    scene.check("its records", records_of_bpf(scene.read("buffer")), [one for one in records(VETH.read_bytes()) if one[28:30] == b"\x08\x00" and one[39] == 6])
     said, status = done(scene, [sys.executable, ROOT / "examples" / "python" / "drops.py"], env=environment)
     scene.check("drops.py", (said.splitlines()[1:2], status), ([f"{counts[3]} dropped of {counts[2]}"], 0))
 

@@ -106,20 +106,26 @@ COOKED = {
 
 @case
 def a_capture_of_raw_ip_becomes_one_of_ethernet(scene):
-    """A frame of raw IP gets the Ethernet type of its version; a capture of another link type is refused in a line, and nothing is written."""
+    """A frame of raw IP, or of BSD loopback, gets the Ethernet type of its version; a capture of another link type is refused in a line, and nothing is written."""
     frames = [record for record in records(VETH.read_bytes()) if record[28:30] == b"\x08\x00"]
-    raw = [record[:8] + (len(record) - 30).to_bytes(4, "little") * 2 + record[30:] for record in frames]
+    def with_header(header):
+        return b"".join(record[:8] + (len(record) - 30 + len(header)).to_bytes(4, "little") * 2 + header + record[30:] for record in frames)
     wanted = [record[:8] + (len(record) - 16).to_bytes(4, "little") * 2 + bytes(12) + record[28:] for record in frames]
     head = VETH.read_bytes()[:20]
-    scene.start({"raw.pcap": head + (101).to_bytes(4, "little") + b"".join(raw), "loop.pcap": head + bytes(4)})
+    scene.start({
+        "raw.pcap": head + (101).to_bytes(4, "little") + with_header(b""), "loop.pcap": head + bytes(4) + with_header(bytes([2, 0, 0, 0])),
+        "openbsd.pcap": head + (108).to_bytes(4, "little") + with_header(bytes([0, 0, 0, 2])), "wireless.pcap": head + (105).to_bytes(4, "little"),
+    })
     script = EXAMPLES / "python" / "cooked.py"
-    for name, said in (("raw.pcap", b""), ("loop.pcap", b"cooked.py: the link type 0 is neither cooked (113, 276) nor raw IP (101)\n")):
+    refused = b"cooked.py: the link type 105 is neither cooked (113, 276), raw IP (12, 14, 101) nor BSD loopback (0, 108)\n"
+    for name, said in (("raw.pcap", b""), ("loop.pcap", b""), ("openbsd.pcap", b""), ("wireless.pcap", refused)):
         words = [sys.executable, script, name, f"{name}.out"]
         done = subprocess.run(words, cwd=scene.folder, stdout=subprocess.PIPE, stderr=subprocess.STDOUT, timeout=LIMIT)
         scene.check(name, (done.stdout, done.returncode), (said, int(bool(said))))
-    scene.expect("cut -s 0 raw.pcap.out again.pcap")
-    scene.check("frames of raw IP", records(scene.read("again.pcap")), wanted)
-    scene.check("what is refused", (scene.folder / "loop.pcap.out").exists(), False)
+    for name in ("raw.pcap", "loop.pcap", "openbsd.pcap"):
+        scene.expect(f"cut -s 0 {name}.out again.pcap")
+        scene.check(f"frames of {name}", records(scene.read("again.pcap")), wanted)
+    scene.check("what is refused", (scene.folder / "wireless.pcap.out").exists(), False)
 
 
 @case

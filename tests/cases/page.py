@@ -369,7 +369,7 @@ def give_files(visit):
         visit.scene.put({name: content})
         visit.browser.give_file("file", visit.scene.folder / name)
         visit.check_has(name, "capture-name", f"{name}, {'1 packet' if name == 'torn.pcap' else '0 packets'}: ")
-        said = "\n".join(below_fault(visit.scene, "explain", "-e", "ip", name)).replace(", and read it from /dev/stdin", "")
+        said = "\n".join(below_fault(visit.scene, "explain", "-e", "ip", name)).replace(", into a file or to /dev/stdin", "")
         visit.check(f"what {name} is", visit.text("capture-hint"), said)
 
 
