@@ -10,7 +10,7 @@ from .manual import session
 
 # Pages whose commands need no other program than the system's own; docs/SCALE.md has a group of its own.
 LESSONS = [f"examples/lessons/{page.name}" for page in sorted((ROOT / "examples" / "lessons").glob("*.md"))]
-RUN = ["README.md", "docs/RECIPES.md", "docs/LANGUAGE.md", "docs/ASSEMBLY.md", "docs/FAULTS.md", "examples/README.md", *LESSONS]
+RUN = ["README.md", "docs/RECIPES.md", "docs/LANGUAGE.md", "docs/ASSEMBLY.md", "docs/FAULTS.md", "examples/README.md", "examples/steps/README.md", *LESSONS]
 
 # A block between two lines of three backticks, or one that is indented by four blanks.
 BLOCK = re.compile(r"^```\w*\n(?P<fenced>(?s:.*?))^```$|^(?P<indented>(?:    .*\n)+)", re.M)
@@ -70,6 +70,7 @@ def commands_with_other_tools_end_well(scene):
     """The commands of RECIPES that take tools of others, as tcpdump's and Wireshark's, where these are there."""
     environment = start_page(scene)
     scene.put({name: VETH.read_bytes() for name in ("in.pcap", "one.pcap", "two.pcap")})
+    subprocess.run(["editcap", "-F", "pcapng", "in.pcap", "all.pcapng"], cwd=scene.folder, check=True, timeout=LIMIT)
     scene.put({"any.pcap": cooked(113, COOKED[113], "little"), "packet.txt": "0000 " + "ff " * 60 + "\n"})
     commands = [line.strip() for line in other_commands(ROOT / "docs" / "RECIPES.md")]
     asked = [line for line in commands if not line.startswith(NOT_RUN)]
