@@ -1,2 +1,3 @@
 pub mod Status
 pub mod Telling
+pub mod Paths

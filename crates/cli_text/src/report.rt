@@ -1,8 +1,11 @@
 //! What the program reports on standard error, and the exit status that goes with it.
 
-ghost use Rattle.std.specs.Prelude.{◌≡◌, IfOk, IfSome};
+ghost use Rattle.std.specs.Prelude.{◌≡◌, IfOk, IfSome, Some, encode_utf8_all};
+ghost use Rattle.std.specs.Char.Escape.{escape_default};
+ghost use Rattle.std.specs.Fmt.{WritesOnOk};
 ghost use Rattle.line_text.specs.Sending.{Takes};
 ghost use Rattle.cli_text.specs.declared.status.Status.TheVariants.{Refused};
+ghost use Rattle.cli_text.specs.Paths.{escaped_path, shown_characters};
 ghost use Rattle.cli_text.specs.Telling.{fault_status, is_unread, output_line, print_status_of, told_line};
 
 use crate::status::Status;
@@ -67,21 +70,48 @@ pub fn report_words<E: Write>(error: io::Error, err: &mut E) -> Status
     }
 }
 
+/// Writes the escape of a character in a Rust string. No clause of the standard library says what
+/// an escape prints, so its characters are written one after the other.
+fn write_escape<W: fmt::Write>(f: &mut Formatter<W>, character: char) -> fmt::Result
+    ensures { WritesOnOk W.write_str_gives f.old result (encode_utf8_all (escape_default character)) f.new }
+{
+    for part in character.escape_default() {
+        f.write_char(part)?;
+    }
+    Ok(())
+}
+
+/// Writes a character of a path as it is shown.
+fn write_shown<W: fmt::Write>(f: &mut Formatter<W>, character: char) -> fmt::Result
+    ensures { WritesOnOk W.write_str_gives f.old result (encode_utf8_all (shown_characters character)) f.new }
+{
+    if character.is_control() {
+        write_escape(f, character)
+    } else {
+        f.write_char(character)
+    }
+}
+
+/// Writes a path as it is shown.
+fn write_path<W: fmt::Write>(f: &mut Formatter<W>, path: &str) -> fmt::Result
+    ensures { WritesOnOk W.write_str_gives f.old result (escaped_path path.now) f.new }
+{
+    for character in path.chars() {
+        write_shown(f, character)?;
+    }
+    Ok(())
+}
+
 /// A path in a line of its own: control characters are written as in a Rust string, `\n` or
 /// `\u{1b}`.
 #[derive(Clone, Copy)]
 pub struct EscapedPath<'a>(pub &'a str);
 
 impl Display for EscapedPath<'_> {
+    ghost output = { λ path. Some (escaped_path path.0.now) };
+
     fn fmt<W: fmt::Write>(&self, f: &mut Formatter<W>) -> fmt::Result {
-        for character in self.0.chars() {
-            if character.is_control() {
-                write!(f, "{}", character.escape_default())?;
-            } else {
-                f.write_char(character)?;
-            }
-        }
-        Ok(())
+        write_path(f, self.0)
     }
 }
 
