@@ -37,6 +37,7 @@ use cli_split::command::split_command;
 use cli_steps::command::steps_command;
 use cli_text::Status;
 use cli_watch::Screen;
+use cli_watch::output::PrintSink;
 use filter_spots::is_word;
 use line_text::LineForm;
 use std::alloc::Global;
@@ -51,7 +52,7 @@ use std::thread::Threads;
 pub fn run<
     R: Files + AllocGlobal + NamesFiles + Screen + Threads + Wait + Sync,
     S: AsStr,
-    O: Write,
+    O: PrintSink,
     W: Write,
 >(rt: &R, words: &[S], out: &mut O, err: &mut ErrorStream<W>) -> Status {
     let _input = reserve_std_fd(rt);
@@ -77,7 +78,7 @@ fn request_of<'a, S: AsStr>(alloc: Global, words: &'a [S]) -> Result<Request<'a>
 fn dispatch<
     R: Files + AllocGlobal + NamesFiles + Screen + Threads + Wait + Sync,
     S: AsStr,
-    O: Write,
+    O: PrintSink,
     W: Write,
 >(rt: &R, words: &[S], out: &mut O, err: &mut ErrorStream<W>) -> Status {
     match request_of(rt.alloc(), words) {
@@ -116,7 +117,7 @@ fn dispatch<
 
 /// `check`.
 #[inline(never)]
-fn check<R: Files + AllocGlobal + Screen, O: Write, W: Write>(
+fn check<R: Files + AllocGlobal + Screen, O: PrintSink, W: Write>(
     rt: &R,
     words: &CheckWords<'_>,
     out: &mut O,

@@ -5,3 +5,4 @@ pub mod Visits
 pub mod Counting
 pub mod Opening
 pub mod Closing
+pub mod Telling

@@ -7,13 +7,15 @@ use Rattle.filterlang.specs.Texts.{IsRefusalOf}
 use Rattle.filtergen.specs.declared.expression.ExpressionFault.TheVariants as faults
 use Rattle.cli_text.specs.declared.status.Status.{Status}
 use Rattle.cli_text.specs.declared.status.Status.TheVariants as status
-use Rattle.cli_files.specs.Paths.{IsPathStatus}
-use Rattle.cli_files.specs.Reading.{IsRefusedMemory}
+use Rattle.fault_report.specs.declared.report.Report.{Report}
+use Rattle.cli_files.specs.Paths.{IsPathReport, IsPathStatus}
+use Rattle.cli_files.specs.Reading.{IsFileReport, IsLongTextReport, IsRefusedMemory}
 use Rattle.cli_files.specs.declared.paths.Opening.TheVariants.{First}
 use Rattle.cli_files.specs.declared.paths.PathFault.{PathFault}
 use Rattle.cli_files.specs.declared.paths.PathFault.TheVariants as paths
 use Rattle.cli_files.specs.declared.reading.TheConstants.{MAX_TEXT}
 use Rattle.cli_filter.specs.Filter.{IsFilter, IsNoFilter, expression_of}
+use Rattle.cli_filter.specs.Reports.{IsFilterReport}
 use Rattle.cli_filter.specs.declared.program.FilterFault.{FilterFault}
 use Rattle.cli_filter.specs.declared.program.FilterFault.TheVariants as filter
 use Rattle.cli_store.specs.Files.{IsUnprinted, Places, Texts, text_at}
@@ -116,3 +118,11 @@ IsUnaskedStatus (unasked.Filter kept fault) ended = ended ≡ status.Refused
 IsUnaskedStatus (unasked.TextTooLong path) ended = ended ≡ status.Refused
 IsUnaskedStatus (unasked.Paths fault) ended = IsPathStatus fault ended
 IsUnaskedStatus (unasked.File path error) ended = IsFileStatus error ended
+
+-- ---- What is reported of it
+
+abbrev pub IsUnaskedReport : Unasked → Report → Type 0
+IsUnaskedReport (unasked.Filter kept fault) report = IsFilterReport fault report
+IsUnaskedReport (unasked.TextTooLong path) report = IsLongTextReport report
+IsUnaskedReport (unasked.Paths fault) report = IsPathReport fault report
+IsUnaskedReport (unasked.File path error) report = IsFileReport error path report

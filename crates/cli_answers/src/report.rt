@@ -1,17 +1,17 @@
 //! What reading captures and printing came to, as it is reported, and its exit status.
 
-ghost use Rattle.std.specs.Prelude.{◌≡◌};
+ghost use Rattle.std.specs.Prelude.{◌≡◌, slice_get};
 ghost use Rattle.cli_text.specs.Status.{greater};
 ghost use Rattle.cli_text.specs.Telling.{fault_status};
-ghost use Rattle.cli_text.specs.declared.status.Status.TheVariants.{Refused};
-ghost use Rattle.cli_answers.specs.Asked.{IsUnaskedStatus};
-ghost use Rattle.cli_answers.specs.Telling.{printed_status, stop_status};
+ghost use Rattle.fault_report.specs.Reports.{TellsAmong, TellsMore, TellsOne};
+ghost use Rattle.cli_answers.specs.Asked.{IsUnaskedReport, IsUnaskedStatus};
+ghost use Rattle.cli_answers.specs.Telling.{IsFaultAt, IsFaultReport, TellsEnd, TellsStop, TellsUnprinted, printed_status, stop_status};
 
 use crate::asked::Unasked;
 use crate::printing::Unprinted;
 use cli_files::paths::report_path;
 use cli_files::reading::{report_io, report_long_text};
-use cli_filter::{FilterFault, filter_or_report};
+use cli_filter::report_no_filter;
 use cli_report::HintSink;
 use cli_report::failures::name_source;
 use cli_text::Status;
@@ -25,7 +25,9 @@ use std::alloc::Global;
 
 /// Reports why not all was printed, if it was not.
 pub fn report_printed<E: FaultSink>(printed: &Result<(), Unprinted>, err: &mut E) -> Status
-    ensures { result ≡ printed_status printed.now }
+    ensures status { result ≡ printed_status printed.now }
+    ensures told { TellsUnprinted (λ says. TellsOne E.takes_hints E.failed E.contents E.fault_form says err.old err.new) printed.now }
+    ensures more { TellsMore E.takes_hints E.failed E.contents E.fault_form err.old err.new }
 {
     match printed {
         Ok(()) => Status::Clean,
@@ -34,13 +36,25 @@ pub fn report_printed<E: FaultSink>(printed: &Result<(), Unprinted>, err: &mut E
     }
 }
 
-/// The fault of the capture of this number, of those at these paths: that a device failed names its
-/// path; any other fault has the number of the capture if there are several.
-fn fault_of<'a>(paths: &[&'a str], number: usize, fault: Fault) -> Report<'a> {
-    match paths.get(number) {
-        Some(path) if fault == Fault::Device => device(Subject::File(*path)),
-        Some(path) if paths.len() == 1 => capture_fault(fault, *path),
+/// The fault of the capture of this number, at this path, of those at these paths: that a device
+/// failed names its path; any other fault has the number of the capture if there are several.
+fn fault_at<'a>(paths: &[&'a str], number: usize, fault: Fault, path: &'a str) -> Report<'a>
+    ensures { IsFaultAt paths.now number fault path.entry result }
+{
+    match fault {
+        Fault::Device => device(Subject::File(path)),
+        _ if paths.len() == 1 => capture_fault(fault, path),
         _ => nth_capture_fault(fault, number, paths),
+    }
+}
+
+/// The fault of the capture of this number, of those at these paths.
+fn fault_of<'a>(paths: &[&'a str], number: usize, fault: Fault) -> Report<'a>
+    ensures { IsFaultReport paths.now number fault (slice_get paths.now number) result }
+{
+    match paths.get(number) {
+        Some(path) => fault_at(paths, number, fault, *path),
+        None => nth_capture_fault(fault, number, paths),
     }
 }
 
@@ -53,7 +67,8 @@ pub fn report_capture<E: HintSink>(
     fault: Fault,
     err: &mut E,
 ) -> Status
-    ensures { result ≡ fault_status fault }
+    ensures status { result ≡ fault_status fault }
+    ensures told { TellsAmong E.takes_hints E.failed E.contents E.fault_form (IsFaultReport paths.now number fault (slice_get paths.now number)) err.old err.new }
 {
     let status = report_fault(&fault_of(paths, number, fault), fault_status(fault), err);
     if fault != Fault::Device {
@@ -64,7 +79,9 @@ pub fn report_capture<E: HintSink>(
 
 /// Reports the capture that ended the reading, if one did, and answers the exit status.
 pub fn report_stop<E: HintSink>(read: Result<(), Stop>, paths: &[&str], err: &mut E) -> Status
-    ensures { result ≡ stop_status read }
+    ensures status { result ≡ stop_status read }
+    ensures told { TellsStop (λ says. TellsAmong E.takes_hints E.failed E.contents E.fault_form says err.old err.new) paths.now read }
+    ensures more { TellsMore E.takes_hints E.failed E.contents E.fault_form err.old err.new }
 {
     match read {
         Ok(()) => Status::Clean,
@@ -80,7 +97,9 @@ pub fn report_captures<E: HintSink>(
     paths: &[&str],
     err: &mut E,
 ) -> Status
-    ensures { result ≡ greater (printed_status printed.now) (stop_status read) }
+    ensures status { result ≡ greater (printed_status printed.now) (stop_status read) }
+    ensures told { TellsEnd (λ says. TellsAmong E.takes_hints E.failed E.contents E.fault_form says err.old err.new) paths.now printed.now read }
+    ensures more { TellsMore E.takes_hints E.failed E.contents E.fault_form err.old err.new }
 {
     let status = report_printed(printed, err);
     status.max(report_stop(read, paths, err))
@@ -93,29 +112,16 @@ pub fn report_unasked<E: HintSink>(
     expr: Option<&str>,
     err: &mut E,
 ) -> Status
-    ensures { IsUnaskedStatus reason.now result }
+    ensures status { IsUnaskedStatus reason.now result }
+    ensures told { TellsOne E.takes_hints E.failed E.contents E.fault_form (IsUnaskedReport reason.now) err.old err.new }
 {
     match reason {
         Unasked::Filter(listing, fault) => {
             let listing = listing.as_ref().map(|text| text.as_slice());
-            report_unfit(alloc, listing, expr, *fault, err)
+            report_no_filter(alloc, listing, expr, *fault, err)
         }
         Unasked::TextTooLong(path) => report_long_text(*path, err),
         Unasked::Paths(fault) => report_path(fault, err),
         Unasked::File(path, error) => report_io(error, *path, err),
     }
-}
-
-/// Reports why there is no filter, with hints, and returns the exit status.
-fn report_unfit<E: HintSink>(
-    alloc: Global,
-    listing: Option<&[u8]>,
-    expr: Option<&str>,
-    fault: FilterFault,
-    err: &mut E,
-) -> Status
-    ensures { result ≡ Refused }
-{
-    let _ = filter_or_report(alloc, listing, expr, Err(fault), err);
-    Status::Refused
 }

@@ -5,3 +5,4 @@ pub mod Objects
 pub mod Cutting
 pub mod Checking
 pub mod Parts
+pub mod Reporting

@@ -6,6 +6,8 @@ ghost use Rattle.line_text.specs.Sending.{Takes};
 ghost use Rattle.cli_split.specs.Opened.{IsLate};
 ghost use Rattle.cli_split.specs.Statuses.{split_status, written_status};
 ghost use Rattle.cli_text.specs.declared.status.Status.TheVariants.{Failed};
+ghost use Rattle.fault_report.specs.Reports.{TellsMore};
+ghost use Rattle.cli_split.specs.Reporting.{TellsStop};
 ghost use Rattle.cli_store.specs.Files.{Keeps};
 ghost use Rattle.cli_cut.specs.Captures.{CutsAll, CutsPackets, HasSpace, IsUnopened, first_told, listing_path, part_told, total_told};
 ghost use Rattle.cli_cut.specs.Cutting.{IsUncompared, IsUnmade};
@@ -28,12 +30,13 @@ use cli_split::report::{SplitFiles, report_faults, was_begun};
 use cli_split::split::{Room, SplitEnd, split_in};
 use cli_store::FileStore;
 use cli_text::Status;
+use fault_report::FaultSink;
 use line_text::LineForm;
 use savefile::Fault;
 use savefile::laws::packets_take_room;
 use std::alloc::{AllocError, Global};
 use std::io;
-use std::io::{ErrorKind, Write};
+use std::io::ErrorKind;
 
 /// The paths of all files that are read.
 fn read_paths<'p>(alloc: Global, words: &CutWords<'p>) -> Result<Vec<&'p str>, AllocError>
@@ -165,8 +168,9 @@ pub fn cut_several<'p, F: FileStore<'p>>(
 }
 
 /// Reports how many of the packets were written, if OUT was written whole.
-fn report_part<W, E: Write>(part: &PartEnd<W>, form: LineForm, err: &mut E) -> io::Result<()>
-    ensures { Takes (E.contents err.old) (E.contents err.new) result (part_told form part.now) }
+fn report_part<W, E: FaultSink>(part: &PartEnd<W>, form: LineForm, err: &mut E) -> io::Result<()>
+    ensures taken { Takes (E.contents err.old) (E.contents err.new) result (part_told form part.now) }
+    ensures more { TellsMore E.takes_hints E.failed E.contents E.fault_form err.old err.new }
 {
     match part.written {
         Ok(()) => report_tally(part.tally, form, err),
@@ -178,12 +182,13 @@ fn report_part<W, E: Write>(part: &PartEnd<W>, form: LineForm, err: &mut E) -> i
 /// in an object of JSON, if the header of the first capture was read and OUT, the only part, was
 /// written whole. Packets count up to the fault that ended the reading. Else it reports nothing.
 /// The error is that of standard error, which took a prefix of the line.
-pub fn report_total<R, W, E: Write>(
+pub fn report_total<R, W, E: FaultSink>(
     end: &SplitEnd<R, W>,
     form: LineForm,
     err: &mut E,
 ) -> io::Result<()>
-    ensures { Takes (E.contents err.old) (E.contents err.new) result (total_told form end.now) }
+    ensures taken { Takes (E.contents err.old) (E.contents err.new) result (total_told form end.now) }
+    ensures more { TellsMore E.takes_hints E.failed E.contents E.fault_form err.old err.new }
 {
     if !was_begun(end.end) {
         return Ok(());
@@ -221,7 +226,8 @@ pub(crate) fn report_captures<E: HintSink>(
     words: &CutWords<'_>,
     err: &mut E,
 ) -> Status
-    ensures { result ≡ split_status end.now }
+    ensures status { result ≡ split_status end.now }
+    ensures told { TellsStop E.takes_hints E.failed E.contents E.fault_form words.now.inputs.items end.now.end err.old err.new }
 {
     let lines = [SplitLine {
         snap: words.snap,

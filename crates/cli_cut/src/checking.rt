@@ -1,6 +1,6 @@
 //! `bpftap check`, over files that contracts can know.
 
-ghost use Rattle.std.specs.Prelude.{◌≡◌, true, None, IfOk, IfErr, OnErr, option_copied};
+ghost use Rattle.std.specs.Prelude.{◌≡◌, true, false, None, IfOk, IfErr, OnErr, OnOk, option_copied};
 ghost use Rattle.cli_store.specs.Files.{Keeps};
 ghost use Rattle.cli_cut.specs.Checking.{Checks, IsAskedFor, IsUnasked, PrintsProgram, PrintsProgramObject, form_for};
 
@@ -12,8 +12,8 @@ use bpfvm::Program;
 use cli_args::check::CheckWords;
 use cli_files::paths::Opening;
 use cli_store::FileStore;
+use cli_watch::output::PrintSink;
 use std::alloc::Global;
-use std::io::Write;
 
 /// The form for this many options `-d`.
 fn form_for(named: u8) -> ProgramForm
@@ -48,7 +48,7 @@ fn read_program<'p, F: FileStore<'p>>(
 
 /// Prints what is asked for: an object, the expression as it was read, or a program in some form.
 /// Nothing is printed before the program is accepted, and no file changes.
-pub fn check_files<'p, F: FileStore<'p>, O: Write>(
+pub fn check_files<'p, F: FileStore<'p>, O: PrintSink>(
     alloc: Global,
     files: &mut F,
     words: &CheckWords<'p>,
@@ -58,6 +58,7 @@ pub fn check_files<'p, F: FileStore<'p>, O: Write>(
     ensures checks { F.known ≡ true → IfOk result (Checks (F.place files.old) (F.text files.old) (F.printed files.old) (O.contents out.old) (O.contents out.new) words.now) }
     ensures refused { F.known ≡ true → IfErr result (IsUnasked (F.place files.old) (F.text files.old) (F.printed files.old) (F.failed files.new) (F.denied files.new) (option_copied words.now.listing) (option_copied words.now.expr) words.now.snap) }
     ensures silent { OnErr result (out.new ≡ out.old) }
+    ensures handed_on { IfOk result (λ printed. OnOk printed (O.waits out.new ≡ false)) }
 {
     match (words.expr, words.json, words.read) {
         (Some(expr), true, _) => Ok(check_object(alloc, expr, words.snap, out)),

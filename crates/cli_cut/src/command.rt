@@ -1,10 +1,12 @@
 //! `bpftap cut` and `bpftap check`, over files.
 
-ghost use Rattle.std.specs.Prelude.{◌≡◌, [], true, Result};
+ghost use Rattle.std.specs.Prelude.{◌≡◌, [], true, false, Result};
+ghost use Rattle.cli_text.specs.declared.status.Status.TheVariants.{Clean};
 ghost use Rattle.cli_store.specs.Files.{Keeps};
 ghost use Rattle.cli_cut.specs.Captures.{Closed, CutsAll, IsStatusOfAll};
 ghost use Rattle.cli_cut.specs.Checking.{Checked, ChecksFiles, IsCheckStatus};
 ghost use Rattle.cli_cut.specs.Cutting.{CutsFiles, IsStatusOf};
+ghost use Rattle.cli_cut.specs.Reporting.{TellsChecked, TellsClosed, TellsEnd, TellsOutcome};
 ghost use Rattle.cli_cut.specs.Telling.{status_of};
 ghost use Rattle.cli_cut.specs.declared.outcome.CutOutcome.{CutOutcome};
 ghost use Rattle.cli_cut.specs.declared.outcome.Refusal.{Refusal};
@@ -21,11 +23,11 @@ use cli_report::HintSink;
 use cli_store::{DiskFiles, FileStore};
 use cli_text::Status;
 use cli_watch::hints::report_unseen;
+use cli_watch::output::PrintSink;
 use cli_watch::{Screen, Watch};
 use line_text::LineForm;
 use std::alloc::Global;
 use std::fs::Files;
-use std::io::Write;
 
 /// Reports how a cut ended, with hints, and returns the exit status. The count comes after the
 /// fault and its hints.
@@ -35,7 +37,8 @@ pub(crate) fn report_cut<E: HintSink>(
     from: &str,
     err: &mut E,
 ) -> Status
-    ensures { result ≡ status_of report.now.end }
+    ensures status { result ≡ status_of report.now.end }
+    ensures told { TellsEnd E.takes_hints E.failed E.contents E.fault_form from.entry words.now.output report.now.end err.old err.new }
 {
     let status = report_end(report.end, from, words.output, err);
     hint_cut(report, from, err);
@@ -56,7 +59,7 @@ pub fn cut_and_report<'p, F: FileStore<'p>, E: HintSink>(
 ) -> Status
     requires none_open { F.opened files.old ≡ [] }
     ensures cuts { F.known ≡ true → (outcome : CutOutcome) × CutsFiles (F.place files.old) (F.text files.old) (F.text files.new) (F.failed files.new) (F.denied files.new) words.now path.entry outcome
-        × IsStatusOf outcome result }
+        × IsStatusOf outcome result × TellsOutcome E.takes_hints E.failed E.contents E.fault_form path.entry words.now outcome err.old err.new }
     ensures closed { F.known ≡ true → F.pending files.new ≡ F.pending files.old }
 {
     match cut_one(alloc, files, words, path) {
@@ -79,7 +82,7 @@ pub fn cut_several_and_report<'p, F: FileStore<'p>, E: HintSink>(
 ) -> Status
     requires none_open { F.opened files.old ≡ [] }
     ensures cuts { F.known ≡ true → (outcome : Result Closed Refusal) × CutsAll (F.place files.old) (F.text files.old) (F.text files.new) (F.failed files.new) (F.denied files.new) words.now outcome
-        × IsStatusOfAll outcome result }
+        × IsStatusOfAll outcome result × TellsClosed E.takes_hints E.failed E.contents E.fault_form words.now outcome err.old err.new }
     ensures closed { F.known ≡ true → F.pending files.new ≡ F.pending files.old }
 {
     match cut_several(alloc, files, words) {
@@ -121,7 +124,7 @@ pub fn cut_command<R: Files + AllocGlobal + Screen, E: HintSink>(
 
 /// Prints the program of an expression or of a listing's file, or the expression as it was read, and
 /// reports how that ended.
-pub fn check_and_report<'p, F: FileStore<'p>, O: Write, E: HintSink>(
+pub fn check_and_report<'p, F: FileStore<'p>, O: PrintSink, E: HintSink>(
     alloc: Global,
     files: &mut F,
     words: &CheckWords<'p>,
@@ -131,7 +134,9 @@ pub fn check_and_report<'p, F: FileStore<'p>, O: Write, E: HintSink>(
     ensures kept { Keeps (F.place files.old) (F.place files.new) (F.text files.old) (F.text files.new) (F.pending files.old) (F.pending files.new) }
     ensures checks { F.known ≡ true → (outcome : Checked)
         × ChecksFiles (F.place files.old) (F.text files.old) (F.printed files.old) (F.failed files.new) (F.denied files.new) (O.contents out.old) (O.contents out.new) words.now outcome
-        × IsCheckStatus outcome result }
+        × IsCheckStatus outcome result × TellsChecked E.takes_hints E.failed E.contents E.fault_form outcome err.old err.new }
+    // What was printed does not wait.
+    ensures handed_on { result ≡ Clean → O.waits out.new ≡ false }
 {
     match check_files(alloc, files, words, out) {
         Ok(printed) => {
@@ -144,7 +149,7 @@ pub fn check_and_report<'p, F: FileStore<'p>, O: Write, E: HintSink>(
 }
 
 /// `bpftap check`, over the files of the system.
-pub fn check_command<R: Files + AllocGlobal + Screen, O: Write, E: HintSink>(
+pub fn check_command<R: Files + AllocGlobal + Screen, O: PrintSink, E: HintSink>(
     rt: &R,
     words: &CheckWords<'_>,
     out: &mut O,

@@ -51,7 +51,9 @@ pub(crate) fn hint_print<E: HintSink>(
     expr: &str,
     printed: &Result<(), PrintFault>,
     err: &mut E,
-) {
+)
+    ensures quiet { E.takes_hints err.old ≡ false → err.new ≡ err.old }
+{
     match printed {
         Err(PrintFault::Expression(fault)) => hint_expression(alloc, expr, *fault, err),
         Err(PrintFault::Output(error)) => hint_unprinted(error, err),

@@ -1,6 +1,6 @@
 //! A program as an object of JSON: the functions under `bpftap check --json`.
 
-ghost use Rattle.std.specs.Prelude.{◌≡◌, ◌<◌, ◌^◌, ◌++◌, codes, IfErr, IfOk, OnOk, option_map, string_bytes};
+ghost use Rattle.std.specs.Prelude.{◌≡◌, ◌<◌, ◌^◌, ◌++◌, codes, false, IfErr, IfOk, OnOk, option_map, string_bytes};
 ghost use Rattle.std.specs.Io.KnownBytes.{Appends};
 ghost use Rattle.filterlang.specs.Trees.{tree_of};
 ghost use Rattle.line_text.specs.Texts.{numbered};
@@ -9,11 +9,11 @@ ghost use Rattle.cli_cut.specs.Objects.{PrintsObject, IsObjectUnprinted, element
 
 use crate::print::{PrintFault, print, read_text};
 use bpfvm::{Brief, Insn, NoMemory, Program, code};
+use cli_watch::output::PrintSink;
 use filtergen::{ExpressionFault, compile_text};
 use filterlang::{Expr, parse};
 use line_text::put_string;
 use std::alloc::{AllocError, Global};
-use std::io::Write;
 
 /// Appends the name and the operand of an instruction. A jump has the place that it leads to.
 fn put_name(name: &mut String, place: usize, insn: &Insn) -> Result<(), AllocError>
@@ -106,7 +106,7 @@ fn object_of(alloc: Global, expr: Option<&Expr>, program: &Program) -> Result<St
 ///
 /// The fault is [`PrintFault::NoMemory`], and then nothing was printed, or [`PrintFault::Output`]:
 /// `out` failed, and took a prefix of the object and no more.
-pub fn show_object<O: Write>(
+pub fn show_object<O: PrintSink>(
     alloc: Global,
     expr: Option<&Expr>,
     program: &Program,
@@ -114,6 +114,7 @@ pub fn show_object<O: Write>(
 ) -> Result<(), PrintFault>
     ensures printed { OnOk result (Appends (O.contents out.old) (O.contents out.new) (program_json (option_map (λ e. tree_of e.now) expr.entry) program.now)) }
     ensures fault { IfErr result (IsUnprinted (O.contents out.old) (O.contents out.new) (program_json (option_map (λ e. tree_of e.now) expr.entry) program.now)) }
+    ensures handed_on { OnOk result (O.waits out.new ≡ false) }
 {
     match object_of(alloc, expr, program) {
         Ok(text) => print(text.as_bytes(), out),
@@ -127,7 +128,7 @@ pub fn show_object<O: Write>(
 /// The fault is [`PrintFault::Expression`] of a text which is no expression, or is too deep or too
 /// long to compile, or of a snapshot length that is out of range, or, with `NoMemory`, if memory
 /// for that ran out; else one of [`show_object`].
-pub fn check_object<O: Write>(
+pub fn check_object<O: PrintSink>(
     alloc: Global,
     expr: &str,
     snap: u32,
@@ -135,6 +136,7 @@ pub fn check_object<O: Write>(
 ) -> Result<(), PrintFault>
     ensures printed { OnOk result (PrintsObject (O.contents out.old) (O.contents out.new) expr.now snap) }
     ensures fault { IfErr result (IsObjectUnprinted (O.contents out.old) (O.contents out.new) expr.now snap) }
+    ensures handed_on { OnOk result (O.waits out.new ≡ false) }
 {
     let program = match compile_text(alloc, expr, snap) {
         Ok(program) => program,

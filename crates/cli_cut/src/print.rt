@@ -1,6 +1,6 @@
 //! Prints what a filter expression says: the functions under `bpftap check`.
 
-ghost use Rattle.std.specs.Prelude.{◌≡◌, ◌++◌, IfOk, OnOk, IfErr, string_bytes};
+ghost use Rattle.std.specs.Prelude.{◌≡◌, ◌++◌, false, IfOk, OnOk, IfErr, string_bytes};
 ghost use Rattle.std.specs.Io.KnownBytes.{Appends};
 ghost use Rattle.filterlang.specs.Trees.{tree_of};
 ghost use Rattle.line_text.specs.Texts.{end_of_line};
@@ -9,14 +9,13 @@ ghost use Rattle.cli_cut.specs.Printing.{Prints, PrintsRead, IsPart, IsUnchecked
 
 use bpf_asm::write_array;
 use bpfvm::{NoMemory, Program, write_image, write_listing};
+use cli_watch::output::{PrintSink, send_last};
 use filter_print::Canonical;
 use filtergen::{ExpressionFault, compile_text};
 use filterlang::{Expr, parse};
-use line_text::sending::send;
 use savefile::MAX_SNAP;
 use std::alloc::Global;
 use std::io;
-use std::io::Write;
 use thiserror::Error;
 
 /// Why a program is not printed.
@@ -39,9 +38,10 @@ pub enum PrintFault {
 /// or is too deep or too long to compile, or, with `NoMemory`, if memory for that ran out. If there
 /// is a program: [`PrintFault::NoMemory`] if memory for its listing was refused, and
 /// [`PrintFault::Output`] if `out` fails, which then took a prefix of the listing and no more.
-pub fn check<O: Write>(alloc: Global, expr: &str, out: &mut O) -> Result<(), PrintFault>
+pub fn check<O: PrintSink>(alloc: Global, expr: &str, out: &mut O) -> Result<(), PrintFault>
     ensures printed { OnOk result (Prints (O.contents out.old) (O.contents out.new) expr.now) }
     ensures fault { IfErr result (IsUnchecked (O.contents out.old) (O.contents out.new) expr.now) }
+    ensures handed_on { OnOk result (O.waits out.new ≡ false) }
 {
     match compile_text(alloc, expr, MAX_SNAP) {
         Ok(program) => show(alloc, &program, ProgramForm::Listing, out),
@@ -71,11 +71,12 @@ fn text_of(alloc: Global, program: &Program, form: ProgramForm) -> Result<Vec<u8
 }
 
 /// Prints a text. The fault is [`PrintFault::Output`], and then a prefix of it was printed.
-pub(crate) fn print<O: Write>(text: &[u8], out: &mut O) -> Result<(), PrintFault>
+pub(crate) fn print<O: PrintSink>(text: &[u8], out: &mut O) -> Result<(), PrintFault>
     ensures printed { OnOk result (Appends (O.contents out.old) (O.contents out.new) text.now) }
     ensures fault { IfErr result (IsPart (O.contents out.old) (O.contents out.new) text.now) }
+    ensures handed_on { OnOk result (O.waits out.new ≡ false) }
 {
-    match send(text, out) {
+    match send_last(text, out) {
         Ok(()) => Ok(()),
         Err(error) => Err(PrintFault::Output(error)),
     }
@@ -83,7 +84,7 @@ pub(crate) fn print<O: Write>(text: &[u8], out: &mut O) -> Result<(), PrintFault
 
 /// Prints a program in one of its forms. The fault is [`PrintFault::NoMemory`], and then nothing
 /// was printed, or [`PrintFault::Output`]: `out` failed, and took a prefix of the text and no more.
-pub fn show<O: Write>(
+pub fn show<O: PrintSink>(
     alloc: Global,
     program: &Program,
     form: ProgramForm,
@@ -91,6 +92,7 @@ pub fn show<O: Write>(
 ) -> Result<(), PrintFault>
     ensures printed { OnOk result (Appends (O.contents out.old) (O.contents out.new) (program_text form program.now)) }
     ensures fault { IfErr result (IsUnshown (O.contents out.old) (O.contents out.new) form program.now) }
+    ensures handed_on { OnOk result (O.waits out.new ≡ false) }
 {
     match text_of(alloc, program, form) {
         Ok(text) => print(text.as_slice(), out),
@@ -131,9 +133,10 @@ fn read_line(alloc: Global, expr: &Expr) -> Result<String, NoMemory>
 }
 
 /// Prints an expression on a line.
-fn print_read<O: Write>(alloc: Global, expr: &Expr, out: &mut O) -> Result<(), PrintFault>
+fn print_read<O: PrintSink>(alloc: Global, expr: &Expr, out: &mut O) -> Result<(), PrintFault>
     ensures printed { OnOk result (Appends (O.contents out.old) (O.contents out.new) (given_back (canonical (tree_of expr.now)) ++ end_of_line)) }
     ensures fault { IfErr result (IsUnprinted (O.contents out.old) (O.contents out.new) (given_back (canonical (tree_of expr.now)) ++ end_of_line)) }
+    ensures handed_on { OnOk result (O.waits out.new ≡ false) }
 {
     match read_line(alloc, expr) {
         Ok(line) => print(line.as_bytes(), out),
@@ -148,9 +151,10 @@ fn print_read<O: Write>(alloc: Global, expr: &Expr, out: &mut O) -> Result<(), P
 /// The fault is that of a text which is no expression; or [`PrintFault::NoMemory`], and then
 /// nothing was printed; or [`PrintFault::Output`]: `out` failed, and took a prefix of the line and
 /// no more.
-pub fn show_read<O: Write>(alloc: Global, expr: &str, out: &mut O) -> Result<(), PrintFault>
+pub fn show_read<O: PrintSink>(alloc: Global, expr: &str, out: &mut O) -> Result<(), PrintFault>
     ensures printed { OnOk result (PrintsRead (O.contents out.old) (O.contents out.new) expr.now) }
     ensures fault { IfErr result (IsUnread (O.contents out.old) (O.contents out.new) expr.now) }
+    ensures handed_on { OnOk result (O.waits out.new ≡ false) }
 {
     match parse(alloc, expr) {
         Ok(expr) => print_read(alloc, &expr, out),

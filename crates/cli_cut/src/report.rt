@@ -3,7 +3,9 @@
 ghost use Rattle.std.specs.Prelude.{◌≡◌, IfOk};
 ghost use Rattle.line_text.specs.Sending.{Takes};
 ghost use Rattle.cli_text.specs.Status.{code};
-ghost use Rattle.cli_text.specs.declared.status.Status.TheVariants.{Refused};
+ghost use Rattle.cli_text.specs.declared.status.Status.TheVariants.{Clean};
+ghost use Rattle.fault_report.specs.Reports.{TellsMore, TellsOne};
+ghost use Rattle.cli_cut.specs.Reporting.{IsEndReport, IsRefusalReport, TellsPrint};
 ghost use Rattle.cli_cut.specs.Cutting.{IsRefusalStatus};
 ghost use Rattle.cli_cut.specs.Telling.{count_told, is_counted, print_status, status_of, tally_json, tally_line, tally_text};
 
@@ -11,14 +13,13 @@ use crate::outcome::Refusal;
 use crate::print::PrintFault;
 use cli_files::paths::report_path;
 use cli_files::reading::{report_io, report_long_text};
-use cli_filter::{FilterFault, expression_report, filter_or_report};
+use cli_filter::{expression_report, report_no_filter};
 use cli_report::HintSink;
 use cli_text::Status;
 use cli_text::report::fault_status;
 use fault_report::captures::output_fault;
 use fault_report::reporting::{report_capture, report_fault, report_memory, report_unwritten};
 use fault_report::{FaultSink, TextSink};
-use line_text::sending::send;
 use line_text::{Line, LineForm};
 use pcap_cut::cut::{CutEnd, End, Tally};
 use savefile::Fault;
@@ -28,7 +29,8 @@ use std::io::Write;
 
 /// Reports how a cut from one path to another ended, and returns the exit status.
 pub fn report_end<E: FaultSink>(end: End, from: &str, to: &str, err: &mut E) -> Status
-    ensures { result ≡ status_of end }
+    ensures status { result ≡ status_of end }
+    ensures told { (status_of end ≡ Clean → ⊥) → TellsOne E.takes_hints E.failed E.contents E.fault_form (IsEndReport from.entry to.entry end) err.old err.new }
 {
     match end {
         End::Clean => Status::Clean,
@@ -51,32 +53,19 @@ pub(crate) fn report_refusal<E: HintSink>(
     expr: Option<&str>,
     err: &mut E,
 ) -> Status
-    ensures { IsRefusalStatus refusal.now result }
+    ensures status { IsRefusalStatus refusal.now result }
+    ensures told { TellsOne E.takes_hints E.failed E.contents E.fault_form (IsRefusalReport refusal.now) err.old err.new }
 {
     match refusal {
         Refusal::Filter(listing, fault) => {
             let listing = listing.as_ref().map(|text| text.as_slice());
-            report_unfit(alloc, listing, expr, *fault, err)
+            report_no_filter(alloc, listing, expr, *fault, err)
         }
         Refusal::TextTooLong(path) => report_long_text(*path, err),
         Refusal::Paths(fault) => report_path(fault, err),
         Refusal::File(path, error) => report_io(error, *path, err),
         Refusal::NoMemory => report_memory(err),
     }
-}
-
-/// Reports why there is no filter, with hints, and returns the exit status.
-fn report_unfit<E: HintSink>(
-    alloc: Global,
-    listing: Option<&[u8]>,
-    expr: Option<&str>,
-    fault: FilterFault,
-    err: &mut E,
-) -> Status
-    ensures { result ≡ Refused }
-{
-    let _ = filter_or_report(alloc, listing, expr, Err(fault), err);
-    Status::Refused
 }
 
 /// Whether what OUT has is known by packets: the capture was read to its end or to a torn or bad
@@ -124,18 +113,29 @@ fn tally_line(tally: Tally, form: LineForm) -> io::Result<Line>
 }
 
 /// Reports a tally.
-pub(crate) fn report_tally<E: Write>(tally: Tally, form: LineForm, err: &mut E) -> io::Result<()>
-    ensures { Takes (E.contents err.old) (E.contents err.new) result (tally_line form tally) }
+pub(crate) fn report_tally<E: FaultSink>(
+    tally: Tally,
+    form: LineForm,
+    err: &mut E,
+) -> io::Result<()>
+    ensures taken { Takes (E.contents err.old) (E.contents err.new) result (tally_line form tally) }
+    ensures more { TellsMore E.takes_hints E.failed E.contents E.fault_form err.old err.new }
 {
     let line = tally_line(tally, form)?;
-    send(line.as_bytes(), err)
+    err.tell_line(line.as_bytes())
 }
 
 /// Reports how many of the packets were written, in a line `67 of 253 packets` or in an object of
 /// JSON, if the capture was read to its end or to a torn or bad record, and all was written. Else
 /// it reports nothing. The error is that of standard error, which took a prefix of the line.
-pub fn report_count<E: Write>(end: End, tally: Tally, form: LineForm, err: &mut E) -> io::Result<()>
-    ensures { Takes (E.contents err.old) (E.contents err.new) result (count_told form end tally) }
+pub fn report_count<E: FaultSink>(
+    end: End,
+    tally: Tally,
+    form: LineForm,
+    err: &mut E,
+) -> io::Result<()>
+    ensures taken { Takes (E.contents err.old) (E.contents err.new) result (count_told form end tally) }
+    ensures more { TellsMore E.takes_hints E.failed E.contents E.fault_form err.old err.new }
 {
     if is_counted(end) {
         report_tally(tally, form, err)
@@ -146,7 +146,8 @@ pub fn report_count<E: Write>(end: End, tally: Tally, form: LineForm, err: &mut 
 
 /// Reports why a program was not printed, if it was not, and returns the exit status.
 pub fn report_print<E: FaultSink>(printed: &Result<(), PrintFault>, err: &mut E) -> Status
-    ensures { result ≡ print_status printed.now }
+    ensures status { result ≡ print_status printed.now }
+    ensures told { TellsPrint E.takes_hints E.failed E.contents E.fault_form printed.now err.old err.new }
 {
     match printed {
         Ok(()) => Status::Clean,

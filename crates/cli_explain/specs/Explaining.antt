@@ -1,8 +1,10 @@
--- What `bpftap explain` prints of files, and its exit status. Read it from the last definition up.
+-- What `bpftap explain` prints of files and reports, and its exit status. Read it from the last definition up.
 use Rattle.std.specs.Prelude.{◌≡◌, ◌⊎◌, ℕ, ◌+◌, Bool, true, false, List, [], ◌∷◌, Option, Some, None, Result, Ok, Err, IsErr, IsOk, option_copied}
+use Rattle.std.specs.Borrow.{Bor}
 use Rattle.line_text.specs.Sending.{Takes}
 use Rattle.savefile.specs.declared.fault.Fault.{Fault}
 use Rattle.savefile.specs.declared.fault.Fault.TheVariants.{Device}
+use Rattle.fault_report.specs.declared.report.Report.{Report}
 use Rattle.cli_text.specs.Status.{greater}
 use Rattle.cli_text.specs.declared.status.Status.{Status}
 use Rattle.cli_text.specs.declared.status.Status.TheVariants.{Clean}
@@ -19,18 +21,18 @@ use Rattle.cli_answers.specs.declared.counts.VerdictCounts.{VerdictCounts}
 use Rattle.cli_answers.specs.declared.filter.AskedFilter.{AskedFilter}
 use Rattle.cli_answers.specs.declared.form.PacketForm.{PacketForm}
 use Rattle.cli_answers.specs.declared.printing.Unprinted.{Unprinted}
-use Rattle.cli_answers.specs.Asked.{IsAsked, IsUnasked, IsUnaskedStatus}
+use Rattle.cli_answers.specs.Asked.{IsAsked, IsUnasked, IsUnaskedReport, IsUnaskedStatus}
 use Rattle.cli_answers.specs.Captures.{SeeksIn}
 use Rattle.cli_answers.specs.Counts.{asked_form, counts_in, of_capture}
 use Rattle.cli_answers.specs.Seeking.{accepts}
-use Rattle.cli_answers.specs.Telling.{printed_status, stop_status}
+use Rattle.cli_answers.specs.Telling.{TellsEnd, TellsStop, printed_status, stop_status}
 use Rattle.cli_explain.specs.declared.captures.ExplainedCaptures.{ExplainedCaptures}
 use Rattle.cli_explain.specs.declared.captures.ExplainedTotals.{ExplainedTotals}
 use Rattle.cli_explain.specs.declared.one.Found.{Found}
 use Rattle.cli_explain.specs.declared.outcome.FullEnd.{FullEnd}
 use Rattle.cli_explain.specs.Captures.{ExplainsIn}
 use Rattle.cli_explain.specs.Range.{FindsRange}
-use Rattle.cli_explain.specs.Telling.{found_status, sought_status}
+use Rattle.cli_explain.specs.Telling.{TellsFound, found_status, sought_status}
 
 -- ---- What is asked
 
@@ -44,10 +46,10 @@ abbrev pub IsRefused : Places → Texts → Option (List ℕ) → Bool → Expla
 IsRefused place text printed failed words reason =
     IsUnasked place text printed failed (option_copied words.listing) (option_copied words.expr) words.inputs.items reason
 
--- nothing was printed, and the status says why
-abbrev pub Refuses : {O : Type 0} → Places → Texts → Option (List ℕ) → Bool → ExplainWords → O → O → Status → Type 0
-Refuses place text printed failed words old new ended =
-    (reason : Unasked) × IsRefused place text printed failed words reason × IsUnaskedStatus reason ended × (new ≡ old)
+-- Nothing was printed, and the status says why; `one` says what the fault is that was reported, which is that reason, and no other was.
+abbrev pub Refuses : {O : Type 0} → Places → Texts → Option (List ℕ) → Bool → ExplainWords → ((Report → Type 0) → Type 0) → O → O → Status → Type 0
+Refuses place text printed failed words one old new ended =
+    (reason : Unasked) × IsRefused place text printed failed words reason × IsUnaskedStatus reason ended × one (IsUnaskedReport reason) × (new ≡ old)
 
 -- ---- A line for each packet
 
@@ -90,57 +92,60 @@ goes_on_after (Ok found) (Ok all) = true
 goes_on_after (Ok found) (Err unprinted) = false
 goes_on_after (Err fault) printed = false
 
--- The packets of a range of places of the capture of this number were printed in full. A device's fault comes only if one failed.
-abbrev pub FindsOne : {R : Type 0} → (R → Option (List ℕ)) → Bool → PacketForm → ℕ → AskedFilter → (first last : ℕ) → R → Option (List ℕ) → Option (List ℕ) → FullEnd → Type 0
-FindsOne {R = R} left failed form n filter first last from old new end =
+-- The packets of a range of places of the capture of this number, of those at these paths, were printed in full. A device's fault comes only
+-- if one failed. `among` says what a fault is that is among those that were reported: so is what ended this capture.
+abbrev pub FindsOne : {R : Type 0} → (R → Option (List ℕ)) → Bool → ((Report → Type 0) → Type 0) → List (Bor (List ℕ)) → PacketForm → ℕ → AskedFilter → (first last : ℕ) → R → Option (List ℕ) → Option (List ℕ) → FullEnd → Type 0
+FindsOne {R = R} left failed among paths form n filter first last from old new end =
     (found : Found R) × FindsRange left from (of_capture form n) filter first last old new found
     × (end.status ≡ greater (printed_status found.printed) (found_status found.read)) × (end.goes_on ≡ goes_on_after found.read found.printed)
-    × (found.read ≡ Err Device → failed ≡ true)
+    × (found.read ≡ Err Device → failed ≡ true) × TellsFound among paths n first found.read found.printed
 
 -- The same of each capture, of which the first has the number n, in order, while the next one is read. The status is the greatest one.
-abbrev pub FindsIn : {R O : Type 0} → (R → Option (List ℕ)) → (O → Option (List ℕ)) → Bool → PacketForm → AskedFilter → (first last : ℕ) → ℕ → Bool → Status → List R → O → O → Status → Type 0
-FindsIn left contents failed form filter first last n false so captures old new status = (new ≡ old) × (status ≡ so)
-FindsIn left contents failed form filter first last n true so [] old new status = (new ≡ old) × (status ≡ so)
-FindsIn {O = O} left contents failed form filter first last n true so (from ∷ froms) old new status =
-    (end : FullEnd) × (mid : O) × FindsOne left failed form n filter first last from (contents old) (contents mid) end
-    × FindsIn left contents failed form filter first last (n + 1) end.goes_on (greater so end.status) froms mid new status
+abbrev pub FindsIn : {R O : Type 0} → (R → Option (List ℕ)) → (O → Option (List ℕ)) → Bool → ((Report → Type 0) → Type 0) → List (Bor (List ℕ)) → PacketForm → AskedFilter → (first last : ℕ) → ℕ → Bool → Status → List R → O → O → Status → Type 0
+FindsIn left contents failed among paths form filter first last n false so captures old new status = (new ≡ old) × (status ≡ so)
+FindsIn left contents failed among paths form filter first last n true so [] old new status = (new ≡ old) × (status ≡ so)
+FindsIn {O = O} left contents failed among paths form filter first last n true so (from ∷ froms) old new status =
+    (end : FullEnd) × (mid : O) × FindsOne left failed among paths form n filter first last from (contents old) (contents mid) end
+    × FindsIn left contents failed among paths form filter first last (n + 1) end.goes_on (greater so end.status) froms mid new status
 
-pub record PrintsPlaces {R O : Type 0} (left : R → Option (List ℕ)) (failures : R → ℕ) (contents : O → Option (List ℕ)) (place : Places) (text : Texts) (printed : Option (List ℕ)) (failed : Bool) (words : ExplainWords) (places : PlaceRange) (old new : O) (ended : Status) : Type 0 where
+pub record PrintsPlaces {R O : Type 0} (left : R → Option (List ℕ)) (failures : R → ℕ) (contents : O → Option (List ℕ)) (place : Places) (text : Texts) (printed : Option (List ℕ)) (failed : Bool) (words : ExplainWords) (places : PlaceRange) (among : (Report → Type 0) → Type 0) (old new : O) (ended : Status) : Type 0 where
   pub asked : Asked R
   pub asks : Asks left failures place text printed words asked
-  pub finds : FindsIn left contents failed (asked_form words.json) asked.filter places.first places.last 0 true Clean asked.captures.items old new ended
+  pub finds : FindsIn left contents failed among words.inputs.items (asked_form words.json) asked.filter places.first places.last 0 true Clean asked.captures.items old new ended
 
 -- they were, or nothing was
-abbrev pub PlacesAnswer : {R O : Type 0} → (R → Option (List ℕ)) → (R → ℕ) → (O → Option (List ℕ)) → Places → Texts → Option (List ℕ) → Bool → ExplainWords → PlaceRange → O → O → Status → Type 0
-PlacesAnswer left failures contents place text printed failed words places old new ended =
-    Refuses place text printed failed words old new ended
-    ⊎ PrintsPlaces left failures contents place text printed failed words places old new ended
+abbrev pub PlacesAnswer : {R O : Type 0} → (R → Option (List ℕ)) → (R → ℕ) → (O → Option (List ℕ)) → Places → Texts → Option (List ℕ) → Bool → ExplainWords → PlaceRange → ((Report → Type 0) → Type 0) → ((Report → Type 0) → Type 0) → O → O → Status → Type 0
+PlacesAnswer left failures contents place text printed failed words places one among old new ended =
+    Refuses place text printed failed words one old new ended
+    ⊎ PrintsPlaces left failures contents place text printed failed words places among old new ended
 
 -- ---- The command
 
 -- the lines were printed, or nothing was
-abbrev pub LinesAnswer : {R O : Type 0} → (R → Option (List ℕ)) → (R → ℕ) → (O → Option (List ℕ)) → Places → Texts → Option (List ℕ) → Bool → ExplainWords → O → O → Status → Type 0
-LinesAnswer left failures contents place text printed failed words old new ended =
-    Refuses place text printed failed words old new ended
+abbrev pub LinesAnswer : {R O : Type 0} → (R → Option (List ℕ)) → (R → ℕ) → (O → Option (List ℕ)) → Places → Texts → Option (List ℕ) → Bool → ExplainWords → ((Report → Type 0) → Type 0) → ((Report → Type 0) → Type 0) → O → O → Status → Type 0
+LinesAnswer left failures contents place text printed failed words one among old new ended =
+    Refuses place text printed failed words one old new ended
     ⊎ ((end : LinesEnd VerdictCounts) × PrintsLines left failures contents place text printed failed words old new end
-    × (ended ≡ greater (printed_status end.printed) (stop_status end.read)))
+    × (ended ≡ greater (printed_status end.printed) (stop_status end.read)) × TellsEnd among words.inputs.items end.printed end.read)
 
 -- only the status answers
-abbrev pub StatusAnswers : {R O : Type 0} → (R → Option (List ℕ)) → (R → ℕ) → Places → Texts → Option (List ℕ) → Bool → ExplainWords → O → O → Status → Type 0
-StatusAnswers left failures place text printed failed words old new ended =
-    Refuses place text printed failed words old new ended
-    ⊎ ((end : SoughtEnd) × Seeks left failures place text printed failed words end × (new ≡ old) × (ended ≡ sought_status end.found))
+abbrev pub StatusAnswers : {R O : Type 0} → (R → Option (List ℕ)) → (R → ℕ) → Places → Texts → Option (List ℕ) → Bool → ExplainWords → ((Report → Type 0) → Type 0) → ((Report → Type 0) → Type 0) → O → O → Status → Type 0
+StatusAnswers left failures place text printed failed words one among old new ended =
+    Refuses place text printed failed words one old new ended
+    ⊎ ((end : SoughtEnd) × Seeks left failures place text printed failed words end × (new ≡ old) × (ended ≡ sought_status end.found)
+    × TellsStop among words.inputs.items end.found)
 
 -- by whether only the status answers, and whether places are given
-abbrev pub AnswersBy : {R O : Type 0} → (R → Option (List ℕ)) → (R → ℕ) → (O → Option (List ℕ)) → Places → Texts → Option (List ℕ) → Bool → ExplainWords → Bool → Option PlaceRange → O → O → Status → Type 0
-AnswersBy left failures contents place text printed failed words true places old new ended =
-    StatusAnswers left failures place text printed failed words old new ended
-AnswersBy left failures contents place text printed failed words false (Some places) old new ended =
-    PlacesAnswer left failures contents place text printed failed words places old new ended
-AnswersBy left failures contents place text printed failed words false None old new ended =
-    LinesAnswer left failures contents place text printed failed words old new ended
+abbrev pub AnswersBy : {R O : Type 0} → (R → Option (List ℕ)) → (R → ℕ) → (O → Option (List ℕ)) → Places → Texts → Option (List ℕ) → Bool → ExplainWords → Bool → Option PlaceRange → ((Report → Type 0) → Type 0) → ((Report → Type 0) → Type 0) → O → O → Status → Type 0
+AnswersBy left failures contents place text printed failed words true places one among old new ended =
+    StatusAnswers left failures place text printed failed words one among old new ended
+AnswersBy left failures contents place text printed failed words false (Some places) one among old new ended =
+    PlacesAnswer left failures contents place text printed failed words places one among old new ended
+AnswersBy left failures contents place text printed failed words false None one among old new ended =
+    LinesAnswer left failures contents place text printed failed words one among old new ended
 
--- A call of `bpftap explain`: what standard output had, which was `old`, is now `new`.
-abbrev pub Answers : {R O : Type 0} → (R → Option (List ℕ)) → (R → ℕ) → (O → Option (List ℕ)) → Places → Texts → Option (List ℕ) → Bool → ExplainWords → O → O → Status → Type 0
-Answers left failures contents place text printed failed words old new ended =
-    AnswersBy left failures contents place text printed failed words words.quiet words.places old new ended
+-- A call of `bpftap explain`: what standard output had, which was `old`, is now `new`. `one` says what the only fault is that was reported, and
+-- `among` what one of several is.
+abbrev pub Answers : {R O : Type 0} → (R → Option (List ℕ)) → (R → ℕ) → (O → Option (List ℕ)) → Places → Texts → Option (List ℕ) → Bool → ExplainWords → ((Report → Type 0) → Type 0) → ((Report → Type 0) → Type 0) → O → O → Status → Type 0
+Answers left failures contents place text printed failed words one among old new ended =
+    AnswersBy left failures contents place text printed failed words words.quiet words.places one among old new ended

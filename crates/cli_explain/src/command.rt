@@ -2,8 +2,9 @@
 
 ghost use Rattle.std.specs.Prelude.{◌≡◌, true};
 ghost use Rattle.cli_text.specs.Status.{greater};
+ghost use Rattle.fault_report.specs.Reports.{TellsAmong, TellsOne};
 ghost use Rattle.cli_store.specs.Files.{Keeps};
-ghost use Rattle.cli_answers.specs.Telling.{printed_status, stop_status};
+ghost use Rattle.cli_answers.specs.Telling.{TellsEnd, printed_status, stop_status};
 ghost use Rattle.cli_explain.specs.Explaining.{Answers, LinesAnswer, StatusAnswers};
 
 use crate::files::{explain_files, seek_files};
@@ -37,7 +38,8 @@ fn report_lines<E: HintSink>(
     words: &ExplainWords<'_>,
     err: &mut E,
 ) -> Status
-    ensures { result ≡ greater (printed_status end.now.printed) (stop_status end.now.read) }
+    ensures status { result ≡ greater (printed_status end.now.printed) (stop_status end.now.read) }
+    ensures told { TellsEnd (λ says. TellsAmong E.takes_hints E.failed E.contents E.fault_form says err.old err.new) words.now.inputs.items end.now.printed end.now.read }
 {
     let paths = words.inputs.as_slice();
     let status = report_captures(&end.printed, end.read, paths, err);
@@ -57,7 +59,7 @@ fn explain_all<'p, F: FileStore<'p>, O: Write, E: HintSink>(
     err: &mut E,
 ) -> Status
     ensures kept { Keeps (F.place files.old) (F.place files.new) (F.text files.old) (F.text files.new) (F.pending files.old) (F.pending files.new) }
-    ensures answers { F.known ≡ true → LinesAnswer F.Input.left F.Input.failures O.contents (F.place files.old) (F.text files.old) (F.printed files.old) (F.failed files.new) words.now out.old out.new result }
+    ensures answers { F.known ≡ true → LinesAnswer F.Input.left F.Input.failures O.contents (F.place files.old) (F.text files.old) (F.printed files.old) (F.failed files.new) words.now (λ says. TellsOne E.takes_hints E.failed E.contents E.fault_form says err.old err.new) (λ says. TellsAmong E.takes_hints E.failed E.contents E.fault_form says err.old err.new) out.old out.new result }
 {
     match explain_files(alloc, files, words, out) {
         Ok(end) => report_lines(&end, words, err),
@@ -74,7 +76,7 @@ fn ask_quietly<'p, F: FileStore<'p>, O: Write, E: HintSink>(
     err: &mut E,
 ) -> Status
     ensures kept { Keeps (F.place files.old) (F.place files.new) (F.text files.old) (F.text files.new) (F.pending files.old) (F.pending files.new) }
-    ensures answers { F.known ≡ true → StatusAnswers F.Input.left F.Input.failures (F.place files.old) (F.text files.old) (F.printed files.old) (F.failed files.new) words.now _out.old _out.new result }
+    ensures answers { F.known ≡ true → StatusAnswers F.Input.left F.Input.failures (F.place files.old) (F.text files.old) (F.printed files.old) (F.failed files.new) words.now (λ says. TellsOne E.takes_hints E.failed E.contents E.fault_form says err.old err.new) (λ says. TellsAmong E.takes_hints E.failed E.contents E.fault_form says err.old err.new) _out.old _out.new result }
 {
     match seek_files(alloc, files, words) {
         Ok(end) => {
@@ -97,7 +99,7 @@ pub fn explain_and_report<'p, F: FileStore<'p>, O: Write, E: HintSink>(
     err: &mut E,
 ) -> Status
     ensures kept { Keeps (F.place files.old) (F.place files.new) (F.text files.old) (F.text files.new) (F.pending files.old) (F.pending files.new) }
-    ensures answers { F.known ≡ true → Answers F.Input.left F.Input.failures O.contents (F.place files.old) (F.text files.old) (F.printed files.old) (F.failed files.new) words.now out.old out.new result }
+    ensures answers { F.known ≡ true → Answers F.Input.left F.Input.failures O.contents (F.place files.old) (F.text files.old) (F.printed files.old) (F.failed files.new) words.now (λ says. TellsOne E.takes_hints E.failed E.contents E.fault_form says err.old err.new) (λ says. TellsAmong E.takes_hints E.failed E.contents E.fault_form says err.old err.new) out.old out.new result }
 {
     match (words.quiet, words.places) {
         (true, _) => ask_quietly(alloc, files, words, out, err),

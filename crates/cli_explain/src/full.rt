@@ -3,6 +3,7 @@
 ghost use Rattle.std.specs.Prelude.{◌≡◌, true};
 ghost use Rattle.std.specs.List.{AllByRecursion};
 ghost use Rattle.cli_text.specs.declared.status.Status.TheVariants.{Clean};
+ghost use Rattle.fault_report.specs.Reports.{TellsAmong, TellsMore, TellsOne};
 ghost use Rattle.cli_store.specs.Files.{Keeps};
 ghost use Rattle.cli_explain.specs.Explaining.{FindsIn, FindsOne, PlacesAnswer, goes_on_after};
 
@@ -58,8 +59,9 @@ fn explain_places_of<'p, F: FileStore<'p>, O: Write, E: HintSink>(
 ) -> FullEnd
     ensures kept { Keeps (F.place files.old) (F.place files.new) (F.text files.old) (F.text files.new) (F.pending files.old) (F.pending files.new) }
     ensures finds { F.known ≡ true → F.Input.failures capture ≡ 0 →
-        FindsOne F.Input.left (F.failed files.new) asked.now.filter.form number asked.now.filter.filter.now asked.now.places.first asked.now.places.last capture (O.contents out.old) (O.contents out.new) result }
+        FindsOne F.Input.left (F.failed files.new) (λ says. TellsAmong E.takes_hints E.failed E.contents E.fault_form says err.old err.new) asked.now.paths.now asked.now.filter.form number asked.now.filter.filter.now asked.now.places.first asked.now.places.last capture (O.contents out.old) (O.contents out.new) result }
     ensures stays { F.known ≡ true → F.failed files.old ≡ true → F.failed files.new ≡ true }
+    ensures more { TellsMore E.takes_hints E.failed E.contents E.fault_form err.old err.new }
 {
     let PlaceRange { first, last } = asked.places;
     let form = asked.filter.form.of_capture(number);
@@ -98,7 +100,7 @@ fn explain_in_full<'p, F: FileStore<'p>, O: Write, E: HintSink>(
 ) -> Status
     ensures kept { Keeps (F.place files.old) (F.place files.new) (F.text files.old) (F.text files.new) (F.pending files.old) (F.pending files.new) }
     ensures finds { F.known ≡ true → AllByRecursion (λ capture. F.Input.failures capture ≡ 0) captures.items →
-        FindsIn F.Input.left O.contents (F.failed files.new) asked.now.filter.form asked.now.filter.filter.now asked.now.places.first asked.now.places.last 0 true Clean captures.items out.old out.new result }
+        FindsIn F.Input.left O.contents (F.failed files.new) (λ says. TellsAmong E.takes_hints E.failed E.contents E.fault_form says err.old err.new) asked.now.paths.now asked.now.filter.form asked.now.filter.filter.now asked.now.places.first asked.now.places.last 0 true Clean captures.items out.old out.new result }
 {
     let mut status = Status::Clean;
     let mut goes_on = true;
@@ -135,7 +137,7 @@ pub fn explain_places<'p, F: FileStore<'p>, O: Write, E: HintSink>(
     err: &mut E,
 ) -> Status
     ensures kept { Keeps (F.place files.old) (F.place files.new) (F.text files.old) (F.text files.new) (F.pending files.old) (F.pending files.new) }
-    ensures answers { F.known ≡ true → PlacesAnswer F.Input.left F.Input.failures O.contents (F.place files.old) (F.text files.old) (F.printed files.old) (F.failed files.new) words.now places out.old out.new result }
+    ensures answers { F.known ≡ true → PlacesAnswer F.Input.left F.Input.failures O.contents (F.place files.old) (F.text files.old) (F.printed files.old) (F.failed files.new) words.now places (λ says. TellsOne E.takes_hints E.failed E.contents E.fault_form says err.old err.new) (λ says. TellsAmong E.takes_hints E.failed E.contents E.fault_form says err.old err.new) out.old out.new result }
 {
     let paths = words.inputs.as_slice();
     let Asked { filter, captures } = match ask(alloc, files, words.listing, words.expr, paths) {

@@ -1,10 +1,12 @@
 //! What explaining a capture came to, as it is reported, and its exit status.
 
-ghost use Rattle.std.specs.Prelude.{◌≡◌};
+ghost use Rattle.std.specs.Prelude.{◌≡◌, option_map, slice_get};
 ghost use Rattle.cli_text.specs.Status.{greater};
 ghost use Rattle.cli_text.specs.declared.status.Status.TheVariants.{Refused};
-ghost use Rattle.cli_answers.specs.Telling.{printed_status};
-ghost use Rattle.cli_explain.specs.Telling.{read_status, found_status, sought_status};
+ghost use Rattle.fault_report.specs.Reports.{TellsAmong, TellsMore};
+ghost use Rattle.fault_report.specs.declared.report.Subject.TheVariants.{Capture};
+ghost use Rattle.cli_answers.specs.Telling.{TellsStop, printed_status};
+ghost use Rattle.cli_explain.specs.Telling.{IsNoPacketReport, TellsFound, TellsRead, found_status, read_status, sought_status};
 
 use crate::each::Explained;
 use crate::one::Found;
@@ -15,6 +17,7 @@ use cli_text::Status;
 use cli_walk::Stop;
 use fault_report::reporting::{report_capture as report_only, report_fault};
 use fault_report::{FaultSink, Report, Subject, Word};
+use savefile::Fault;
 
 /// Reports what was not printed and then the capture's fault, if there are these, and answers the greatest exit status that applies.
 pub fn report_each<R: Drop, E: FaultSink>(
@@ -31,17 +34,53 @@ pub fn report_each<R: Drop, E: FaultSink>(
     }
 }
 
+/// The capture of this number, of those at these paths.
+fn capture_of<'a>(paths: &[&'a str], number: usize) -> Option<Subject<'a>>
+    ensures { result ≡ option_map Capture (slice_get paths.now number) }
+{
+    match paths.get(number) {
+        Some(path) => Some(Subject::Capture(*path)),
+        None => None,
+    }
+}
+
+/// That the capture of this number has no packet at a place.
+fn no_packet<'a>(place: u64, paths: &[&'a str], number: usize) -> Report<'a>
+    ensures { IsNoPacketReport paths.now number place result }
+{
+    Report {
+        subject: capture_of(paths, number),
+        ..Report::placed("NoPacket", Word::Number(place))
+    }
+}
+
 /// Reports that the capture of this number has no packet at a place, and below that the capture's path if there are several.
 fn report_no_packet<E: HintSink>(place: u64, paths: &[&str], number: usize, err: &mut E) -> Status
-    ensures { result ≡ Refused }
+    ensures status { result ≡ Refused }
+    ensures told { TellsAmong E.takes_hints E.failed E.contents E.fault_form (IsNoPacketReport paths.now number place) err.old err.new }
 {
-    let mut fault = Report::placed("NoPacket", Word::Number(place));
-    if let Some(path) = paths.get(number) {
-        fault = fault.about(Subject::Capture(*path));
-    }
-    let status = report_fault(&fault, Status::Refused, err);
+    let status = report_fault(&no_packet(place, paths, number), Status::Refused, err);
     let _ = name_source(paths, number, err);
     status
+}
+
+/// Reports that the capture of this number has no packet at a place, or the capture's fault, if there is one, and answers the exit status.
+fn report_read<E: HintSink>(
+    read: Result<bool, Fault>,
+    place: u64,
+    paths: &[&str],
+    number: usize,
+    err: &mut E,
+) -> Status
+    ensures status { result ≡ found_status read }
+    ensures told { TellsRead (λ says. TellsAmong E.takes_hints E.failed E.contents E.fault_form says err.old err.new) paths.now number place read }
+    ensures more { TellsMore E.takes_hints E.failed E.contents E.fault_form err.old err.new }
+{
+    match read {
+        Ok(true) => Status::Clean,
+        Ok(false) => report_no_packet(place, paths, number, err),
+        Err(fault) => report_capture(paths, number, fault, err),
+    }
 }
 
 /// Reports why a packet of the capture of this number was not printed, that its place has none, and then the capture's fault, and answers
@@ -53,20 +92,19 @@ pub fn report_one<R, E: HintSink>(
     number: usize,
     err: &mut E,
 ) -> Status
-    ensures { result ≡ greater (printed_status found.now.printed) (found_status found.now.read) }
+    ensures status { result ≡ greater (printed_status found.now.printed) (found_status found.now.read) }
+    ensures told { TellsFound (λ says. TellsAmong E.takes_hints E.failed E.contents E.fault_form says err.old err.new) paths.now number place found.now.read found.now.printed }
+    ensures more { TellsMore E.takes_hints E.failed E.contents E.fault_form err.old err.new }
 {
-    let printed = report_printed(&found.printed, err);
-    match found.read {
-        Ok(true) => printed,
-        Ok(false) => printed.max(report_no_packet(place, paths, number, err)),
-        Err(fault) => printed.max(report_capture(paths, number, fault, err)),
-    }
+    let status = report_printed(&found.printed, err);
+    status.max(report_read(found.read, place, paths, number, err))
 }
 
 /// Reports the capture that ended the reading, if one did, and answers the exit status of looking for a packet: [`Status::Clean`] if one was
 /// found, [`Status::Negative`] if all captures were read and none was.
 pub fn report_sought<E: HintSink>(found: Result<bool, Stop>, paths: &[&str], err: &mut E) -> Status
-    ensures { result ≡ sought_status found }
+    ensures status { result ≡ sought_status found }
+    ensures told { TellsStop (λ says. TellsAmong E.takes_hints E.failed E.contents E.fault_form says err.old err.new) paths.now found }
 {
     match found {
         Ok(true) => Status::Clean,

@@ -1,9 +1,11 @@
 //! Which paths are one file. This is checked before a file is opened for writing, so that no file
 //! that is read is lost and no two captures go into one file.
 
-ghost use Rattle.std.specs.Prelude.{◌≡◌};
+ghost use Rattle.std.specs.Prelude.{◌≡◌, Some, codes};
+ghost use Rattle.fault_report.specs.Reports.{IsNamed, TellsOne};
+ghost use Rattle.fault_report.specs.declared.report.Subject.TheVariants.{File};
 ghost use Rattle.cli_text.specs.declared.status.Status.TheVariants.{Refused};
-ghost use Rattle.cli_files.specs.Paths.{IsPathStatus};
+ghost use Rattle.cli_files.specs.Paths.{IsPathReport, IsPathStatus};
 
 use crate::reading::report_io;
 use cli_report::HintSink;
@@ -319,7 +321,8 @@ impl<'a> Taken<'a> {
 
 /// Reports that a path is the file of something else, and why that is refused.
 fn report_same<E: HintSink>(path: &str, objection: &str, err: &mut E) -> Status
-    ensures { result ≡ Refused }
+    ensures status { result ≡ Refused }
+    ensures told { TellsOne E.takes_hints E.failed E.contents E.fault_form (IsNamed (codes "SameFile") (Some (File path.entry))) err.old err.new }
 {
     let fault = Report::named("SameFile").about(Subject::File(path));
     let status = report_fault(&fault, Status::Refused, err);
@@ -329,7 +332,8 @@ fn report_same<E: HintSink>(path: &str, objection: &str, err: &mut E) -> Status
 
 /// Reports why files are refused, and returns the exit status.
 pub fn report_path<E: HintSink>(fault: &PathFault<'_>, err: &mut E) -> Status
-    ensures { IsPathStatus fault.now result }
+    ensures status { IsPathStatus fault.now result }
+    ensures told { TellsOne E.takes_hints E.failed E.contents E.fault_form (IsPathReport fault.now) err.old err.new }
 {
     match fault {
         PathFault::Same(path, taken_for) => report_same(*path, taken_for.objection(), err),

@@ -2,7 +2,8 @@
 
 ghost use Rattle.std.specs.Prelude.{◌≡◌, ◌↔◌, ◌⊎◌, ◌≤◌, IfOk, IfErr, IsTrue, vec_len};
 ghost use Rattle.cli_text.specs.declared.status.Status.TheVariants.{Failed, Refused};
-ghost use Rattle.cli_files.specs.Reading.{IsRefusedMemory};
+ghost use Rattle.fault_report.specs.Reports.{TellsOne};
+ghost use Rattle.cli_files.specs.Reading.{IsFileReport, IsLongTextReport, IsRefusedMemory};
 
 use crate::retried::Retried;
 use cli_report::HintSink;
@@ -31,6 +32,7 @@ fn is_refused_memory(error: &io::Error) -> bool
 pub fn report_io<E: HintSink>(error: &io::Error, path: &str, err: &mut E) -> Status
     ensures refused { IsRefusedMemory error.now → result ≡ Refused }
     ensures failed { (IsRefusedMemory error.now → ⊥) → result ≡ Failed }
+    ensures told { TellsOne E.takes_hints E.failed E.contents E.fault_form (IsFileReport error.now path.entry) err.old err.new }
 {
     if is_refused_memory(error) {
         report_memory(err)
@@ -65,7 +67,8 @@ fn read_bounded<R: Files + AllocGlobal>(rt: &R, path: &str) -> io::Result<Vec<u8
 
 /// Reports that a text has more than [`MAX_TEXT`] bytes.
 pub fn report_long_text<E: HintSink>(path: &str, err: &mut E) -> Status
-    ensures { result ≡ Refused }
+    ensures status { result ≡ Refused }
+    ensures told { TellsOne E.takes_hints E.failed E.contents E.fault_form IsLongTextReport err.old err.new }
 {
     let status = report_fault(&Report::named("TextTooLong"), Status::Refused, err);
     give_hint(

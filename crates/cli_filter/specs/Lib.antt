@@ -1,2 +1,3 @@
 pub mod Filter
 pub mod Plan
+pub mod Reports

@@ -3,7 +3,9 @@
 
 ghost use Rattle.std.specs.Prelude.{◌≡◌, ◌⊎◌, ℕ, List, Some, None, false, Ok, IfErr, IfOk, IsErr, option_copied};
 ghost use Rattle.cli_text.specs.declared.status.Status.TheVariants.{Failed, Refused};
+ghost use Rattle.fault_report.specs.Reports.{TellsOne};
 ghost use Rattle.cli_filter.specs.Filter.{IsFilter, IsNoFilter};
+ghost use Rattle.cli_filter.specs.Reports.{IsFilterReport};
 
 use crate::assembly_hints::hint_assembly;
 use crate::listing_hints::hint_listing;
@@ -36,7 +38,9 @@ fn hint_filter<E: HintSink>(
     expr: Option<&str>,
     fault: FilterFault,
     err: &mut E,
-) {
+)
+    ensures quiet { E.takes_hints err.old ≡ false → err.new ≡ err.old }
+{
     if listing.is_some_and(is_capture) {
         give_hint("this is a capture: -f takes the program of a filter", err);
         return;
@@ -52,9 +56,24 @@ fn hint_filter<E: HintSink>(
     }
 }
 
-/// Reports why a listing or an expression gives no filter, if it gives none, and returns the exit
-/// status then.
-pub fn filter_or_report<E: HintSink>(
+/// Reports why a listing or an expression gives no filter, with hints, and returns the exit status.
+pub fn report_no_filter<E: HintSink>(
+    alloc: Global,
+    listing: Option<&[u8]>,
+    expr: Option<&str>,
+    fault: FilterFault,
+    err: &mut E,
+) -> Status
+    ensures status { result ≡ Refused }
+    ensures told { TellsOne E.takes_hints E.failed E.contents E.fault_form (IsFilterReport fault) err.old err.new }
+{
+    let status = report_filter(fault, err);
+    hint_filter(alloc, listing, expr, fault, err);
+    status
+}
+
+/// The filter, or reports why there is none, with hints, and returns the exit status.
+fn filter_or_report<E: HintSink>(
     alloc: Global,
     listing: Option<&[u8]>,
     expr: Option<&str>,
@@ -66,11 +85,7 @@ pub fn filter_or_report<E: HintSink>(
 {
     match found {
         Ok(program) => Ok(program),
-        Err(fault) => {
-            let told = report_filter(Err(fault), err);
-            hint_filter(alloc, listing, expr, fault, err);
-            told
-        }
+        Err(fault) => Err(report_no_filter(alloc, listing, expr, fault, err)),
     }
 }
 

@@ -11,6 +11,6 @@ pub mod plan_hints;
 mod program;
 mod report;
 
-pub use filters::{filter_or_report, hint_expression, program_of_expression, program_of_file};
+pub use filters::{hint_expression, program_of_expression, program_of_file, report_no_filter};
 pub use program::{FilterFault, filter};
 pub use report::{expression_report, filter_report, report_filter};

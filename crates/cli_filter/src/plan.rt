@@ -3,6 +3,7 @@
 ghost use Rattle.std.specs.Prelude.{◌≡◌, ◌||◌, ℕ, Bool, List, IfErr, IfNone, IfOk, IfSome, Some, length};
 ghost use Rattle.std.specs.List.{AllZip};
 ghost use Rattle.cli_filter.specs.Plan.{AreCut, AreLines, AreNoLines, AreLastFields, AreUncompiled, IsCompiled, IsRefusedPlan, lacks_memory, plan_fault_text, uncompiled_text};
+ghost use Rattle.cli_filter.specs.Reports.{IsPlanReport, IsUncompiledReport};
 ghost use Rattle.line_text.specs.Fields.{IsWord};
 ghost use Rattle.cli_filter.specs.declared.plan.PlanFault.TheVariants.{NoMemory};
 
@@ -138,7 +139,9 @@ impl Display for PlanFaultText {
 
 impl PlanFaultText {
     /// The same fault as a value.
-    pub fn report(self) -> Report<'static> {
+    pub fn report(self) -> Report<'static>
+        ensures { IsPlanReport self.file.now self.fault result }
+    {
         match self.fault {
             PlanFault::Line(line) => Report::placed(self.file, Word::count(line)),
             PlanFault::Expression(n, fault) => uncompiled_report(n, fault),
@@ -149,7 +152,9 @@ impl PlanFaultText {
 }
 
 /// Why the expression of this line, from 0, has no program.
-fn uncompiled_report(n: usize, fault: ExpressionFault) -> Report<'static> {
+fn uncompiled_report(n: usize, fault: ExpressionFault) -> Report<'static>
+    ensures { IsUncompiledReport n fault result }
+{
     if lacks_memory(fault) {
         return expression_report(fault);
     }

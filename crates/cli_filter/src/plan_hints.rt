@@ -1,5 +1,7 @@
 //! Hints on a plan that is refused, below the line of its fault.
 
+ghost use Rattle.std.specs.Prelude.{◌≡◌, false};
+
 use crate::filters::hint_expression;
 use crate::plan::{PlanFault, PlanLine, read_lines};
 use cli_report::HintSink;
@@ -25,7 +27,9 @@ fn hint_line_expression<E: HintSink>(
     expression: &str,
     fault: ExpressionFault,
     err: &mut E,
-) {
+)
+    ensures quiet { E.takes_hints err.old ≡ false → err.new ≡ err.old }
+{
     if begins_with_path(expression) {
         give_hint(
             format_args!(
@@ -47,7 +51,9 @@ pub fn hint_plan<'a, L: PlanLine<'a>, E: HintSink>(
     form: &str,
     fault: PlanFault,
     err: &mut E,
-) {
+)
+    ensures quiet { E.takes_hints err.old ≡ false → err.new ≡ err.old }
+{
     match fault {
         PlanFault::Line(line) => hint_bad_line(text, line, form, err),
         PlanFault::Expression(n, fault) => {

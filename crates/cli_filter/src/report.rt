@@ -1,23 +1,29 @@
 //! Reports why there is no filter.
 
-ghost use Rattle.std.specs.Prelude.{◌≡◌, Ok, IfOk, IfErr, IsErr};
+ghost use Rattle.std.specs.Prelude.{◌≡◌};
+ghost use Rattle.fault_report.specs.Reports.{TellsOne};
+ghost use Rattle.cli_filter.specs.Reports.{IsAssemblyReport, IsExpressionReport, IsFilterReport, IsListingReport, IsProgramReport};
 ghost use Rattle.cli_text.specs.declared.status.Status.TheVariants.{Refused};
 
 use crate::program::FilterFault;
 use bpf_asm::AssemblyFault;
-use bpfvm::{Invalid, ListingFault, Program};
+use bpfvm::{Invalid, ListingFault};
 use cli_text::Status;
 use fault_report::reporting::report_fault;
 use fault_report::{FaultSink, Report, Word};
 use filtergen::ExpressionFault;
 
 /// The fault of an expression, as it is reported.
-pub fn expression_report(fault: ExpressionFault) -> Report<'static> {
+pub fn expression_report(fault: ExpressionFault) -> Report<'static>
+    ensures { IsExpressionReport fault result }
+{
     Report::placed(fault.name(), Word::place(fault.place()))
 }
 
 /// The fault of a program inside that of its text.
-fn program_report(name: &'static str, fault: Invalid) -> Report<'static> {
+fn program_report(name: &'static str, fault: Invalid) -> Report<'static>
+    ensures { IsProgramReport name.now fault result }
+{
     let end = Word::Nothing;
     Report {
         name,
@@ -33,7 +39,9 @@ fn program_report(name: &'static str, fault: Invalid) -> Report<'static> {
 }
 
 /// The fault of a listing.
-fn listing_report(fault: ListingFault) -> Report<'static> {
+fn listing_report(fault: ListingFault) -> Report<'static>
+    ensures { IsListingReport fault result }
+{
     match fault {
         ListingFault::BadLine(line) => Report::placed(fault.name(), Word::count(line)),
         ListingFault::Count => Report::named(fault.name()),
@@ -42,7 +50,9 @@ fn listing_report(fault: ListingFault) -> Report<'static> {
 }
 
 /// The fault of assembly.
-fn assembly_report(fault: AssemblyFault) -> Report<'static> {
+fn assembly_report(fault: AssemblyFault) -> Report<'static>
+    ensures { IsAssemblyReport fault result }
+{
     match fault {
         AssemblyFault::Line(line, _) => Report::placed(fault.name(), Word::count(line)),
         AssemblyFault::Program(invalid) => program_report(fault.name(), invalid),
@@ -51,7 +61,9 @@ fn assembly_report(fault: AssemblyFault) -> Report<'static> {
 }
 
 /// Why there is no filter, as it is reported.
-pub fn filter_report(fault: FilterFault) -> Report<'static> {
+pub fn filter_report(fault: FilterFault) -> Report<'static>
+    ensures { IsFilterReport fault result }
+{
     match fault {
         FilterFault::Twice => Report::named("FilterTwice"),
         FilterFault::Listing(fault) => listing_report(fault),
@@ -60,16 +72,10 @@ pub fn filter_report(fault: FilterFault) -> Report<'static> {
     }
 }
 
-/// Reports why there is no filter, if there is none, and returns the exit status then.
-pub fn report_filter<E: FaultSink>(
-    found: Result<Program, FilterFault>,
-    err: &mut E,
-) -> Result<Program, Status>
-    ensures found { IfOk result (λ program. found ≡ Ok program) }
-    ensures refused { IfErr result (λ status. (status ≡ Refused) × IsErr found) }
+/// Reports why there is no filter, and returns the exit status.
+pub fn report_filter<E: FaultSink>(fault: FilterFault, err: &mut E) -> Status
+    ensures status { result ≡ Refused }
+    ensures told { TellsOne E.takes_hints E.failed E.contents E.fault_form (IsFilterReport fault) err.old err.new }
 {
-    match found {
-        Ok(program) => Ok(program),
-        Err(fault) => Err(report_fault(&filter_report(fault), Status::Refused, err)),
-    }
+    report_fault(&filter_report(fault), Status::Refused, err)
 }

@@ -1,5 +1,5 @@
 -- Where hints are wanted, and their lines.
-use Rattle.std.specs.Prelude.{ℕ, Bool, false, List, ◌++◌, codes}
+use Rattle.std.specs.Prelude.{ℕ, Bool, true, false, List, ◌++◌, codes}
 use Rattle.line_text.specs.declared.form.LineForm.{LineForm}
 use Rattle.line_text.specs.declared.form.LineForm.TheVariants.{Text, Json}
 use Rattle.line_text.specs.Texts.{end_of_line}
@@ -8,7 +8,8 @@ use Rattle.line_text.specs.Texts.{end_of_line}
 abbrev pub hint_line : List ℕ → List ℕ
 hint_line text = codes "  " ++ text ++ end_of_line
 
--- hints are wanted below lines of text only, and there if they are asked for
-abbrev pub wants_hints : LineForm → Bool → Bool
-wants_hints Text asked = asked
-wants_hints Json asked = false
+-- hints are wanted below lines of text only, and there if they are asked for and no line failed
+abbrev pub wants_hints : LineForm → Bool → Bool → Bool
+wants_hints Text asked false = asked
+wants_hints Text asked true = false
+wants_hints Json asked failed = false

@@ -2,6 +2,7 @@
 
 ghost use Rattle.std.specs.Prelude.{◌≡◌, ◌≤◌, false, length, None, slice_get, true};
 ghost use Rattle.line_text.specs.declared.form.LineForm.TheVariants.{Json};
+ghost use Rattle.fault_report.specs.Reports.{TellsMore};
 
 use crate::captures::hint_capture_fault;
 use crate::files::hint_reason;
@@ -82,6 +83,7 @@ pub fn name_source<E: HintSink>(paths: &[&str], n: usize, err: &mut E) -> io::Re
     ensures none { slice_get paths.now n ≡ None → err.new ≡ err.old }
     ensures hinted { E.takes_hints err.old ≡ true → err.new ≡ err.old }
     ensures object { E.fault_form err.old ≡ Json → err.new ≡ err.old }
+    ensures more { TellsMore E.takes_hints E.failed E.contents E.fault_form err.old err.new }
 {
     match paths.get(n) {
         Some(path) if paths.len() > 1 && !err.takes_hints() => {

@@ -1,14 +1,16 @@
 //! Standard error that may take hints, and the line of a hint.
 
-ghost use Rattle.std.specs.Prelude.{◌≡◌, ◌≢◌, Bool, true, false, OnOk, OnErr, IfErr, IfOk, IfSome};
+ghost use Rattle.std.specs.Prelude.{◌≡◌, ◌≢◌, true, false, IfErr, IfOk, IfSome};
 ghost use Rattle.line_text.specs.declared.form.LineForm.TheVariants.{Json, Text};
 ghost use Rattle.std.specs.Io.{WritesAtMost};
 ghost use Rattle.std.specs.Io.KnownBytes.{WriteAppends};
 ghost use Rattle.std.specs.IoError.{error_kind};
 ghost use Rattle.line_text.specs.Sending.{Takes};
+ghost use Rattle.fault_report.specs.Reports.{TellsMore};
 ghost use Rattle.cli_report.specs.Hints.{hint_line, wants_hints};
 
-use fault_report::FaultSink;
+use fault_report::reporting::report_in;
+use fault_report::{FaultSink, Report};
 use line_text::sending::send;
 use line_text::{Line, LineForm};
 use std::fmt::Display;
@@ -18,11 +20,8 @@ use std::io::{ErrorKind, Write};
 /// Where faults are reported, and whether hints are wanted below their lines.
 pub trait HintSink: FaultSink {
     /// Whether hints are wanted.
-    ghost takes_hints: { Self → Bool };
-
-    /// Whether hints are wanted.
     fn takes_hints(&self) -> bool
-        ensures { result ≡ takes_hints self.now };
+        ensures { result ≡ Self.takes_hints self.now };
 }
 
 /// A writer that faults are reported to. Once a write has failed no hints are wanted: one without
@@ -31,6 +30,7 @@ pub trait HintSink: FaultSink {
 pub struct ErrorStream<W> {
     inner: W,
     takes_hints: bool,
+    failed: bool,
     form: LineForm,
 }
 
@@ -39,11 +39,13 @@ impl<W> ErrorStream<W> {
     /// are asked for.
     pub fn new(inner: W, takes_hints: bool) -> ErrorStream<W>
         ensures hints { result.takes_hints ≡ takes_hints }
+        ensures failed { result.failed ≡ false }
         ensures form { result.form ≡ Text }
     {
         ErrorStream {
             inner,
             takes_hints,
+            failed: false,
             form: LineForm::Text,
         }
     }
@@ -52,6 +54,7 @@ impl<W> ErrorStream<W> {
     pub fn set_form(&mut self, form: LineForm)
         ensures form { self.new.form ≡ form }
         ensures hints { self.new.takes_hints ≡ self.old.takes_hints }
+        ensures failed { self.new.failed ≡ self.old.failed }
     {
         self.form = form;
     }
@@ -63,11 +66,10 @@ impl<W: Write> Write for ErrorStream<W> {
     fn write(&mut self, from: &[u8]) -> io::Result<usize>
         ensures bound { WritesAtMost result from.now }
         ensures bytes { WriteAppends (W.contents self.old.inner) (W.contents self.new.inner) result from.now }
-        ensures silent { IfErr result (λ error. error_kind error ≢ ErrorKind.Interrupted → self.new.takes_hints ≡ false) }
-        ensures form { self.new.form ≡ self.old.form }
+        ensures failed { IfErr result (λ error. error_kind error ≢ ErrorKind.Interrupted → self.new.failed ≡ true) }
     {
         let written = self.inner.write(from);
-        self.takes_hints = self.takes_hints && !has_failed(&written, from);
+        self.failed = self.failed || has_failed(&written, from);
         written
     }
 
@@ -90,17 +92,30 @@ fn has_failed(written: &io::Result<usize>, from: &[u8]) -> bool
 impl<W: Write> FaultSink for ErrorStream<W> {
     ghost fault_form = { λ stream. stream.form };
 
+    ghost failed = { λ stream. stream.failed };
+
+    ghost takes_hints = { λ stream. wants_hints stream.form stream.takes_hints stream.failed };
+
     fn fault_form(&self) -> LineForm {
         self.form
+    }
+
+    fn tell(&mut self, fault: &Report<'_>) {
+        let told = report_in(self.form, fault, &mut self.inner);
+        self.failed = self.failed || told.is_err();
+    }
+
+    fn tell_line(&mut self, line: &[u8]) -> io::Result<()> {
+        let told = send(line, &mut self.inner);
+        self.failed = self.failed || told.is_err();
+        told
     }
 }
 
 impl<W: Write> HintSink for ErrorStream<W> {
-    ghost takes_hints = { λ stream. wants_hints stream.form stream.takes_hints };
-
     fn takes_hints(&self) -> bool {
         match self.form {
-            LineForm::Text => self.takes_hints,
+            LineForm::Text => self.takes_hints && !self.failed,
             LineForm::Json => false,
         }
     }
@@ -108,8 +123,6 @@ impl<W: Write> HintSink for ErrorStream<W> {
 
 /// Memory takes the lines of faults, and no hints.
 impl HintSink for Vec<u8> {
-    ghost takes_hints = { λ _. false };
-
     fn takes_hints(&self) -> bool {
         false
     }
@@ -148,9 +161,13 @@ pub fn give_hint<D: Display + Drop, E: HintSink>(hint: D, err: &mut E)
 pub fn print_below<D: Display + Drop, E: FaultSink>(text: D, err: &mut E) -> io::Result<()>
     ensures line { E.fault_form err.old ≡ Text → IfSome (D.output text) (λ text. Takes (E.contents err.old) (E.contents err.new) result (hint_line text)) }
     ensures object { E.fault_form err.old ≡ Json → err.new ≡ err.old }
+    ensures more { TellsMore E.takes_hints E.failed E.contents E.fault_form err.old err.new }
 {
     match err.fault_form() {
-        LineForm::Text => write_line(text, err),
+        LineForm::Text => {
+            let line = line_of(text)?;
+            err.tell_line(line.as_bytes())
+        }
         LineForm::Json => Ok(()),
     }
 }

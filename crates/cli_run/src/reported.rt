@@ -1,6 +1,6 @@
 //! The faults of a replay, as values that are reported.
 
-ghost use Rattle.std.specs.Prelude.{◌≡◌, false, [], Some, IfSome, MatchOption};
+ghost use Rattle.std.specs.Prelude.{◌≡◌, false, [], IfSome, MatchOption};
 ghost use Rattle.line_text.specs.declared.form.LineForm.TheVariants.{Text};
 ghost use Rattle.replay_types.specs.declared.report.InterfaceEnd.TheVariants.{Capture};
 ghost use Rattle.fault_report.specs.Reports.{has_path, reported};
@@ -36,7 +36,7 @@ pub(crate) fn replay_fault(fault: RunFault) -> Report<'static> {
 /// The fault of the n-th capture of the i-th interface, whose captures are at these paths, if they
 /// are known.
 fn capture_fault<'a>(i: usize, n: usize, fault: Fault, paths: Option<&Vec<&'a str>>) -> Report<'a>
-    ensures text { reported Text result ≡ Some (interface_told i (Capture n fault)) }
+    ensures text { reported Text result ≡ interface_told i (Capture n fault) }
     ensures path { has_path Text result.subject ≡ false }
 {
     let inner = match paths {
@@ -58,7 +58,7 @@ pub(crate) fn end_fault<'a>(
     end: InterfaceEnd,
     paths: Option<&Vec<&'a str>>,
 ) -> Option<Report<'a>>
-    ensures text { MatchOption result (interface_told i end ≡ []) (λ fault. reported Text fault ≡ Some (interface_told i end)) }
+    ensures text { MatchOption result (interface_told i end ≡ []) (λ fault. reported Text fault ≡ interface_told i end) }
     ensures path { IfSome result (λ fault. has_path Text fault.subject ≡ false) }
 {
     match end {

@@ -1,9 +1,13 @@
 -- The lines of parts.
 use Rattle.std.proofs.Common.{◌≡◌, ℕ, true, false, List, [], refl, ap, Result, Ok, Err}
-use Rattle.std.specs.Prelude.{if◌then◌else◌}
+use Rattle.std.specs.Prelude.{if◌then◌else◌, OnOk}
 use Rattle.std.specs.Result.{is_err}
 use Rattle.savefile.specs.declared.fault.Fault.{Fault}
 use Rattle.pcap_cut.specs.declared.cut.Tally.{Tally}
+use Rattle.cli_text.specs.Status.{greater}
+use Rattle.cli_text.specs.Telling.{print_status_of}
+use Rattle.cli_text.specs.declared.status.Status.{Status}
+use Rattle.cli_text.specs.declared.status.Status.TheVariants.{Failed}
 use Rattle.line_text.specs.declared.form.LineForm.{LineForm}
 use Rattle.line_text.specs.Texts.{numbered}
 use Rattle.cli_split.specs.declared.plan.SplitLine.{SplitLine}
@@ -27,3 +31,8 @@ printed-all form lines end begun = ap (λ b. if b then numbered (line_text form 
 
 pub printed-none : {R W : Type 0} (form : LineForm) (lines : List SplitLine) (end : SplitEnd R W) → false ≡ passes_header end.end → [] ≡ printed_split form lines end
 printed-none form lines end unbegun = ap (λ b. if b then numbered (line_text form lines) 0 end.parts.items else []) unbegun
+
+-- where the greatest status is not that of a failed device, printing went well
+pub printed-ok : {A E : Type 0} (printed : Result A E) (other ended : Status) (P : Type 0) → ended ≡ greater (print_status_of printed) other → (ended ≡ Failed → ⊥) → OnOk printed P → P
+printed-ok (Ok done) other ended P is not_failed well = well
+printed-ok (Err error) other ended P is not_failed well = absurd (not_failed is)

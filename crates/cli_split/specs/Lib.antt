@@ -9,3 +9,4 @@ pub mod Texts
 pub mod SplitFiles
 pub mod Opened
 pub mod Closed
+pub mod Reporting

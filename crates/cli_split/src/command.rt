@@ -1,7 +1,10 @@
 //! `bpftap split`, over files.
 
-ghost use Rattle.std.specs.Prelude.{◌≡◌, [], true};
-ghost use Rattle.cli_text.specs.declared.status.Status.TheVariants.{Refused};
+ghost use Rattle.std.specs.Prelude.{◌≡◌, [], true, false, codes};
+ghost use Rattle.cli_text.specs.declared.status.Status.TheVariants.{Failed, Refused};
+ghost use Rattle.fault_report.specs.Reports.{TellsOne};
+ghost use Rattle.cli_filter.specs.Reports.{IsPlanReport};
+ghost use Rattle.cli_split.specs.Reporting.{IsRefusalReport, TellsOutcome, TellsStop};
 ghost use Rattle.cli_split.specs.SplitFiles.{IsRefusalStatus, ReportsOutcome, SplitsFiles, form_of};
 ghost use Rattle.cli_split.specs.Statuses.{ReportsSplit};
 ghost use Rattle.cli_split.specs.declared.outcome.SplitOutcome.{SplitOutcome};
@@ -24,6 +27,7 @@ use cli_report::stream::give_hint;
 use cli_store::{DiskFiles, FileStore};
 use cli_text::Status;
 use cli_watch::hints::report_unseen;
+use cli_watch::output::PrintSink;
 use cli_watch::{Screen, Watch};
 use fault_report::reporting::{report_fault, report_memory};
 use line_text::LineForm;
@@ -49,7 +53,8 @@ pub struct Reported<'p> {
 
 /// Reports why LINES is refused.
 fn report_lines<E: HintSink>(alloc: Global, text: &[u8], fault: PlanFault, err: &mut E) -> Status
-    ensures { result ≡ Refused }
+    ensures status { result ≡ Refused }
+    ensures told { TellsOne E.takes_hints E.failed E.contents E.fault_form (IsPlanReport (codes "Lines") fault) err.old err.new }
 {
     let status = report_fault(&fault_text(fault).report(), Status::Refused, err);
     hint_plan::<SplitLine<'_>, E>(alloc, text, (), LINES, fault, err);
@@ -64,7 +69,8 @@ fn report_lines<E: HintSink>(alloc: Global, text: &[u8], fault: PlanFault, err: 
 
 /// Reports why nothing was split, and returns the exit status.
 fn report_refusal<E: HintSink>(alloc: Global, refusal: &Refusal<'_>, err: &mut E) -> Status
-    ensures { IsRefusalStatus refusal.now result }
+    ensures status { IsRefusalStatus refusal.now result }
+    ensures told { TellsOne E.takes_hints E.failed E.contents E.fault_form (IsRefusalReport refusal.now) err.old err.new }
 {
     match refusal {
         Refusal::Lines(text, fault) => report_lines(alloc, *text, *fault, err),
@@ -81,7 +87,8 @@ fn report_refused<'p, E: HintSink>(
     refusal: &Refusal<'p>,
     err: &mut E,
 ) -> Reported<'p>
-    ensures { IsRefusalStatus refusal.now result.status }
+    ensures status { IsRefusalStatus refusal.now result.status }
+    ensures told { TellsOne E.takes_hints E.failed E.contents E.fault_form (IsRefusalReport refusal.now) err.old err.new }
 {
     Reported {
         status: report_refusal(alloc, refusal, err),
@@ -91,13 +98,15 @@ fn report_refused<'p, E: HintSink>(
 }
 
 /// Prints how many packets each part has, and reports what failed.
-fn report_ended<'p, O: Write, E: HintSink>(
+fn report_ended<'p, O: PrintSink, E: HintSink>(
     words: &SplitWords<'_>,
     report: SplitReport<'p>,
     out: &mut O,
     err: &mut E,
 ) -> Reported<'p>
-    ensures { ReportsSplit (form_of words.now) report.entry.lines.items report.entry.end (O.contents out.old) (O.contents out.new) result.status }
+    ensures prints { ReportsSplit (form_of words.now) report.entry.lines.items report.entry.end (O.contents out.old) (O.contents out.new) result.status }
+    ensures told { TellsStop E.takes_hints E.failed E.contents E.fault_form words.now.inputs.items report.entry.end.end err.old err.new }
+    ensures handed_on { O.waits out.old ≡ false → (result.status ≡ Failed → ⊥) → O.waits out.new ≡ false }
 {
     let SplitReport {
         text,
@@ -121,7 +130,7 @@ fn report_ended<'p, O: Write, E: HintSink>(
 }
 
 /// Splits, and reports how that ended: prints how many packets each part has, and reports what failed.
-pub fn split_and_report<'p, F: FileStore<'p>, O: Write, E: HintSink>(
+pub fn split_and_report<'p, F: FileStore<'p>, O: PrintSink, E: HintSink>(
     alloc: Global,
     files: &mut F,
     words: &SplitWords<'p>,
@@ -132,7 +141,10 @@ pub fn split_and_report<'p, F: FileStore<'p>, O: Write, E: HintSink>(
     requires none_open { F.opened files.old ≡ [] }
     ensures splits { F.known ≡ true → (outcome : SplitOutcome)
         × SplitsFiles (F.place files.old) (F.text files.old) (F.text files.new) (F.printed files.old) (F.failed files.new) (F.denied files.new) words.now outcome
-        × ReportsOutcome words.now outcome (O.contents out.old) (O.contents out.new) result.status }
+        × ReportsOutcome words.now outcome (O.contents out.old) (O.contents out.new) result.status
+        × TellsOutcome E.takes_hints E.failed E.contents E.fault_form words.now outcome err.old err.new }
+    // Nothing that was printed waits, unless a file or a device failed.
+    ensures handed_on { O.waits out.old ≡ false → (result.status ≡ Failed → ⊥) → O.waits out.new ≡ false }
     ensures closed { F.known ≡ true → F.pending files.new ≡ F.pending files.old }
 {
     let LinesText { bytes } = text;

@@ -1,5 +1,7 @@
 //! Hints on how `bpftap split` ended, below the lines of its faults.
 
+ghost use Rattle.std.specs.Prelude.{◌≡◌, false};
+
 use crate::outcome::{ClosedEnd, ClosedPart};
 use crate::plan::SplitLine;
 use crate::split::Stop;
@@ -11,12 +13,23 @@ use cli_text::report::EscapedPath;
 use cli_watch::hints::is_asked;
 
 /// Hints on a capture that was not written.
-fn hint_closed<E: HintSink>(line: &SplitLine<'_>, part: &ClosedPart, err: &mut E) {
+fn hint_closed<E: HintSink>(line: &SplitLine<'_>, part: &ClosedPart, err: &mut E)
+    ensures quiet { E.takes_hints err.old ≡ false → err.new ≡ err.old }
+{
     if part.written.is_err() {
         give_hint(format_args!("{}:", EscapedPath(line.output)), err);
         if let Some(error) = part.sink {
             hint_reason(&error, err);
         }
+    }
+}
+
+/// Hints on the captures that were not written.
+fn hint_parts<E: HintSink>(lines: &[SplitLine<'_>], parts: &[ClosedPart], err: &mut E)
+    ensures quiet { E.takes_hints err.old ≡ false → err.new ≡ err.old }
+{
+    for (line, part) in lines.iter().zip(parts.iter()) {
+        hint_closed(line, part, err);
     }
 }
 
@@ -26,10 +39,10 @@ pub fn hint_ended<E: HintSink>(
     lines: &[SplitLine<'_>],
     end: &ClosedEnd,
     err: &mut E,
-) {
-    for (line, part) in lines.iter().zip(end.parts.iter()) {
-        hint_closed(line, part, err);
-    }
+)
+    ensures quiet { E.takes_hints err.old ≡ false → err.new ≡ err.old }
+{
+    hint_parts(lines, end.parts.as_slice(), err);
     if let Err(Stop::AtHeader(n, fault) | Stop::AtRecord(n, fault)) = end.end {
         hint_source(inputs, end.sources.as_slice(), n, fault, err);
     }

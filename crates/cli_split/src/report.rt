@@ -1,8 +1,13 @@
 //! What `bpftap split` prints of each OUT, what it reports, and its exit status.
 
-ghost use Rattle.std.specs.Prelude.{◌≡◌, slice_get};
+ghost use Rattle.std.specs.Prelude.{◌≡◌, Err, false, OnOk, slice_get};
 ghost use Rattle.line_text.specs.Sending.{Takes};
 ghost use Rattle.line_text.specs.Texts.{numbered};
+ghost use Rattle.cli_text.specs.Telling.{fault_status};
+ghost use Rattle.cli_text.specs.declared.status.Status.TheVariants.{Failed};
+ghost use Rattle.fault_report.specs.Captures.{IsNthCaptureFault};
+ghost use Rattle.fault_report.specs.Reports.{TellsAmong, TellsMore};
+ghost use Rattle.cli_split.specs.Reporting.{IsStopReport, TellsStop};
 ghost use Rattle.cli_split.specs.Printed.{line_text, output_of, part_line, printed_split};
 ghost use Rattle.cli_split.specs.Splitting.{passes_header};
 ghost use Rattle.cli_split.specs.Statuses.{ReportsSplit, parts_status, split_status, stop_status, written_status};
@@ -15,11 +20,13 @@ use cli_report::HintSink;
 use cli_report::failures::name_source;
 use cli_text::Status;
 use cli_text::report::fault_status;
+use cli_watch::output::PrintSink;
 use fault_report::FaultSink;
 use fault_report::captures::output_fault;
 use fault_report::reporting::{report_fault, report_nth_capture, report_output};
 use line_text::LineForm;
 use line_text::sending::send;
+use savefile::Fault;
 use std::io;
 use std::io::Write;
 
@@ -84,25 +91,27 @@ pub fn was_begun(end: Result<(), Stop>) -> bool
 }
 
 /// Prints the lines of all parts that were started, and all that the writer has gathered of them.
-fn print_split<R, W, O: Write>(
+fn print_split<R, W, O: PrintSink>(
     form: LineForm,
     lines: &[SplitLine<'_>],
     end: &SplitEnd<R, W>,
     line: &mut String,
     out: &mut O,
 ) -> io::Result<()>
-    ensures { Takes (O.contents out.old) (O.contents out.new) result (printed_split form lines.now end.now) }
+    ensures taken { Takes (O.contents out.old) (O.contents out.new) result (printed_split form lines.now end.now) }
+    ensures handed_on { O.waits out.old ≡ false → OnOk result (O.waits out.new ≡ false) }
 {
     if !was_begun(end.end) {
         return Ok(());
     }
     write_parts(form, lines, end.parts.as_slice(), line, out)?;
-    out.flush()
+    out.hand_on()
 }
 
 /// Reports why a part was not written whole, if it was not, and returns the exit status.
 fn report_part<W, E: FaultSink>(output: &str, part: &PartEnd<W>, err: &mut E) -> Status
-    ensures { result ≡ written_status part.now.written }
+    ensures status { result ≡ written_status part.now.written }
+    ensures more { TellsMore E.takes_hints E.failed E.contents E.fault_form err.old err.new }
 {
     match part.written {
         Ok(()) => Status::Clean,
@@ -116,7 +125,8 @@ fn report_parts<W, E: FaultSink>(
     parts: &[PartEnd<W>],
     err: &mut E,
 ) -> Status
-    ensures { result ≡ parts_status parts.now }
+    ensures status { result ≡ parts_status parts.now }
+    ensures more { TellsMore E.takes_hints E.failed E.contents E.fault_form err.old err.new }
 {
     let mut status = Status::Clean;
     for (n, part) in parts.iter().enumerate() {
@@ -125,17 +135,35 @@ fn report_parts<W, E: FaultSink>(
     status
 }
 
-/// Reports what ended the reading, if something did, and of several captures which one, and returns the exit status.
+/// Reports the fault of the capture of this number, and of several captures which one. Returns the exit status.
+fn report_capture<E: HintSink>(number: usize, fault: Fault, paths: &[&str], err: &mut E) -> Status
+    ensures status { result ≡ fault_status fault }
+    ensures told { TellsAmong E.takes_hints E.failed E.contents E.fault_form (IsNthCaptureFault fault number paths.now) err.old err.new }
+{
+    let status = report_nth_capture(fault, number, paths, err);
+    let _ = name_source(paths, number, err);
+    status
+}
+
+/// Reports what ended the reading, and returns the exit status.
+fn report_stopped<E: HintSink>(stop: Stop, paths: &[&str], err: &mut E) -> Status
+    ensures status { result ≡ stop_status (Err stop) }
+    ensures told { TellsAmong E.takes_hints E.failed E.contents E.fault_form (IsStopReport paths.now stop) err.old err.new }
+{
+    match stop {
+        Stop::AtHeader(n, fault) => report_capture(n, fault, paths, err),
+        Stop::AtRecord(n, fault) => report_capture(n, fault, paths, err),
+    }
+}
+
+/// Reports what ended the reading, if something did, and returns the exit status.
 fn report_stop<E: HintSink>(end: Result<(), Stop>, paths: &[&str], err: &mut E) -> Status
-    ensures { result ≡ stop_status end }
+    ensures status { result ≡ stop_status end }
+    ensures told { TellsStop E.takes_hints E.failed E.contents E.fault_form paths.now end err.old err.new }
 {
     match end {
         Ok(()) => Status::Clean,
-        Err(Stop::AtHeader(n, fault) | Stop::AtRecord(n, fault)) => {
-            let status = report_nth_capture(fault, n, paths, err);
-            let _ = name_source(paths, n, err);
-            status
-        }
+        Err(stop) => report_stopped(stop, paths, err),
     }
 }
 
@@ -146,7 +174,8 @@ pub fn report_faults<R, W, E: HintSink>(
     end: &SplitEnd<R, W>,
     err: &mut E,
 ) -> Status
-    ensures { result ≡ split_status end.now }
+    ensures status { result ≡ split_status end.now }
+    ensures told { TellsStop E.takes_hints E.failed E.contents E.fault_form files.entry.captures.now end.now.end err.old err.new }
 {
     let parts = report_parts(files.lines, end.parts.as_slice(), err);
     parts.max(report_stop(end.end, files.captures, err))
@@ -163,7 +192,7 @@ pub fn report_faults<R, W, E: HintSink>(
 /// `out` took exactly these lines, or a prefix of them if it failed; then the status is [`Status::Failed`]. The status of a part is that of
 /// its fault, [`Status::Failed`] if its sink failed. So is that of a capture: [`Status::Failed`] if its source failed, and
 /// [`Status::Damaged`] for the fault of a record.
-pub fn report_split<R, W, O: Write, E: HintSink>(
+pub fn report_split<R, W, O: PrintSink, E: HintSink>(
     form: LineForm,
     files: SplitFiles<'_, '_, '_, '_>,
     end: &SplitEnd<R, W>,
@@ -171,7 +200,9 @@ pub fn report_split<R, W, O: Write, E: HintSink>(
     out: &mut O,
     err: &mut E,
 ) -> Status
-    ensures { ReportsSplit form files.entry.lines.now end.now (O.contents out.old) (O.contents out.new) result }
+    ensures prints { ReportsSplit form files.entry.lines.now end.now (O.contents out.old) (O.contents out.new) result }
+    ensures told { TellsStop E.takes_hints E.failed E.contents E.fault_form files.entry.captures.now end.now.end err.old err.new }
+    ensures handed_on { O.waits out.old ≡ false → (result ≡ Failed → ⊥) → O.waits out.new ≡ false }
 {
     let printed = print_split(form, files.lines, end, line, out);
     let status = report_output(&printed, err);

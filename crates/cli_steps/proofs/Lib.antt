@@ -3,3 +3,4 @@ mod Drawing
 mod Ending
 mod Asked
 mod Reasons
+mod Reporting

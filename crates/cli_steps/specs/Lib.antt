@@ -1,4 +1,5 @@
 pub mod FromFiles
 pub mod Playing
+pub mod Reports
 pub mod Stepping
 pub mod Telling

@@ -1,7 +1,9 @@
 //! `bpftap steps`, over the files of the system, and what is reported of it.
 
-ghost use Rattle.std.specs.Prelude.{◌≡◌, Ok};
+ghost use Rattle.std.specs.Prelude.{◌≡◌, Err, Ok};
+ghost use Rattle.fault_report.specs.Reports.{TellsMore, TellsOne};
 ghost use Rattle.cli_steps.specs.FromFiles.{IsDrawnStatus, IsRefusalStatus, IsStatusOf};
+ghost use Rattle.cli_steps.specs.Reports.{IsLineReport, IsPictureReport, IsRefusalReport, IsTooManyReport, TellsPlayed, TellsSteps};
 
 use crate::files::steps_files;
 use crate::hints::{hint_line, hint_replay, hint_too_many};
@@ -34,7 +36,8 @@ fn report_line_fault<E: HintSink>(
     fault: LineFault,
     err: &mut E,
 ) -> Status
-    ensures { result ≡ Status.Refused }
+    ensures status { result ≡ Status.Refused }
+    ensures told { TellsOne E.takes_hints E.failed E.contents E.fault_form (IsLineReport fault) err.old err.new }
 {
     let status = report_fault(&line_fault(fault), Status::Refused, err);
     hint_line(listeners, script, fault, err);
@@ -43,16 +46,18 @@ fn report_line_fault<E: HintSink>(
 
 /// Reports that there are too many captures, with a hint.
 fn report_too_many<E: HintSink>(err: &mut E) -> Status
-    ensures { result ≡ Status.Refused }
+    ensures status { result ≡ Status.Refused }
+    ensures told { TellsOne E.takes_hints E.failed E.contents E.fault_form IsTooManyReport err.old err.new }
 {
-    let status = report_fault(&replay_fault(Fault::TooMany), Status::Refused, err);
+    let status = report_fault(&replay_fault(Fault::TooMany, &[]), Status::Refused, err);
     hint_too_many(err);
     status
 }
 
 /// Reports why nothing was played, with hints, and returns the exit status.
 fn report_unplayed<E: HintSink>(refusal: &StepsRefusal<'_>, err: &mut E) -> Status
-    ensures { IsRefusalStatus refusal.now result }
+    ensures status { IsRefusalStatus refusal.now result }
+    ensures told { TellsOne E.takes_hints E.failed E.contents E.fault_form (IsRefusalReport refusal.now) err.old err.new }
 {
     match refusal {
         StepsRefusal::TextTooLong(path) => report_long_text(*path, err),
@@ -68,7 +73,9 @@ fn report_unplayed<E: HintSink>(refusal: &StepsRefusal<'_>, err: &mut E) -> Stat
 
 /// Reports why the picture at a path was not drawn, if it was not, and returns the exit status.
 fn report_picture<E: HintSink>(path: &str, drawn: &Result<(), PictureFault>, err: &mut E) -> Status
-    ensures { IsDrawnStatus drawn.now result }
+    ensures status { IsDrawnStatus drawn.now result }
+    ensures told { (fault : PictureFault) → drawn.now ≡ Err fault → TellsOne E.takes_hints E.failed E.contents E.fault_form (IsPictureReport path.entry fault) err.old err.new }
+    ensures more { TellsMore E.takes_hints E.failed E.contents E.fault_form err.old err.new }
 {
     match drawn {
         Ok(()) => Status::Clean,
@@ -87,11 +94,12 @@ fn report_steps<O: Write, E: HintSink>(
     printed: &FailureProbe<Piped<'_, O>>,
     err: &mut E,
 ) -> Status
-    ensures { IsStatusOf (Ok report.now) result }
+    ensures status { IsStatusOf (Ok report.now) result }
+    ensures told { TellsPlayed E.takes_hints E.failed E.contents E.fault_form words.now report.now err.old err.new }
 {
     let paths = words.inputs.as_slice();
     let has_failed = report.status == Status::Failed && !printed.get_ref().is_unread();
-    let _ = report_played(paths, has_failed, &report.replayed, err);
+    report_played(paths, has_failed, &report.replayed, err);
     hint_output(printed, err);
     hint_replay(alloc, paths, report, err);
     let drawn = report_picture(words.picture.unwrap_or(""), &report.drawn, err);
@@ -107,7 +115,8 @@ pub fn report_outcome<O: Write, E: HintSink>(
     printed: &FailureProbe<Piped<'_, O>>,
     err: &mut E,
 ) -> Status
-    ensures { IsStatusOf outcome.now result }
+    ensures status { IsStatusOf outcome.now result }
+    ensures told { TellsSteps E.takes_hints E.failed E.contents E.fault_form words.now outcome.now err.old err.new }
 {
     match outcome {
         Ok(report) => report_steps(alloc, words, report, printed, err),

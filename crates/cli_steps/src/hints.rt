@@ -1,5 +1,7 @@
 //! Hints on the faults of `bpftap steps`, after the lines that report them.
 
+ghost use Rattle.std.specs.Prelude.{◌≡◌, false};
+
 use crate::outcome::{StepsInput, StepsReport};
 use cli_filter_hints::expressions::{hint_refusal, hint_text_fault};
 use cli_report::HintSink;
@@ -16,12 +18,9 @@ use std::alloc::Global;
 use tap::{Filter, MAX_CAPTURES, MAX_LISTENERS, Spec};
 
 /// Hints on a line of LISTENERS or SCRIPT that is refused.
-pub(crate) fn hint_line<E: HintSink>(
-    listeners: &[u8],
-    script: &[u8],
-    fault: LineFault,
-    err: &mut E,
-) {
+pub(crate) fn hint_line<E: HintSink>(listeners: &[u8], script: &[u8], fault: LineFault, err: &mut E)
+    ensures quiet { E.takes_hints err.old ≡ false → err.new ≡ err.old }
+{
     match fault {
         LineFault::Listeners(line) => hint_bad_line(listeners, line, LISTENERS_OF_STEPS, err),
         LineFault::Script(line) => hint_bad_line(script, line, SCRIPT, err),
@@ -30,7 +29,9 @@ pub(crate) fn hint_line<E: HintSink>(
 }
 
 /// A hint on too many listeners or captures.
-pub(crate) fn hint_too_many<E: HintSink>(err: &mut E) {
+pub(crate) fn hint_too_many<E: HintSink>(err: &mut E)
+    ensures quiet { E.takes_hints err.old ≡ false → err.new ≡ err.old }
+{
     give_hint(
         format_args!(
             "a replay takes at most {MAX_LISTENERS} listeners and {MAX_CAPTURES} captures"
@@ -40,7 +41,9 @@ pub(crate) fn hint_too_many<E: HintSink>(err: &mut E) {
 }
 
 /// Hints on a listener that is refused.
-fn hint_listener<E: HintSink>(alloc: Global, spec: &Spec, fault: tap::Fault, err: &mut E) {
+fn hint_listener<E: HintSink>(alloc: Global, spec: &Spec, fault: tap::Fault, err: &mut E)
+    ensures quiet { E.takes_hints err.old ≡ false → err.new ≡ err.old }
+{
     match (fault, &spec.filter) {
         (tap::Fault::Expression(_, fault), Filter::Text(text)) => {
             hint_text_fault(alloc, text.as_str(), fault, err);
@@ -60,7 +63,9 @@ fn hint_capture<E: HintSink>(
     number: usize,
     fault: Fault,
     err: &mut E,
-) {
+)
+    ensures quiet { E.takes_hints err.old ≡ false → err.new ≡ err.old }
+{
     if let (Some(path), Some(text)) = (paths.get(number), texts.get(number)) {
         give_hint(format_args!("{}:", EscapedPath(*path)), err);
         hint_capture_fault(text.as_slice(), fault, err);
@@ -74,7 +79,9 @@ fn hint_fault<E: HintSink>(
     input: &StepsInput,
     fault: tap::Fault,
     err: &mut E,
-) {
+)
+    ensures quiet { E.takes_hints err.old ≡ false → err.new ≡ err.old }
+{
     let specs = input.plan.specs.as_slice();
     match fault {
         tap::Fault::Capture(n, fault) => {
@@ -99,7 +106,9 @@ pub(crate) fn hint_replay<E: HintSink>(
     paths: &[&str],
     report: &StepsReport,
     err: &mut E,
-) {
+)
+    ensures quiet { E.takes_hints err.old ≡ false → err.new ≡ err.old }
+{
     if !err.takes_hints() {
         return;
     }

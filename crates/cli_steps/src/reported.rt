@@ -1,37 +1,37 @@
 //! The faults of a replay, as values that are reported.
 
-ghost use Rattle.std.specs.Prelude.{◌≡◌, None};
-ghost use Rattle.line_text.specs.Faults.{fault_line, line_fault_name};
-ghost use Rattle.fault_report.specs.Words.{one_word, place_word};
+ghost use Rattle.std.specs.Prelude.{◌≡◌, ℕ, Ok, Some, true};
+ghost use Rattle.savefile.specs.declared.fault.Fault.{Fault as RecordFault};
+ghost use Rattle.tap.specs.declared.fault.Fault.TheVariants.{Capture};
+ghost use Rattle.fault_report.specs.Reports.{IsDevice, TellsAmong, TellsMore, TellsOne};
+ghost use Rattle.fault_report.specs.declared.report.Subject.TheVariants.{StandardOutput};
+ghost use Rattle.cli_steps.specs.Reports.{IsEnd, IsLineReport, IsReplayReport};
 
 use crate::steps::Replayed;
 use cli_report::HintSink;
 use cli_report::failures::name_source;
 use fault_report::captures::{device, nth_capture_fault};
-use fault_report::reporting::report;
 use fault_report::{Report, Subject, Word};
 use line_text::LineFault;
-use std::io;
 use tap::Fault;
 
 /// The first bad line of LISTENERS or of SCRIPT.
 pub(crate) fn line_fault(fault: LineFault) -> Report<'static>
-    ensures name { result.name.now ≡ line_fault_name fault }
-    ensures words { result.words ≡ one_word (place_word (fault_line fault)) }
-    ensures subject { result.subject ≡ None }
+    ensures { IsLineReport fault result }
 {
     Report::placed(fault.name(), Word::place(fault.line()))
 }
 
-/// Why there is no replay, without the path of a capture.
-pub(crate) fn replay_fault(fault: Fault) -> Report<'static> {
+/// A fault of a replay of the captures at these paths.
+pub(crate) fn replay_fault<'a>(fault: Fault, paths: &[&'a str]) -> Report<'a>
+    ensures { IsReplayReport paths.now fault result }
+{
     let name = fault.name();
     match fault {
         Fault::TooMany | Fault::NoMemory => Report::named(name),
         Fault::NoListener(step) => Report::placed(name, Word::count(step)),
         Fault::Capture(capture, fault) => {
-            let place = Word::record(fault.place());
-            Report::of_part(name, capture as usize, fault.name(), place)
+            return nth_capture_fault(fault, capture as usize, paths);
         }
         Fault::Expression(listener, fault) => {
             let place = Word::place(fault.place());
@@ -46,35 +46,57 @@ pub(crate) fn replay_fault(fault: Fault) -> Report<'static> {
     }
 }
 
-/// Reports the fault of the capture of this number, of those at these paths. Of several, its path stands below that.
-fn report_capture<E: HintSink>(
+/// Reports the fault that a replay of the captures at these paths ended with. Below that of one of several captures stands its path.
+fn report_end<E: HintSink>(paths: &[&str], fault: Fault, err: &mut E)
+    ensures { TellsAmong E.takes_hints E.failed E.contents E.fault_form (IsReplayReport paths.now fault) err.old err.new }
+{
+    err.tell(&replay_fault(fault, paths));
+    if let Fault::Capture(capture, _) = fault {
+        let _ = name_source(paths, capture as usize, err);
+    }
+}
+
+/// Reports that standard output failed, if it did.
+fn report_unprinted<E: HintSink>(output_failed: bool, err: &mut E)
+    ensures told { output_failed ≡ true → TellsOne E.takes_hints E.failed E.contents E.fault_form (IsDevice StandardOutput) err.old err.new }
+    ensures more { TellsMore E.takes_hints E.failed E.contents E.fault_form err.old err.new }
+{
+    if output_failed {
+        err.tell(&device(Subject::StandardOutput));
+    }
+}
+
+/// Reports the capture that ended with a record fault, of those at these paths, if one did.
+fn report_record_fault<E: HintSink>(
     paths: &[&str],
-    number: usize,
-    fault: savefile::Fault,
+    record_fault: Option<(u32, savefile::Fault)>,
     err: &mut E,
-) -> io::Result<()> {
-    report(&nth_capture_fault(fault, number, paths), err)?;
-    name_source(paths, number, err)
+)
+    ensures told { (capture : ℕ) → (fault : RecordFault) → record_fault ≡ Some (capture, fault) → TellsAmong E.takes_hints E.failed E.contents E.fault_form (IsReplayReport paths.now (Capture capture fault)) err.old err.new }
+    ensures more { TellsMore E.takes_hints E.failed E.contents E.fault_form err.old err.new }
+{
+    if let Some((capture, fault)) = record_fault {
+        report_end(paths, Fault::Capture(capture, fault), err);
+    }
 }
 
 /// Reports what became of a replay of the captures at these paths: that standard output failed, and then the capture that ended with a
-/// record fault; or why there is no replay. If the first line is not taken, the second is not sent.
+/// record fault; or why there is no replay.
 pub(crate) fn report_played<E: HintSink>(
     paths: &[&str],
     output_failed: bool,
     replayed: &Result<Replayed, Fault>,
     err: &mut E,
-) -> io::Result<()> {
-    let replayed = match replayed {
-        Ok(replayed) => replayed,
-        Err(Fault::Capture(n, fault)) => return report_capture(paths, *n as usize, *fault, err),
-        Err(fault) => return report(&replay_fault(*fault), err),
-    };
-    if output_failed {
-        report(&device(Subject::StandardOutput), err)?;
-    }
-    match replayed.record_fault {
-        Some((n, fault)) => report_capture(paths, n as usize, fault, err),
-        None => Ok(()),
+)
+    ensures ended { (fault : Fault) → IsEnd replayed.now fault → TellsAmong E.takes_hints E.failed E.contents E.fault_form (IsReplayReport paths.now fault) err.old err.new }
+    ensures unprinted { (ended : Replayed) → replayed.now ≡ Ok ended → output_failed ≡ true → TellsAmong E.takes_hints E.failed E.contents E.fault_form (IsDevice StandardOutput) err.old err.new }
+    ensures more { TellsMore E.takes_hints E.failed E.contents E.fault_form err.old err.new }
+{
+    match replayed {
+        Ok(replayed) => {
+            report_unprinted(output_failed, err);
+            report_record_fault(paths, replayed.record_fault, err);
+        }
+        Err(fault) => report_end(paths, *fault, err),
     }
 }

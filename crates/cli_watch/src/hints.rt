@@ -4,13 +4,13 @@ ghost use Rattle.std.specs.Prelude.{◌≡◌, ◌≢◌, ◌<◌, [], IfOk, tru
 ghost use Rattle.line_text.specs.declared.form.LineForm.TheVariants.{Json};
 ghost use Rattle.line_text.specs.Sending.{Takes};
 ghost use Rattle.cli_text.specs.declared.status.Status.TheVariants.{Failed, Refused};
+ghost use Rattle.fault_report.specs.Reports.{TellsMore};
 ghost use Rattle.cli_watch.specs.Unseen.{unseen_json};
 
 use crate::frames::FrameCounts;
 use cli_report::stream::print_below;
 use cli_text::Status;
 use fault_report::FaultSink;
-use line_text::sending::send;
 use line_text::{Line, LineForm};
 use std::fmt::{Display, Formatter};
 use std::{fmt, io};
@@ -65,6 +65,7 @@ pub fn report_unseen<E: FaultSink>(
     ensures failed { status ≡ Failed → err.new ≡ err.old }
     ensures object { 0 < counts.unseen → status ≢ Refused → status ≢ Failed → E.fault_form err.old ≡ Json →
         Takes (E.contents err.old) (E.contents err.new) result (unseen_json counts) }
+    ensures more { TellsMore E.takes_hints E.failed E.contents E.fault_form err.old err.new }
 {
     if counts.unseen == 0 || status == Status::Refused || status == Status::Failed {
         return Ok(());
@@ -73,7 +74,7 @@ pub fn report_unseen<E: FaultSink>(
         LineForm::Text => print_below(UnseenText(counts), err),
         LineForm::Json => {
             let line = unseen_object(counts)?;
-            send(line.as_bytes(), err)
+            err.tell_line(line.as_bytes())
         }
     }
 }

@@ -1,12 +1,9 @@
 //! The faults of captures and of other files.
 
-ghost use Rattle.std.specs.Prelude.{◌≡◌, Some, codes, option_map, slice_get};
-ghost use Rattle.savefile.specs.Faults.{fault_name, fault_place};
-ghost use Rattle.savefile.specs.declared.fault.Fault.TheVariants as fault;
-ghost use Rattle.fault_report.specs.Captures.{capture_subject, is_of_capture, output_subject};
-ghost use Rattle.fault_report.specs.Words.{IsPart, one_word, place_word};
+ghost use Rattle.std.specs.Prelude.{◌≡◌, option_map, slice_get};
+ghost use Rattle.fault_report.specs.Captures.{IsCaptureFault, IsNthCaptureFault, IsOutputFault, capture_subject, is_of_capture};
+ghost use Rattle.fault_report.specs.Reports.{IsDevice};
 ghost use Rattle.fault_report.specs.declared.report.Subject.TheVariants.{Capture};
-ghost use Rattle.fault_report.specs.declared.word.Word.TheVariants.{Nothing};
 
 use crate::report::{Report, Subject};
 use crate::word::Word;
@@ -14,9 +11,7 @@ use savefile::Fault;
 
 /// That a file or a stream failed.
 pub fn device(subject: Subject<'_>) -> Report<'_>
-    ensures name { result.name.now ≡ fault_name fault.Device }
-    ensures words { result.words ≡ one_word Nothing }
-    ensures subject { result.subject ≡ Some subject.entry }
+    ensures { IsDevice subject.entry result }
 {
     Report::named(Fault::Device.name()).about(subject)
 }
@@ -46,9 +41,7 @@ fn subject_of(fault: Fault, path: &str) -> Option<Subject<'_>>
 
 /// The fault of the only capture, at this path: its line names the path only if the file failed.
 pub fn capture_fault(fault: Fault, path: &str) -> Report<'_>
-    ensures name { result.name.now ≡ fault_name fault }
-    ensures words { result.words ≡ one_word (place_word (fault_place fault)) }
-    ensures subject { result.subject ≡ capture_subject fault path.entry }
+    ensures { IsCaptureFault fault path.entry result }
 {
     Report {
         subject: subject_of(fault, path),
@@ -68,9 +61,7 @@ fn nth_subject<'a>(paths: &[&'a str], number: usize) -> Option<Subject<'a>>
 
 /// Why a capture at this path was not written further: the line names the path if the file failed.
 pub fn output_fault(fault: Fault, path: &str) -> Report<'_>
-    ensures name { result.name.now ≡ fault_name fault }
-    ensures words { result.words ≡ one_word (place_word (fault_place fault)) }
-    ensures subject { result.subject ≡ output_subject fault path.entry }
+    ensures { IsOutputFault fault path.entry result }
 {
     match fault {
         Fault::Device => device(Subject::File(path)),
@@ -80,9 +71,7 @@ pub fn output_fault(fault: Fault, path: &str) -> Report<'_>
 
 /// The fault of the capture of this number, of those at these paths: its line has the number.
 pub fn nth_capture_fault<'a>(fault: Fault, number: usize, paths: &[&'a str]) -> Report<'a>
-    ensures name { result.name.now ≡ codes "Capture" }
-    ensures words { IsPart number (fault_name fault) (place_word (fault_place fault)) result.words }
-    ensures subject { result.subject ≡ option_map Capture (slice_get paths.now number) }
+    ensures { IsNthCaptureFault fault number paths.now result }
 {
     Report {
         subject: nth_subject(paths, number),

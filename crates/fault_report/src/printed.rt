@@ -16,7 +16,7 @@ use std::fmt::{Display, Formatter};
 pub struct ReportText<'r, 'a>(pub &'r Report<'a>);
 
 impl Display for ReportText<'_, '_> {
-    ghost output = { λ report. report_text report.0.now };
+    ghost output = { λ report. Some (report_text report.0.now) };
 
     fn fmt<W: fmt::Write>(&self, f: &mut Formatter<W>) -> fmt::Result {
         let name = self.0.name;
@@ -96,7 +96,7 @@ pub(crate) struct Printed<'r, 'a> {
 }
 
 impl Display for Printed<'_, '_> {
-    ghost output = { λ printed. reported_text printed.form printed.report.now };
+    ghost output = { λ printed. Some (reported_text printed.form printed.report.now) };
 
     fn fmt<W: fmt::Write>(&self, f: &mut Formatter<W>) -> fmt::Result {
         match self.form {

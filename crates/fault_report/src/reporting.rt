@@ -1,11 +1,14 @@
 //! Reports faults.
 
-ghost use Rattle.std.specs.Prelude.{◌≡◌, false, IfOk, IfSome, OnOk};
+ghost use Rattle.std.specs.Prelude.{◌≡◌, ◌≢◌, false, IfOk, OnOk};
 ghost use Rattle.std.specs.Io.KnownBytes.{Appends};
+ghost use Rattle.std.specs.IoError.{error_kind};
 ghost use Rattle.cli_text.specs.declared.status.Status.TheVariants.{Failed, Refused};
 ghost use Rattle.cli_text.specs.Telling.{fault_status, print_status_of};
 ghost use Rattle.line_text.specs.Sending.{Takes};
-ghost use Rattle.fault_report.specs.Reports.{has_path, reported};
+ghost use Rattle.fault_report.specs.Captures.{IsCaptureFault, IsNthCaptureFault};
+ghost use Rattle.fault_report.specs.Reports.{IsDevice, IsNoMemory, Tells, TellsMore, TellsOne, has_path, reported};
+ghost use Rattle.fault_report.specs.declared.report.Subject.TheVariants.{File, StandardOutput};
 
 use crate::captures::{capture_fault, device, nth_capture_fault};
 use crate::printed::Printed;
@@ -21,7 +24,7 @@ use std::io::{ErrorKind, Write};
 
 /// The line of a report, if it has at most 512 bytes.
 fn line_of(form: LineForm, report: &Report<'_>) -> io::Result<Line>
-    ensures { IfOk result (λ line. IfSome (reported form report.now) (λ text. line ≡ text)) }
+    ensures { IfOk result (λ line. line ≡ reported form report.now) }
 {
     let mut line = Line::new();
     writeln!(line, "{}", Printed { form, report })?;
@@ -42,9 +45,9 @@ fn has_path(form: LineForm, report: &Report<'_>) -> bool
 /// Reports a fault in a line of its own, or as an object: in one piece if it has at most 512 bytes.
 /// What has a path in it is reported whatever its length.
 pub fn report_in<E: Write>(form: LineForm, report: &Report<'_>, err: &mut E) -> io::Result<()>
-    ensures whole { OnOk result (IfSome (reported form report.now) (Appends (E.contents err.old) (E.contents err.new))) }
+    ensures whole { OnOk result (Appends (E.contents err.old) (E.contents err.new) (reported form report.now)) }
     // Without a path it takes a prefix if standard error fails.
-    ensures part { has_path form report.now.subject ≡ false → IfSome (reported form report.now) (Takes (E.contents err.old) (E.contents err.new) result) }
+    ensures part { has_path form report.now.subject ≡ false → Takes (E.contents err.old) (E.contents err.new) result (reported form report.now) }
 {
     match line_of(form, report) {
         Ok(line) => send(line.as_bytes(), err),
@@ -53,32 +56,28 @@ pub fn report_in<E: Write>(form: LineForm, report: &Report<'_>, err: &mut E) -> 
     }
 }
 
-/// Reports a fault in the form that `err` takes: a line of text, or an object of JSON.
-pub fn report<E: FaultSink>(fault: &Report<'_>, err: &mut E) -> io::Result<()>
-    ensures { OnOk result (IfSome (reported (E.fault_form err.old) fault.now) (Appends (E.contents err.old) (E.contents err.new))) }
-{
-    report_in(err.fault_form(), fault, err)
-}
-
 /// Reports a fault, and gives the status back. If standard error itself fails, only the status is
 /// left.
 pub fn report_fault<E: FaultSink>(fault: &Report<'_>, status: Status, err: &mut E) -> Status
-    ensures { result ≡ status }
+    ensures status { result ≡ status }
+    ensures told { Tells E.takes_hints E.failed E.contents E.fault_form err.old err.new (reported (E.fault_form err.old) fault.now) }
 {
-    let _ = report(fault, err);
+    err.tell(fault);
     status
 }
 
 /// Reports that memory was refused.
 pub fn report_memory<E: FaultSink>(err: &mut E) -> Status
-    ensures { result ≡ Refused }
+    ensures status { result ≡ Refused }
+    ensures told { TellsOne E.takes_hints E.failed E.contents E.fault_form IsNoMemory err.old err.new }
 {
     report_fault(&Report::named(Fault::NoMemory.name()), Status::Refused, err)
 }
 
 /// Reports that the file or device of a path failed.
 pub fn report_device<E: FaultSink>(path: &str, err: &mut E) -> Status
-    ensures { result ≡ Failed }
+    ensures status { result ≡ Failed }
+    ensures told { TellsOne E.takes_hints E.failed E.contents E.fault_form (IsDevice (File path.entry)) err.old err.new }
 {
     report_fault(&device(Subject::File(path)), Status::Failed, err)
 }
@@ -86,7 +85,8 @@ pub fn report_device<E: FaultSink>(path: &str, err: &mut E) -> Status
 /// Reports that standard output failed, if it did, and returns the exit status of printing. If
 /// nobody reads what is printed any more, as after `| head`, it reports nothing.
 pub fn report_output<E: FaultSink>(printed: &io::Result<()>, err: &mut E) -> Status
-    ensures { result ≡ print_status_of printed.now }
+    ensures status { result ≡ print_status_of printed.now }
+    ensures more { TellsMore E.takes_hints E.failed E.contents E.fault_form err.old err.new }
 {
     match printed {
         Ok(()) => Status::Clean,
@@ -97,7 +97,10 @@ pub fn report_output<E: FaultSink>(printed: &io::Result<()>, err: &mut E) -> Sta
 /// Reports that standard output failed, and returns the exit status. If nobody reads what is
 /// printed any more, it reports nothing.
 pub fn report_unwritten<E: FaultSink>(error: &io::Error, err: &mut E) -> Status
-    ensures { result ≡ Failed }
+    ensures status { result ≡ Failed }
+    ensures gone { error_kind error.now ≡ ErrorKind.BrokenPipe → err.new ≡ err.old }
+    ensures told { error_kind error.now ≢ ErrorKind.BrokenPipe → TellsOne E.takes_hints E.failed E.contents E.fault_form (IsDevice StandardOutput) err.old err.new }
+    ensures more { TellsMore E.takes_hints E.failed E.contents E.fault_form err.old err.new }
 {
     match error.kind() {
         ErrorKind::BrokenPipe => Status::Failed,
@@ -107,7 +110,8 @@ pub fn report_unwritten<E: FaultSink>(error: &io::Error, err: &mut E) -> Status
 
 /// Reports the fault of the only capture, at this path. Returns the exit status.
 pub fn report_capture<E: FaultSink>(fault: Fault, path: &str, err: &mut E) -> Status
-    ensures { result ≡ fault_status fault }
+    ensures status { result ≡ fault_status fault }
+    ensures told { TellsOne E.takes_hints E.failed E.contents E.fault_form (IsCaptureFault fault path.entry) err.old err.new }
 {
     report_fault(&capture_fault(fault, path), fault_status(fault), err)
 }
@@ -120,7 +124,8 @@ pub fn report_nth_capture<E: FaultSink>(
     paths: &[&str],
     err: &mut E,
 ) -> Status
-    ensures { result ≡ fault_status fault }
+    ensures status { result ≡ fault_status fault }
+    ensures told { TellsOne E.takes_hints E.failed E.contents E.fault_form (IsNthCaptureFault fault number paths.now) err.old err.new }
 {
     report_fault(
         &nth_capture_fault(fault, number, paths),

@@ -1,10 +1,15 @@
 //! Where faults are reported.
 
-ghost use Rattle.std.specs.Prelude.{◌≡◌};
+ghost use Rattle.std.specs.Prelude.{◌≡◌, Bool, true, false};
 ghost use Rattle.line_text.specs.declared.form.LineForm.{LineForm as Form};
 ghost use Rattle.line_text.specs.declared.form.LineForm.TheVariants.{Text};
+ghost use Rattle.line_text.specs.Sending.{Takes};
+ghost use Rattle.fault_report.specs.Reports.{Tells, reported};
 
+use crate::report::Report;
+use crate::reporting::report_in;
 use line_text::LineForm;
+use line_text::sending::send;
 use std::io;
 use std::io::Write;
 
@@ -13,9 +18,25 @@ pub trait FaultSink: Write {
     /// In which form a fault is reported.
     ghost fault_form: { Self → Form };
 
+    /// Whether a fault that was reported may lack in what it took: it failed, or contracts don't
+    /// know whether it did.
+    ghost failed: { Self → Bool } = { λ _. true };
+
+    /// Whether hints are wanted below the lines of faults.
+    ghost takes_hints: { Self → Bool } = { λ _. false };
+
     /// In which form a fault is reported: as a line of text, or as an object of JSON.
     fn fault_form(&self) -> LineForm
         ensures { result ≡ fault_form self.now };
+
+    /// Reports a fault. That it could not be written is remembered, and not reported.
+    fn tell(&mut self, fault: &Report<'_>)
+        ensures told { Tells takes_hints failed Self.contents fault_form self.old self.new (reported (fault_form self.old) fault.now) };
+
+    /// Writes a line below that of a fault. The error is remembered too.
+    fn tell_line(&mut self, line: &[u8]) -> io::Result<()>
+        ensures taken { Takes (Self.contents self.old) (Self.contents self.new) result line.now }
+        ensures told { Tells takes_hints failed Self.contents fault_form self.old self.new line.now };
 }
 
 /// Memory takes lines of text.
@@ -24,6 +45,14 @@ impl FaultSink for Vec<u8> {
 
     fn fault_form(&self) -> LineForm {
         LineForm::Text
+    }
+
+    fn tell(&mut self, fault: &Report<'_>) {
+        let _ = report_in(LineForm::Text, fault, self);
+    }
+
+    fn tell_line(&mut self, line: &[u8]) -> io::Result<()> {
+        send(line, self)
     }
 }
 
@@ -46,5 +75,13 @@ impl<E: Write> FaultSink for TextSink<'_, E> {
 
     fn fault_form(&self) -> LineForm {
         LineForm::Text
+    }
+
+    fn tell(&mut self, fault: &Report<'_>) {
+        let _ = report_in(LineForm::Text, fault, self);
+    }
+
+    fn tell_line(&mut self, line: &[u8]) -> io::Result<()> {
+        send(line, self)
     }
 }

@@ -7,9 +7,10 @@ use cli_cut::print::check;
 use cli_cut::report::report_print;
 use cli_text::Status;
 use cli_text::report::report_words;
-use fault_report::reporting::{report_device, report_fault};
+use fault_report::reporting::{report_device, report_fault, report_in};
 use fault_report::{FaultSink, Report, Word};
 use line_text::LineForm;
+use line_text::sending::send;
 use std::io;
 use std::io::{ErrorKind, Write};
 use std::process::Abort;
@@ -42,6 +43,14 @@ impl FaultSink for BreakingCounter {
 
     fn fault_form(&self) -> LineForm {
         LineForm::Text
+    }
+
+    fn tell(&mut self, fault: &Report<'_>) {
+        let _ = report_in(LineForm::Text, fault, self);
+    }
+
+    fn tell_line(&mut self, line: &[u8]) -> io::Result<()> {
+        send(line, self)
     }
 }
 

@@ -1,5 +1,7 @@
 //! What is printed and reported of a split.
 
+ghost use Rattle.std.specs.Prelude.{false};
+
 use crate::same::same;
 use cli_split::line::line_for;
 use cli_split::part::PartEnd;
@@ -7,10 +9,12 @@ use cli_split::plan::read_plan;
 use cli_split::report::{SplitFiles, report_split};
 use cli_split::split::{SplitEnd, Stop};
 use cli_text::Status;
+use cli_watch::output::PrintSink;
 use line_text::LineForm;
 use pcap_cut::cut::Tally;
 use savefile::Fault;
 use std::alloc::Global;
+use std::io;
 use std::io::Write;
 use std::process::Abort;
 use test_fixtures::devices::{BreakingWriter, UnflushedWriter};
@@ -45,8 +49,30 @@ fn end_of(
     }
 }
 
+/// Prints into a writer that is asked to hand on.
+#[derive(Drop)]
+struct Printer<W>(W);
+
+impl<W: Write> Write for Printer<W> {
+    fn write(&mut self, from: &[u8]) -> io::Result<usize> {
+        self.0.write(from)
+    }
+
+    fn flush(&mut self) -> io::Result<()> {
+        self.0.flush()
+    }
+}
+
+impl<W: Write> PrintSink for Printer<W> {
+    ghost waits = { λ _. false };
+
+    fn hand_on(&mut self) -> io::Result<()> {
+        self.flush()
+    }
+}
+
 /// What is reported of an end, the status, and what is printed into a writer.
-fn told<O: Write>(
+fn told<O: PrintSink>(
     rt: &(impl Abort + AllocGlobal),
     form: LineForm,
     end: SplitEnd<(), ()>,
@@ -150,11 +176,11 @@ fn whole_parts_are_printed_and_the_others_reported(rt: HostRuntime) {
 #[test]
 fn standard_output_that_fails_is_reported_first(rt: HostRuntime) {
     let taken = Vec::new(rt.alloc());
-    let mut out = BreakingWriter { taken, room: 10 };
+    let mut out = Printer(BreakingWriter { taken, room: 10 });
     let stop = Err(Stop::AtRecord(0, Fault::TooLong(9)));
     let end = end_of(&rt, [Ok(()), Ok(())], stop);
     let (status, err) = told(&rt, LineForm::Text, end, &mut out);
-    same(&rt, out.taken.as_slice(), b"a.pcap 0 o".as_slice());
+    same(&rt, out.0.taken.as_slice(), b"a.pcap 0 o".as_slice());
     let wanted = b"bpftap: Device standard output\nbpftap: Capture 0 TooLong 9\n";
     same(
         &rt,
@@ -166,10 +192,10 @@ fn standard_output_that_fails_is_reported_first(rt: HostRuntime) {
 #[test]
 fn lines_that_are_not_sent_on_are_a_device_fault(rt: HostRuntime) {
     let taken = Vec::new(rt.alloc());
-    let mut out = UnflushedWriter { taken };
+    let mut out = Printer(UnflushedWriter { taken });
     let end = end_of(&rt, [Ok(()), Ok(())], Ok(()));
     let (status, err) = told(&rt, LineForm::Text, end, &mut out);
-    same(&rt, out.taken.as_slice(), BOTH.as_bytes());
+    same(&rt, out.0.taken.as_slice(), BOTH.as_bytes());
     let wanted = b"bpftap: Device standard output\n";
     same(
         &rt,

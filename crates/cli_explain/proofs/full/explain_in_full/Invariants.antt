@@ -1,5 +1,6 @@
 use Rattle.std.proofs.Common.{◌≡◌, ◌+◌, ◌≤◌, length, true}
 use Rattle.std.specs.List.{AllByRecursion}
+use Rattle.fault_report.specs.Reports.{TellsMore}
 use Rattle.cli_store.specs.Files.{Keeps}
 use Rattle.cli_explain.proofs.InFull.{Leads}
 use Rattle.cli_explain.proofs.full.explain_in_full.Given as goal
@@ -12,7 +13,8 @@ invariant-loop-capture g l =
     (goal.iterator-loop-capture g).can_next l.capture-iterator × (goal.iterator-loop-capture g).is_finite l.capture-iterator
     × Keeps (F.place l.fn.files) (F.place l.files) (F.text l.fn.files) (F.text l.files) (F.pending l.fn.files) (F.pending l.files)
     × (l.number + length l.capture-iterator.rest.items ≤ length l.fn.captures.items)
+    × TellsMore g.E.FaultSink.takes_hints g.E.FaultSink.failed g.E.Write.contents g.E.FaultSink.fault_form l.fn.err l.err
     × (F.known ≡ true → AllByRecursion works l.fn.captures.items → AllByRecursion works l.capture-iterator.rest.items)
     × (F.known ≡ true → AllByRecursion works l.fn.captures.items
-    → Leads g.F.Input.Source.left g.O.Write.contents l.asked.filter.form l.asked.filter.filter.now l.asked.places.first l.asked.places.last l.fn.captures.items l.fn.out (F.failed l.files)
-    l.number l.goes_on l.status l.capture-iterator.rest.items l.out)
+    → Leads g.F.Input.Source.left g.O.Write.contents g.E.FaultSink.takes_hints g.E.FaultSink.failed g.E.Write.contents g.E.FaultSink.fault_form l.asked.paths.now l.asked.filter.form l.asked.filter.filter.now l.asked.places.first l.asked.places.last l.fn.captures.items l.fn.out l.fn.err (F.failed l.files)
+    l.err l.number l.goes_on l.status l.capture-iterator.rest.items l.out)

@@ -1,4 +1,7 @@
 use Rattle.std.proofs.Common.{◌∙◌, subst, sym}
+use Rattle.fault_report.proofs.Telling.{among-quiet}
+use Rattle.fault_report.specs.Reports.{TellsAmong}
+use Rattle.cli_explain.proofs.InFull.{found-later}
 use Rattle.cli_explain.specs.Range.{FindsRange}
 use Rattle.cli_explain.proofs.full.explain_places_of.Goals as goal
 
@@ -9,9 +12,10 @@ returns-in-Ok-true-clause-finds g c tells works =
       call.result,
       subst (λ form. FindsRange g.F.Input.Source.left c.args.capture form asked.filter.filter.now asked.places.first asked.places.last (g.O.Write.contents c.args.out.now) (g.O.Write.contents call.new.out) call.result)
           c.of_capture-form.ensures call.ensures.finds,
-      c.report_one-status.ensures,
+      c.report_one-status.ensures.status,
       c.goes_on_after-goes_on.ensures,
       (λ device. c.done-noted.ensures.failed tells (λ none. call.ensures.source_broke.0 device (none ∙ sym works))),
+      c.report_one-status.ensures.told,
     )
 
 pub returns-in-Ok-false-clause-finds : goal.returns-in-Ok-false-clause-finds
@@ -21,9 +25,11 @@ returns-in-Ok-false-clause-finds g c tells works =
       call.result,
       subst (λ form. FindsRange g.F.Input.Source.left c.args.capture form asked.filter.filter.now asked.places.first asked.places.last (g.O.Write.contents c.args.out.now) (g.O.Write.contents call.new.out) call.result)
           c.of_capture-form.ensures call.ensures.finds,
-      c.report_one-status.ensures,
+      c.report_one-status.ensures.status,
       c.goes_on_after-goes_on.ensures,
       (λ device. c.done-noted.ensures.failed tells (λ none. call.ensures.source_broke.0 device (none ∙ sym works))),
+      found-later (λ says. TellsAmong g.E.FaultSink.takes_hints g.E.FaultSink.failed g.E.Write.contents g.E.FaultSink.fault_form says c.args.err.now c.report_one-status.new.err) (λ says. TellsAmong g.E.FaultSink.takes_hints g.E.FaultSink.failed g.E.Write.contents g.E.FaultSink.fault_form says c.args.err.now c.hint_place.new.err) asked.paths.now c.args.number asked.places.first call.result.read call.result.printed
+          (λ says told. among-quiet g.E.FaultSink.takes_hints g.E.FaultSink.failed g.E.Write.contents g.E.FaultSink.fault_form says c.args.err.now c.report_one-status.new.err c.hint_place.new.err told c.hint_place.ensures.quiet) c.report_one-status.ensures.told,
     )
 
 pub returns-in-Err-clause-finds : goal.returns-in-Err-clause-finds
@@ -33,7 +39,9 @@ returns-in-Err-clause-finds g c tells works =
       call.result,
       subst (λ form. FindsRange g.F.Input.Source.left c.args.capture form asked.filter.filter.now asked.places.first asked.places.last (g.O.Write.contents c.args.out.now) (g.O.Write.contents call.new.out) call.result)
           c.of_capture-form.ensures call.ensures.finds,
-      c.report_one-status.ensures,
+      c.report_one-status.ensures.status,
       c.goes_on_after-goes_on.ensures,
       (λ device. c.done-noted.ensures.failed tells (λ none. call.ensures.source_broke.0 device (none ∙ sym works))),
+      found-later (λ says. TellsAmong g.E.FaultSink.takes_hints g.E.FaultSink.failed g.E.Write.contents g.E.FaultSink.fault_form says c.args.err.now c.report_one-status.new.err) (λ says. TellsAmong g.E.FaultSink.takes_hints g.E.FaultSink.failed g.E.Write.contents g.E.FaultSink.fault_form says c.args.err.now c.hint_capture.new.err) asked.paths.now c.args.number asked.places.first call.result.read call.result.printed
+          (λ says told. among-quiet g.E.FaultSink.takes_hints g.E.FaultSink.failed g.E.Write.contents g.E.FaultSink.fault_form says c.args.err.now c.report_one-status.new.err c.hint_capture.new.err told c.hint_capture.ensures.quiet) c.report_one-status.ensures.told,
     )

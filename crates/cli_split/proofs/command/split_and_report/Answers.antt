@@ -3,7 +3,7 @@ use Rattle.cli_split.specs.declared.outcome.SplitOutcome.TheVariants.{Ended, Ref
 use Rattle.cli_split.proofs.command.split_and_report.Goals as goal
 
 pub returns-in-Refused-clause-splits : goal.returns-in-Refused-clause-splits
-returns-in-Refused-clause-splits g c tells = (Refused c.in-Refused.refusal, c.in-Refused.ensures.splits tells, (c.report_refused.ensures, refl))
+returns-in-Refused-clause-splits g c tells = (Refused c.in-Refused.refusal, c.in-Refused.ensures.splits tells, (c.report_refused.ensures.status, refl), c.report_refused.ensures.told)
 
 pub returns-in-Ended-clause-splits : goal.returns-in-Ended-clause-splits
-returns-in-Ended-clause-splits g c tells = (Ended c.in-Ended.report, c.in-Ended.ensures.splits tells, c.report_ended.ensures)
+returns-in-Ended-clause-splits g c tells = (Ended c.in-Ended.report, c.in-Ended.ensures.splits tells, c.report_ended.ensures.prints, c.report_ended.ensures.told)

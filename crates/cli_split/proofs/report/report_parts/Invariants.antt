@@ -1,9 +1,12 @@
 use Rattle.std.proofs.Common.{◌≡◌, fold, take}
+use Rattle.fault_report.specs.Reports.{TellsMore}
 use Rattle.cli_text.specs.Status.{greater}
 use Rattle.cli_text.specs.declared.status.Status.TheVariants.{Clean}
 use Rattle.cli_split.specs.Statuses.{written_status}
 use Rattle.cli_split.proofs.report.report_parts.Given as goal
 
--- the greatest status of those before the index
+-- the greatest status of those before the index, and what was reported of them
 abbrev pub invariant-loop-n : goal.invariant-loop-n
-invariant-loop-n g l = l.status ≡ fold (λ status part. greater status (written_status part.written)) Clean (take l.n l.parts)
+invariant-loop-n g l =
+    (l.status ≡ fold (λ status part. greater status (written_status part.written)) Clean (take l.n l.parts))
+    × TellsMore g.E.FaultSink.takes_hints g.E.FaultSink.failed g.E.Write.contents g.E.FaultSink.fault_form l.fn.err l.err

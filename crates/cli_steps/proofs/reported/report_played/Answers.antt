@@ -1,0 +1,24 @@
+use Rattle.fault_report.proofs.Telling.{among-more, more-more, one-among}
+use Rattle.fault_report.specs.Reports.{IsDevice}
+use Rattle.fault_report.specs.declared.report.Subject.TheVariants.{StandardOutput}
+use Rattle.cli_steps.proofs.Reporting.{ended-after}
+use Rattle.cli_steps.proofs.reported.report_played.Goals as goal
+
+pub returns-in-Ok-clause-ended : goal.returns-in-Ok-clause-ended
+returns-in-Ok-clause-ended g c = λ fault is.
+    let S = g.E.FaultSink in
+    ended-after S.takes_hints S.failed g.E.Write.contents S.fault_form c.args.paths.now c.in-Ok.replayed c.args.err.now c.report_unprinted.new.err c.report_record_fault.new.err
+    c.report_unprinted.ensures.more c.report_record_fault.ensures.told fault (rw c.in-Ok.is at is)
+
+pub returns-in-Ok-clause-unprinted : goal.returns-in-Ok-clause-unprinted
+returns-in-Ok-clause-unprinted g c = λ ended is fails.
+    let S = g.E.FaultSink in
+    let says = IsDevice StandardOutput in
+    among-more S.takes_hints S.failed g.E.Write.contents S.fault_form says c.args.err.now c.report_unprinted.new.err c.report_record_fault.new.err
+    (one-among S.takes_hints S.failed g.E.Write.contents S.fault_form says c.args.err.now c.report_unprinted.new.err (c.report_unprinted.ensures.told fails)) c.report_record_fault.ensures.more
+
+pub returns-in-Ok-clause-more : goal.returns-in-Ok-clause-more
+returns-in-Ok-clause-more g c =
+    let S = g.E.FaultSink in
+    more-more S.takes_hints S.failed g.E.Write.contents S.fault_form c.args.err.now c.report_unprinted.new.err c.report_record_fault.new.err
+    c.report_unprinted.ensures.more c.report_record_fault.ensures.more
