@@ -6,3 +6,4 @@ pub mod Visits
 pub mod Stopping
 pub mod Out
 pub mod Asking
+pub mod Telling

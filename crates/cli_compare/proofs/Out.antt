@@ -17,12 +17,14 @@ use Rattle.filter_same.specs.declared.witness.Witness.{Witness}
 use Rattle.line_text.specs.Sending.{TakesPart}
 use Rattle.cli_text.specs.Status.{greater}
 use Rattle.cli_text.specs.declared.status.Status.{Status}
+use Rattle.fault_report.specs.declared.report.Report.{Report}
 use Rattle.cli_store.specs.Files.{BeginsAt, Places, StoresAt, Texts}
 use Rattle.cli_args.specs.declared.compare.CompareWords.{CompareWords}
 use Rattle.cli_answers.specs.declared.printing.Unprinted.{Unprinted}
 use Rattle.cli_compare.specs.declared.outcome.OutFault.{OutFault}
 use Rattle.cli_compare.specs.declared.pair.FilterPair.{FilterPair}
 use Rattle.cli_compare.specs.Deciding.{answer_status, packet_of_witness}
+use Rattle.cli_compare.specs.Telling.{TellsOut}
 use Rattle.cli_compare.specs.Comparing.{BrokeOffAt, DecidesPair, IsOut, IsOutStatus, KeepsOthers, WritesPacket, out_of, savefile_of}
 use Rattle.cli_compare.proofs.Sent.{begins_through, header-size}
 
@@ -75,22 +77,22 @@ out-is after old new failed at w (Err error) written all part only device long s
 -- ---- The status
 
 -- a packet was written to OUT
-pub writes-one : (place : Places) (old new : Texts) (failed : Bool) (output : Option (Bor (List ℕ))) (packet : Option Witness) (answer : Result Sameness Unprinted) (path : Bor (List ℕ)) (w : Witness) (wrote : Result (Unit {0}) OutFault) (status ended : Status) →
-    output ≡ Some path → packet ≡ Some w → IsOut old new failed (place path.now) w wrote → IsOutStatus wrote status → ended ≡ greater (answer_status answer) status →
-    WritesPacket place old new failed output packet answer ended
-writes-one place old new failed output packet answer path w wrote status ended asked shown is told greatest =
-    rw (asked, shown) (wrote, status, is, told, greatest)
+pub writes-one : (place : Places) (old new : Texts) (failed : Bool) (output : Option (Bor (List ℕ))) (packet : Option Witness) (answer : Result Sameness Unprinted) (among : (Report → Type 0) → Type 0) (path : Bor (List ℕ)) (w : Witness) (wrote : Result (Unit {0}) OutFault) (status ended : Status) →
+    output ≡ Some path → packet ≡ Some w → IsOut old new failed (place path.now) w wrote → IsOutStatus wrote status → TellsOut among path wrote → ended ≡ greater (answer_status answer) status →
+    WritesPacket place old new failed output packet answer among ended
+writes-one place old new failed output packet answer among path w wrote status ended asked shown is ends told greatest =
+    rw (asked, shown) (wrote, status, is, ends, told, greatest)
 
 -- or there is no OUT
-pub writes-nowhere : (place : Places) (old new : Texts) (failed : Bool) (output : Option (Bor (List ℕ))) (packet : Option Witness) (answer : Result Sameness Unprinted) (ended : Status) →
-    output ≡ None → new ≡ old → ended ≡ answer_status answer → WritesPacket place old new failed output packet answer ended
-writes-nowhere place old new failed output packet answer ended asked same is = rw asked (same, is)
+pub writes-nowhere : (place : Places) (old new : Texts) (failed : Bool) (output : Option (Bor (List ℕ))) (packet : Option Witness) (answer : Result Sameness Unprinted) (among : (Report → Type 0) → Type 0) (ended : Status) →
+    output ≡ None → new ≡ old → ended ≡ answer_status answer → WritesPacket place old new failed output packet answer among ended
+writes-nowhere place old new failed output packet answer among ended asked same is = rw asked (same, is)
 
 -- or no packet
-pub writes-none : (place : Places) (old new : Texts) (failed : Bool) (output : Option (Bor (List ℕ))) (packet : Option Witness) (answer : Result Sameness Unprinted) (ended : Status) →
-    packet ≡ None → new ≡ old → ended ≡ answer_status answer → WritesPacket place old new failed output packet answer ended
-writes-none place old new failed None packet answer ended shown same is = (same, is)
-writes-none place old new failed (Some output) packet answer ended shown same is = rw shown (same, is)
+pub writes-none : (place : Places) (old new : Texts) (failed : Bool) (output : Option (Bor (List ℕ))) (packet : Option Witness) (answer : Result Sameness Unprinted) (among : (Report → Type 0) → Type 0) (ended : Status) →
+    packet ≡ None → new ≡ old → ended ≡ answer_status answer → WritesPacket place old new failed output packet answer among ended
+writes-none place old new failed None packet answer among ended shown same is = (same, is)
+writes-none place old new failed (Some output) packet answer among ended shown same is = rw shown (same, is)
 
 -- ---- Which files changed
 
@@ -108,8 +110,8 @@ pub others-before : (place here : Places) (old text new : Texts) (output : Optio
 others-before place here old text new output leads has others =
     subst (λ (p : Places). KeepsOthers p old new output) leads (subst (λ (t : Texts). KeepsOthers here t new output) has others)
 
-pub decides-before : (place here : Places) (old text new : Texts) (failed : Bool) (words : CompareWords) (pair : FilterPair) (out-old out-new : Option (List ℕ)) (ended : Status) → here ≡ place → text ≡ old →
-    DecidesPair here text new failed words pair out-old out-new ended → DecidesPair place old new failed words pair out-old out-new ended
-decides-before place here old text new failed words pair out-old out-new ended leads has decides =
-    subst (λ (p : Places). DecidesPair p old new failed words pair out-old out-new ended) leads
-    (subst (λ (t : Texts). DecidesPair here t new failed words pair out-old out-new ended) has decides)
+pub decides-before : (place here : Places) (old text new : Texts) (failed : Bool) (words : CompareWords) (pair : FilterPair) (among : (Report → Type 0) → Type 0) (out-old out-new : Option (List ℕ)) (ended : Status) → here ≡ place → text ≡ old →
+    DecidesPair here text new failed words pair among out-old out-new ended → DecidesPair place old new failed words pair among out-old out-new ended
+decides-before place here old text new failed words pair among out-old out-new ended leads has decides =
+    subst (λ (p : Places). DecidesPair p old new failed words pair among out-old out-new ended) leads
+    (subst (λ (t : Texts). DecidesPair here t new failed words pair among out-old out-new ended) has decides)

@@ -1,5 +1,5 @@
--- What `bpftap compare` prints of files, what OUT has afterwards, and its exit status. Read it from
--- the last definition up.
+-- What `bpftap compare` prints of files and reports, what OUT has afterwards, and its exit status.
+-- Read it from the last definition up.
 use Rattle.std.specs.Prelude.{◌≡◌, ◌≢◌, ◌⊎◌, ◌+◌, ◌^◌, ◌<◌, ℕ, Bool, true, false, List, [], ◌∷◌, ◌++◌, length, Option, Some, None, Result, Ok, Err, IfOk, IsErr, IsOk, All, option_copied}
 use Rattle.std.specs.Borrow.{Bor}
 use Rattle.std.specs.List.{AllZip}
@@ -13,6 +13,7 @@ use Rattle.savefile.specs.declared.header.Order.TheVariants.{Little}
 use Rattle.savefile.specs.declared.header.Unit.TheVariants.{Micro}
 use Rattle.filter_same.specs.declared.sameness.Sameness.{Sameness}
 use Rattle.filter_same.specs.declared.witness.Witness.{Witness}
+use Rattle.fault_report.specs.declared.report.Report.{Report}
 use Rattle.cli_text.specs.Status.{greater}
 use Rattle.cli_text.specs.declared.status.Status.{Status}
 use Rattle.cli_text.specs.declared.status.Status.TheVariants.{Clean, Failed}
@@ -30,7 +31,7 @@ use Rattle.cli_answers.specs.declared.form.PacketForm.{PacketForm}
 use Rattle.cli_answers.specs.Asked.{IsAskedFor, IsCaptureAt, IsFileStatus, IsUnaskedStatus, IsUngiven, IsUnopened}
 use Rattle.cli_answers.specs.Captures.{SeeksIn}
 use Rattle.cli_answers.specs.Counts.{asked_form}
-use Rattle.cli_answers.specs.Telling.{printed_status, stop_status}
+use Rattle.cli_answers.specs.Telling.{TellsEnd, TellsStop, TellsUnprinted, printed_status, stop_status}
 use Rattle.cli_compare.specs.declared.asked.PairAsked.{PairAsked}
 use Rattle.cli_compare.specs.declared.asked.Uncompared.{Uncompared}
 use Rattle.cli_compare.specs.declared.asked.Uncompared.TheVariants.{First, Second, Files}
@@ -44,7 +45,7 @@ use Rattle.cli_compare.specs.Captures.{ComparesIn}
 use Rattle.cli_compare.specs.Deciding.{HoldsOfPair, Prints, answer_status, packet_of, packet_of_witness}
 use Rattle.cli_compare.specs.Pairs.{differs}
 use Rattle.cli_compare.specs.Printed.{counts_in}
-use Rattle.cli_compare.specs.Telling.{sameness_status}
+use Rattle.cli_compare.specs.Telling.{IsRefusedReport, TellsOut, line_of_refusal, sameness_status}
 
 -- ---- What is asked
 
@@ -101,10 +102,12 @@ IsRefusedStatus (First reason) ended = IsUnaskedStatus reason ended
 IsRefusedStatus (Second reason) ended = IsUnaskedStatus reason ended
 IsRefusedStatus (Files reason) ended = IsUnaskedStatus reason ended
 
--- nothing was printed, and the status says why
-abbrev pub Refuses : {O : Type 0} → Places → Texts → Option (List ℕ) → Bool → CompareWords → O → O → Status → Type 0
-Refuses place text printed failed words old new ended =
-    (reason : Uncompared) × IsRefused place text printed failed words reason × IsRefusedStatus reason ended × (new ≡ old)
+-- Nothing was printed, and the status says why. That reason alone was reported, with the line below
+-- it: `one` says of a line and a fault that they were.
+abbrev pub Refuses : {O : Type 0} → Places → Texts → Option (List ℕ) → Bool → CompareWords → (Option (List ℕ) → (Report → Type 0) → Type 0) → O → O → Status → Type 0
+Refuses place text printed failed words one old new ended =
+    (reason : Uncompared) × IsRefused place text printed failed words reason × IsRefusedStatus reason ended
+    × one (line_of_refusal words reason) (IsRefusedReport reason) × (new ≡ old)
 
 -- ---- A line for each packet that is treated differently
 
@@ -169,51 +172,52 @@ IsOutStatus (Ok done) ended = ended ≡ Clean
 IsOutStatus (Err (Unmade error)) ended = IsFileStatus error ended
 IsOutStatus (Err (Unwritten error)) ended = ended ≡ Failed
 
--- If OUT is asked for and an answer shows a packet, it was written there. The status is the greater
--- one of both.
-abbrev pub WritesPacket : Places → Texts → Texts → Bool → Option (Bor (List ℕ)) → Option Witness → Result Sameness Unprinted → Status → Type 0
-WritesPacket place old new failed None packet answer ended = (new ≡ old) × (ended ≡ answer_status answer)
-WritesPacket place old new failed (Some output) None answer ended = (new ≡ old) × (ended ≡ answer_status answer)
-WritesPacket place old new failed (Some output) (Some w) answer ended =
+-- If OUT is asked for and an answer shows a packet, it was written there; why it was not is among
+-- what was reported: `among` says of a fault what is. The status is the greater one of both.
+abbrev pub WritesPacket : Places → Texts → Texts → Bool → Option (Bor (List ℕ)) → Option Witness → Result Sameness Unprinted → ((Report → Type 0) → Type 0) → Status → Type 0
+WritesPacket place old new failed None packet answer among ended = (new ≡ old) × (ended ≡ answer_status answer)
+WritesPacket place old new failed (Some output) None answer among ended = (new ≡ old) × (ended ≡ answer_status answer)
+WritesPacket place old new failed (Some output) (Some w) answer among ended =
     (wrote : Result (Unit {0}) OutFault) × (status : Status) × IsOut old new failed (place output.now) w wrote × IsOutStatus wrote status
-    × (ended ≡ greater (answer_status answer) status)
+    × TellsOut among output wrote × (ended ≡ greater (answer_status answer) status)
 
 -- ---- Every packet that there can be
 
 -- Two filters were decided: an answer that holds of both was printed, unless nothing is wanted, and
--- the packet that it shows was written.
-abbrev pub DecidesPair : Places → Texts → Texts → Bool → CompareWords → FilterPair → Option (List ℕ) → Option (List ℕ) → Status → Type 0
-DecidesPair place text after failed words pair old new ended =
+-- the packet that it shows was written. Why either was not is among what was reported.
+abbrev pub DecidesPair : Places → Texts → Texts → Bool → CompareWords → FilterPair → ((Report → Type 0) → Type 0) → Option (List ℕ) → Option (List ℕ) → Status → Type 0
+DecidesPair place text after failed words pair among old new ended =
     (answer : Result Sameness Unprinted) × IfOk answer (HoldsOfPair pair) × Prints words.quiet words.json pair old new answer
-    × WritesPacket place text after failed words.output (packet_of answer) answer ended
+    × TellsUnprinted among answer × WritesPacket place text after failed words.output (packet_of answer) answer among ended
 
 -- the same of the two filters that are asked for
-pub record Decides {O : Type 0} (contents : O → Option (List ℕ)) (place : Places) (text after : Texts) (printed : Option (List ℕ)) (failed : Bool) (words : CompareWords) (old new : O) (ended : Status) : Type 0 where
+pub record Decides {O : Type 0} (contents : O → Option (List ℕ)) (place : Places) (text after : Texts) (printed : Option (List ℕ)) (failed : Bool) (words : CompareWords) (among : (Report → Type 0) → Type 0) (old new : O) (ended : Status) : Type 0 where
   pub pair : FilterPair
   pub are : ArePair place text words pair
   pub apart : AreApart place printed words
-  pub decides : DecidesPair place text after failed words pair (contents old) (contents new) ended
+  pub decides : DecidesPair place text after failed words pair among (contents old) (contents new) ended
 
 -- ---- The command
 
 -- the lines were printed, or nothing was
-abbrev pub LinesAnswer : {R O : Type 0} → (R → Option (List ℕ)) → (R → ℕ) → (O → Option (List ℕ)) → Places → Texts → Option (List ℕ) → Bool → CompareWords → O → O → Status → Type 0
-LinesAnswer left failures contents place text printed failed words old new ended =
-    Refuses place text printed failed words old new ended
+abbrev pub LinesAnswer : {R O : Type 0} → (R → Option (List ℕ)) → (R → ℕ) → (O → Option (List ℕ)) → Places → Texts → Option (List ℕ) → Bool → CompareWords → (Option (List ℕ) → (Report → Type 0) → Type 0) → ((Report → Type 0) → Type 0) → O → O → Status → Type 0
+LinesAnswer left failures contents place text printed failed words one among old new ended =
+    Refuses place text printed failed words one old new ended
     ⊎ ((end : LinesEnd DifferenceCounts) × PrintsLines left failures contents place text printed failed words old new end
-    × (ended ≡ greater (printed_status end.printed) (stop_status end.read)))
+    × (ended ≡ greater (printed_status end.printed) (stop_status end.read)) × TellsEnd among words.inputs.items end.printed end.read)
 
 -- only the status answers
-abbrev pub StatusAnswers : {R O : Type 0} → (R → Option (List ℕ)) → (R → ℕ) → Places → Texts → Option (List ℕ) → Bool → CompareWords → O → O → Status → Type 0
-StatusAnswers left failures place text printed failed words old new ended =
-    Refuses place text printed failed words old new ended
-    ⊎ ((end : SoughtEnd) × Seeks left failures place text printed failed words end × (new ≡ old) × (ended ≡ sameness_status end.found))
+abbrev pub StatusAnswers : {R O : Type 0} → (R → Option (List ℕ)) → (R → ℕ) → Places → Texts → Option (List ℕ) → Bool → CompareWords → (Option (List ℕ) → (Report → Type 0) → Type 0) → ((Report → Type 0) → Type 0) → O → O → Status → Type 0
+StatusAnswers left failures place text printed failed words one among old new ended =
+    Refuses place text printed failed words one old new ended
+    ⊎ ((end : SoughtEnd) × Seeks left failures place text printed failed words end × (new ≡ old) × (ended ≡ sameness_status end.found)
+    × TellsStop among words.inputs.items end.found)
 
 -- the filters were decided, or nothing was printed and no file changed
-abbrev pub DecidesAnswer : {O : Type 0} → (O → Option (List ℕ)) → Places → Texts → Texts → Option (List ℕ) → Bool → CompareWords → O → O → Status → Type 0
-DecidesAnswer contents place text after printed failed words old new ended =
-    (Refuses place text printed failed words old new ended × (after ≡ text))
-    ⊎ Decides contents place text after printed failed words old new ended
+abbrev pub DecidesAnswer : {O : Type 0} → (O → Option (List ℕ)) → Places → Texts → Texts → Option (List ℕ) → Bool → CompareWords → (Option (List ℕ) → (Report → Type 0) → Type 0) → ((Report → Type 0) → Type 0) → O → O → Status → Type 0
+DecidesAnswer contents place text after printed failed words one among old new ended =
+    (Refuses place text printed failed words one old new ended × (after ≡ text))
+    ⊎ Decides contents place text after printed failed words among old new ended
 
 -- no file changed but OUT
 abbrev pub KeepsOthers : Places → Texts → Texts → Option (Bor (List ℕ)) → Type 0
@@ -222,8 +226,9 @@ KeepsOthers place old new (Some output) = (p : List ℕ) → p ≢ place output.
 
 -- A call of `bpftap compare`: what standard output had, which was `old`, is now `new`, and the
 -- files, which had `text`, have `after`. Without IN the filters are decided; with IN the packets
--- that they treat differently are printed, or with `-q` only the status answers.
-pub record Answers {R O : Type 0} (left : R → Option (List ℕ)) (failures : R → ℕ) (contents : O → Option (List ℕ)) (place : Places) (text after : Texts) (printed : Option (List ℕ)) (failed : Bool) (words : CompareWords) (old new : O) (ended : Status) : Type 0 where
-  pub decided : words.inputs.items ≡ [] → DecidesAnswer contents place text after printed failed words old new ended
-  pub sought : words.inputs.items ≢ [] → words.quiet ≡ true → StatusAnswers left failures place text printed failed words old new ended
-  pub compared : words.inputs.items ≢ [] → words.quiet ≡ false → LinesAnswer left failures contents place text printed failed words old new ended
+-- that they treat differently are printed, or with `-q` only the status answers. `one` says what the
+-- only fault is that was reported, and which line is below it; `among` what one of several is.
+pub record Answers {R O : Type 0} (left : R → Option (List ℕ)) (failures : R → ℕ) (contents : O → Option (List ℕ)) (place : Places) (text after : Texts) (printed : Option (List ℕ)) (failed : Bool) (words : CompareWords) (one : Option (List ℕ) → (Report → Type 0) → Type 0) (among : (Report → Type 0) → Type 0) (old new : O) (ended : Status) : Type 0 where
+  pub decided : words.inputs.items ≡ [] → DecidesAnswer contents place text after printed failed words one among old new ended
+  pub sought : words.inputs.items ≢ [] → words.quiet ≡ true → StatusAnswers left failures place text printed failed words one among old new ended
+  pub compared : words.inputs.items ≢ [] → words.quiet ≡ false → LinesAnswer left failures contents place text printed failed words one among old new ended

@@ -2,9 +2,11 @@
 
 ghost use Rattle.std.specs.Prelude.{◌≡◌, ◌≢◌, [], true};
 ghost use Rattle.cli_text.specs.Status.{greater};
+ghost use Rattle.fault_report.specs.Reports.{TellsAmong};
 ghost use Rattle.cli_store.specs.Files.{Keeps};
-ghost use Rattle.cli_answers.specs.Telling.{printed_status, stop_status};
+ghost use Rattle.cli_answers.specs.Telling.{TellsEnd, printed_status, stop_status};
 ghost use Rattle.cli_compare.specs.Comparing.{Answers, KeepsOthers, LinesAnswer, StatusAnswers};
+ghost use Rattle.cli_compare.specs.Telling.{TellsWith};
 
 use crate::decide::decide_files;
 use crate::each::DifferenceCounts;
@@ -38,7 +40,8 @@ fn report_lines<E: HintSink>(
     words: &CompareWords<'_>,
     err: &mut E,
 ) -> Status
-    ensures { result ≡ greater (printed_status end.now.printed) (stop_status end.now.read) }
+    ensures status { result ≡ greater (printed_status end.now.printed) (stop_status end.now.read) }
+    ensures told { TellsEnd (λ says. TellsAmong E.takes_hints E.failed E.contents E.fault_form says err.old err.new) words.now.inputs.items end.now.printed end.now.read }
 {
     let paths = words.inputs.as_slice();
     let status = report_captures(&end.printed, end.read, paths, err);
@@ -59,7 +62,7 @@ fn compare_all<'p, F: FileStore<'p>, O: Write, E: HintSink>(
     err: &mut E,
 ) -> Status
     ensures kept { Keeps (F.place files.old) (F.place files.new) (F.text files.old) (F.text files.new) (F.pending files.old) (F.pending files.new) }
-    ensures answers { F.known ≡ true → LinesAnswer F.Input.left F.Input.failures O.contents (F.place files.old) (F.text files.old) (F.printed files.old) (F.failed files.new) words.now out.old out.new result }
+    ensures answers { F.known ≡ true → LinesAnswer F.Input.left F.Input.failures O.contents (F.place files.old) (F.text files.old) (F.printed files.old) (F.failed files.new) words.now (λ line says. TellsWith E.takes_hints E.failed E.contents E.fault_form line says err.old err.new) (λ says. TellsAmong E.takes_hints E.failed E.contents E.fault_form says err.old err.new) out.old out.new result }
 {
     match compare_files(alloc, files, words, out) {
         Ok(end) => report_lines(&end, words, err),
@@ -76,7 +79,7 @@ fn ask_quietly<'p, F: FileStore<'p>, O: Write, E: HintSink>(
     err: &mut E,
 ) -> Status
     ensures kept { Keeps (F.place files.old) (F.place files.new) (F.text files.old) (F.text files.new) (F.pending files.old) (F.pending files.new) }
-    ensures answers { F.known ≡ true → StatusAnswers F.Input.left F.Input.failures (F.place files.old) (F.text files.old) (F.printed files.old) (F.failed files.new) words.now _out.old _out.new result }
+    ensures answers { F.known ≡ true → StatusAnswers F.Input.left F.Input.failures (F.place files.old) (F.text files.old) (F.printed files.old) (F.failed files.new) words.now (λ line says. TellsWith E.takes_hints E.failed E.contents E.fault_form line says err.old err.new) (λ says. TellsAmong E.takes_hints E.failed E.contents E.fault_form says err.old err.new) _out.old _out.new result }
 {
     match seek_files(alloc, files, words) {
         Ok(end) => {
@@ -101,7 +104,7 @@ pub fn compare_and_report<'p, R: AllocGlobal + Screen, F: FileStore<'p>, O: Writ
     err: &mut E,
 ) -> Status
     requires none_open { F.opened files.old ≡ [] }
-    ensures answers { F.known ≡ true → Answers F.Input.left F.Input.failures O.contents (F.place files.old) (F.text files.old) (F.text files.new) (F.printed files.old) (F.failed files.new) words.now out.old out.new result }
+    ensures answers { F.known ≡ true → Answers F.Input.left F.Input.failures O.contents (F.place files.old) (F.text files.old) (F.text files.new) (F.printed files.old) (F.failed files.new) words.now (λ line says. TellsWith E.takes_hints E.failed E.contents E.fault_form line says err.old err.new) (λ says. TellsAmong E.takes_hints E.failed E.contents E.fault_form says err.old err.new) out.old out.new result }
     ensures kept { words.now.inputs.items ≢ [] → Keeps (F.place files.old) (F.place files.new) (F.text files.old) (F.text files.new) (F.pending files.old) (F.pending files.new) }
     // No file but OUT changes, and it is closed.
     ensures others { F.known ≡ true → KeepsOthers (F.place files.old) (F.text files.old) (F.text files.new) words.now.output }

@@ -1,8 +1,11 @@
 //! Two filters decided for every packet, over files that contracts can know.
 
 ghost use Rattle.std.specs.Prelude.{◌≡◌, ◌≢◌, ℕ, List, [], true, false, All, IfOk, IfErr};
+ghost use Rattle.fault_report.specs.Reports.{TellsAmong};
+ghost use Rattle.cli_answers.specs.Telling.{TellsUnprinted};
 ghost use Rattle.cli_compare.specs.Comparing.{DecidesAnswer, DecidesPair, IsOut, KeepsOthers, WritesPacket, out_of};
 ghost use Rattle.cli_compare.specs.Deciding.{AnswersPair, HoldsOfPair, IsStatusAfter, IsUnanswered, PrintsAnswer, form_of, packet_of};
+ghost use Rattle.cli_compare.specs.Telling.{TellsWith};
 
 use crate::asked::accept_pair;
 use crate::notice::Notice;
@@ -87,7 +90,8 @@ fn report_and_write<'p, F: FileStore<'p>, E: HintSink>(
 ) -> Status
     requires none_open { F.opened files.old ≡ [] }
     ensures status { IsStatusAfter words.now.output answer.now result }
-    ensures writes { F.known ≡ true → WritesPacket (F.place files.old) (F.text files.old) (F.text files.new) (F.failed files.new) words.now.output (packet_of answer.now) answer.now result }
+    ensures writes { F.known ≡ true → WritesPacket (F.place files.old) (F.text files.old) (F.text files.new) (F.failed files.new) words.now.output (packet_of answer.now) answer.now (λ says. TellsAmong E.takes_hints E.failed E.contents E.fault_form says err.old err.new) result }
+    ensures told { TellsUnprinted (λ says. TellsAmong E.takes_hints E.failed E.contents E.fault_form says err.old err.new) answer.now }
     ensures others { F.known ≡ true → KeepsOthers (F.place files.old) (F.text files.old) (F.text files.new) words.now.output }
     ensures closed { F.known ≡ true → F.pending files.new ≡ F.pending files.old }
 {
@@ -118,7 +122,7 @@ fn decide_and_report<'p, R: AllocGlobal + Screen, F: FileStore<'p>, O: Write, E:
 ) -> Status
     requires none_open { F.opened files.old ≡ [] }
     ensures pair { AnswersPair words.now.quiet words.now.json words.now.output pair.now (O.contents out.old) (O.contents out.new) result }
-    ensures decides { F.known ≡ true → DecidesPair (F.place files.old) (F.text files.old) (F.text files.new) (F.failed files.new) words.now pair.now (O.contents out.old) (O.contents out.new) result }
+    ensures decides { F.known ≡ true → DecidesPair (F.place files.old) (F.text files.old) (F.text files.new) (F.failed files.new) words.now pair.now (λ says. TellsAmong E.takes_hints E.failed E.contents E.fault_form says err.old err.new) (O.contents out.old) (O.contents out.new) result }
     ensures others { F.known ≡ true → KeepsOthers (F.place files.old) (F.text files.old) (F.text files.new) words.now.output }
     ensures closed { F.known ≡ true → F.pending files.new ≡ F.pending files.old }
 {
@@ -138,7 +142,7 @@ pub(crate) fn decide_files<'p, R: AllocGlobal + Screen, F: FileStore<'p>, O: Wri
     err: &mut E,
 ) -> Status
     requires none_open { F.opened files.old ≡ [] }
-    ensures answers { F.known ≡ true → DecidesAnswer O.contents (F.place files.old) (F.text files.old) (F.text files.new) (F.printed files.old) (F.failed files.new) words.now out.old out.new result }
+    ensures answers { F.known ≡ true → DecidesAnswer O.contents (F.place files.old) (F.text files.old) (F.text files.new) (F.printed files.old) (F.failed files.new) words.now (λ line says. TellsWith E.takes_hints E.failed E.contents E.fault_form line says err.old err.new) (λ says. TellsAmong E.takes_hints E.failed E.contents E.fault_form says err.old err.new) out.old out.new result }
     ensures others { F.known ≡ true → KeepsOthers (F.place files.old) (F.text files.old) (F.text files.new) words.now.output }
     ensures closed { F.known ≡ true → F.pending files.new ≡ F.pending files.old }
 {

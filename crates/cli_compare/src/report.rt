@@ -1,11 +1,14 @@
 //! What comparing two filters came to, as it is reported, and its exit status.
 
-ghost use Rattle.std.specs.Prelude.{◌≡◌};
+ghost use Rattle.std.specs.Prelude.{◌≡◌, option_copied};
 ghost use Rattle.cli_text.specs.declared.status.Status.TheVariants.{Refused};
-ghost use Rattle.cli_answers.specs.Asked.{IsUnaskedStatus};
+ghost use Rattle.fault_report.specs.Reports.{Tells, TellsAmong, TellsMore, TellsOne};
+ghost use Rattle.cli_filter.specs.Reports.{IsExpressionReport};
+ghost use Rattle.cli_answers.specs.Asked.{IsUnaskedReport, IsUnaskedStatus};
+ghost use Rattle.cli_answers.specs.Telling.{TellsStop, TellsUnprinted};
 ghost use Rattle.cli_compare.specs.Comparing.{IsOutStatus, IsRefusedStatus};
 ghost use Rattle.cli_compare.specs.Deciding.{answer_status};
-ghost use Rattle.cli_compare.specs.Telling.{sameness_status};
+ghost use Rattle.cli_compare.specs.Telling.{IsRefusedReport, TellsOut, TellsWith, below, line_of, line_of_refusal, sameness_status};
 
 use crate::asked::Uncompared;
 use crate::outcome::OutFault;
@@ -17,14 +20,20 @@ use cli_files::reading::report_io;
 use cli_filter::{FilterFault, expression_report, hint_expression};
 use cli_report::HintSink;
 use cli_report::files::hint_reason;
-use cli_report::stream::print_below;
 use cli_text::Status;
 use cli_walk::Stop;
 use fault_report::FaultSink;
 use fault_report::reporting::{report_device, report_fault, report_memory, report_unwritten};
 use filter_same::Sameness;
 use filtergen::ExpressionFault;
+use line_text::LineForm;
 use std::alloc::Global;
+
+/// The line that names the first of two expressions, below that of its fault.
+const FIRST: &str = "  EXPR1:\n";
+
+/// The line that names the second one.
+const SECOND: &str = "  EXPR2:\n";
 
 /// Reports the capture that ended the reading, if one did, and answers the exit status of looking
 /// for a packet that is treated differently: [`Status::Negative`] if one was found,
@@ -34,7 +43,8 @@ pub fn report_sameness<E: HintSink>(
     paths: &[&str],
     err: &mut E,
 ) -> Status
-    ensures { result ≡ sameness_status found }
+    ensures status { result ≡ sameness_status found }
+    ensures told { TellsStop (λ says. TellsAmong E.takes_hints E.failed E.contents E.fault_form says err.old err.new) paths.now found }
 {
     match found {
         Ok(true) => Status::Negative,
@@ -47,7 +57,9 @@ pub fn report_sameness<E: HintSink>(
 /// exit status: [`Status::Clean`] if they are the same, [`Status::Negative`] if a packet shows a
 /// difference, [`Status::Undecided`] if nothing is claimed of them.
 pub fn report_answer<E: FaultSink>(answer: &Result<Sameness, Unprinted>, err: &mut E) -> Status
-    ensures { result ≡ answer_status answer.now }
+    ensures status { result ≡ answer_status answer.now }
+    ensures told { TellsUnprinted (λ says. TellsOne E.takes_hints E.failed E.contents E.fault_form says err.old err.new) answer.now }
+    ensures more { TellsMore E.takes_hints E.failed E.contents E.fault_form err.old err.new }
 {
     match answer {
         Ok(Sameness::Same | Sameness::SameAsCaptured) => Status::Clean,
@@ -58,21 +70,36 @@ pub fn report_answer<E: FaultSink>(answer: &Result<Sameness, Unprinted>, err: &m
     }
 }
 
-/// Reports why an expression is no filter, with hints: below the fault its name, if it is one of
-/// two.
+/// Prints this line below that of a fault, if there is one. Below an object of JSON it prints none.
+fn print_line<E: FaultSink>(line: Option<&str>, err: &mut E)
+    ensures { Tells E.takes_hints E.failed E.contents E.fault_form err.old err.new (below (option_copied line.entry) (E.fault_form err.old)) }
+{
+    let Some(line) = line else {
+        return;
+    };
+    match err.fault_form() {
+        LineForm::Text => {
+            // `tell_line` promises the whole line, `print_below` a beginning of it.
+            let _ = err.tell_line(line.as_bytes());
+        }
+        LineForm::Json => {}
+    }
+}
+
+/// Reports why an expression is no filter, with hints: below the fault the line that names it, if
+/// it is one of two.
 fn report_expression<E: HintSink>(
     alloc: Global,
-    name: Option<&str>,
+    line: Option<&str>,
     expr: &str,
     fault: ExpressionFault,
     err: &mut E,
 ) -> Status
-    ensures { result ≡ Refused }
+    ensures status { result ≡ Refused }
+    ensures told { TellsWith E.takes_hints E.failed E.contents E.fault_form (option_copied line.entry) (IsExpressionReport fault) err.old err.new }
 {
     let status = report_fault(&expression_report(fault), Status::Refused, err);
-    if let Some(name) = name {
-        let _ = print_below(format_args!("{name}:"), err);
-    }
+    print_line(line, err);
     hint_expression(alloc, expr, fault, err);
     status
 }
@@ -80,16 +107,17 @@ fn report_expression<E: HintSink>(
 /// Reports why there is no filter, with hints, and returns the exit status.
 fn report_ungiven<E: HintSink>(
     alloc: Global,
-    name: Option<&str>,
+    line: Option<&str>,
     expr: &str,
     reason: &Unasked<'_>,
     err: &mut E,
 ) -> Status
-    ensures { IsUnaskedStatus reason.now result }
+    ensures status { IsUnaskedStatus reason.now result }
+    ensures told { TellsWith E.takes_hints E.failed E.contents E.fault_form (line_of (option_copied line.entry) reason.now) (IsUnaskedReport reason.now) err.old err.new }
 {
     match reason {
         Unasked::Filter(None, FilterFault::Expression(fault)) => {
-            report_expression(alloc, name, expr, *fault, err)
+            report_expression(alloc, line, expr, *fault, err)
         }
         _ => report_unasked(alloc, reason, Some(expr), err),
     }
@@ -103,22 +131,25 @@ pub fn report_uncompared<E: HintSink>(
     words: &CompareWords<'_>,
     err: &mut E,
 ) -> Status
-    ensures { IsRefusedStatus reason.now result }
+    ensures status { IsRefusedStatus reason.now result }
+    ensures told { TellsWith E.takes_hints E.failed E.contents E.fault_form (line_of_refusal words.now reason.now) (IsRefusedReport reason.now) err.old err.new }
 {
     let second = words.second.unwrap_or("");
     match reason {
         Uncompared::First(reason) => {
-            let name = words.listing.is_none().then_some("EXPR1");
-            report_ungiven(alloc, name, words.first, reason, err)
+            let line = words.listing.is_none().then_some(FIRST);
+            report_ungiven(alloc, line, words.first, reason, err)
         }
-        Uncompared::Second(reason) => report_ungiven(alloc, Some("EXPR2"), second, reason, err),
+        Uncompared::Second(reason) => report_ungiven(alloc, Some(SECOND), second, reason, err),
         Uncompared::Files(reason) => report_unasked(alloc, reason, None, err),
     }
 }
 
 /// Reports why OUT has no packet, if so, and returns the exit status.
 pub fn report_out<E: HintSink>(written: &Result<(), OutFault>, path: &str, err: &mut E) -> Status
-    ensures { IsOutStatus written.now result }
+    ensures status { IsOutStatus written.now result }
+    ensures told { TellsOut (λ says. TellsOne E.takes_hints E.failed E.contents E.fault_form says err.old err.new) path.entry written.now }
+    ensures more { TellsMore E.takes_hints E.failed E.contents E.fault_form err.old err.new }
 {
     match written {
         Ok(()) => Status::Clean,
