@@ -6,3 +6,5 @@ pub mod Counting
 pub mod Opening
 pub mod Closing
 pub mod Telling
+pub mod Statuses
+pub mod Headers

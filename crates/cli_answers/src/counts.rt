@@ -1,15 +1,15 @@
 //! How many packets a filter answered so.
 
-ghost use Rattle.std.specs.Prelude.{◌≡◌, ◌<◌, ◌≤◌, ◌+◌, ◌^◌, OnOk, string_bytes};
+ghost use Rattle.std.specs.Prelude.{◌≡◌, ◌<◌, ◌≤◌, ◌+◌, ◌^◌, false, OnOk, string_bytes};
 ghost use Rattle.line_text.specs.Sending.{Takes};
 ghost use Rattle.cli_answers.specs.Counts.{counted, counts_in, counts_json, counts_text, plus};
 
 use crate::form::PacketForm;
-use crate::printing::{Unprinted, send_last};
+use crate::printing::Unprinted;
 use bpfvm::NoMemory;
 use cli_watch::frames::FrameCounts;
+use cli_watch::output::{PrintSink, send_last};
 use filter_meaning::Verdict;
-use std::io::Write;
 
 /// How many packets a filter was asked, and how many of these it answered Yes, No and Abort; and
 /// into how many frames no filter looks.
@@ -80,13 +80,14 @@ impl VerdictCounts {
 
 /// Prints the counts, and all that the writer has gathered; the line that it is put together in may
 /// have any text.
-pub fn print_counts<O: Write>(
+pub fn print_counts<O: PrintSink>(
     counts: VerdictCounts,
     form: PacketForm,
     line: &mut String,
     out: &mut O,
 ) -> Result<(), Unprinted>
-    ensures { Takes (O.contents out.old) (O.contents out.new) result (counts_in form counts.packets counts.yes counts.no counts.abort) }
+    ensures taken { Takes (O.contents out.old) (O.contents out.new) result (counts_in form counts.packets counts.yes counts.no counts.abort) }
+    ensures handed_on { OnOk result (O.waits out.new ≡ false) }
 {
     put_counts(line, form, counts)?;
     send_last(line.as_bytes(), out)?;

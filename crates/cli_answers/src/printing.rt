@@ -1,13 +1,10 @@
 //! How printing ends.
 
 ghost use Rattle.std.specs.Prelude.{◌≡◌};
-ghost use Rattle.line_text.specs.Sending.{Takes};
 ghost use Rattle.cli_answers.specs.declared.printing.Unprinted.TheVariants.{NoMemory, Output};
 
 use bpfvm::NoMemory;
-use line_text::sending::send;
 use std::io;
-use std::io::Write;
 
 /// Why what was to be printed is not, or not all of it.
 #[derive(Debug, Drop)]
@@ -32,12 +29,4 @@ impl From<io::Error> for Unprinted {
     fn from(error: io::Error) -> Unprinted {
         Unprinted::Output(error)
     }
-}
-
-/// Sends a text, and all that the writer has gathered.
-pub fn send_last<O: Write>(text: &[u8], out: &mut O) -> io::Result<()>
-    ensures { Takes (O.contents out.old) (O.contents out.new) result text.now }
-{
-    send(text, out)?;
-    out.flush()
 }

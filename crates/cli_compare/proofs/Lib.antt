@@ -7,3 +7,4 @@ pub mod Stopping
 pub mod Out
 pub mod Asking
 pub mod Telling
+pub mod Handing

@@ -11,6 +11,7 @@ use cli_answers::PacketForm;
 use cli_answers::captures::{goes_on, read_of};
 use cli_answers::printing::Unprinted;
 use cli_walk::{Stop, Visited, Visitor, Walk, visit_captures};
+use cli_watch::output::PrintSink;
 use savefile::Source;
 use std::alloc::Global;
 use std::io::Write;
@@ -116,8 +117,9 @@ pub fn compare_captures<R: Source + Drop, O: Write>(
     }
 }
 
-/// Prints the counts of all captures, if a header was read and all lines were printed.
-pub fn print_totals<O: Write>(
+/// Prints the counts of all captures, if a header was read and all lines were printed; and hands on
+/// all that was printed.
+pub fn print_totals<O: PrintSink>(
     alloc: Global,
     totals: ComparedTotals,
     form: PacketForm,
@@ -127,6 +129,7 @@ pub fn print_totals<O: Write>(
     ensures failed { IsErr totals.printed → (result ≡ totals.printed) × (out.new ≡ out.old) }
     ensures prints { totals.opened ≡ true → IsOk totals.printed →
         Takes (O.contents out.old) (O.contents out.new) result (counts_in form totals.counts.packets (totals.counts.first + totals.counts.second) totals.counts.first totals.counts.second) }
+    ensures handed_on { totals.opened ≡ true → IsOk result → O.waits out.new ≡ false }
 {
     if totals.opened && totals.printed.is_ok() {
         print_counts(alloc, totals.counts, form, out)

@@ -1,7 +1,8 @@
 //! `bpftap compare`, over files.
 
-ghost use Rattle.std.specs.Prelude.{◌≡◌, ◌≢◌, [], true};
+ghost use Rattle.std.specs.Prelude.{◌≡◌, ◌≢◌, [], false, true};
 ghost use Rattle.cli_text.specs.Status.{greater};
+ghost use Rattle.cli_text.specs.declared.status.Status.TheVariants.{Clean};
 ghost use Rattle.fault_report.specs.Reports.{TellsAmong};
 ghost use Rattle.cli_store.specs.Files.{Keeps};
 ghost use Rattle.cli_answers.specs.Telling.{TellsEnd, printed_status, stop_status};
@@ -22,7 +23,7 @@ use cli_report::failures::hint_output;
 use cli_store::{DiskFiles, FileStore};
 use cli_text::Status;
 use cli_watch::hints::{is_asked, report_unseen};
-use cli_watch::output::WatchedOutput;
+use cli_watch::output::{PrintSink, WatchedOutput};
 use cli_watch::{Screen, Watch};
 use std::alloc::Global;
 use std::fs::Files;
@@ -54,7 +55,7 @@ fn report_lines<E: HintSink>(
 
 /// Prints the packets that are treated differently, and the counts if a header was read; and
 /// reports how that ended.
-fn compare_all<'p, F: FileStore<'p>, O: Write, E: HintSink>(
+fn compare_all<'p, F: FileStore<'p>, O: PrintSink, E: HintSink>(
     alloc: Global,
     files: &mut F,
     words: &CompareWords<'p>,
@@ -63,6 +64,7 @@ fn compare_all<'p, F: FileStore<'p>, O: Write, E: HintSink>(
 ) -> Status
     ensures kept { Keeps (F.place files.old) (F.place files.new) (F.text files.old) (F.text files.new) (F.pending files.old) (F.pending files.new) }
     ensures answers { F.known ≡ true → LinesAnswer F.Input.left F.Input.failures O.contents (F.place files.old) (F.text files.old) (F.printed files.old) (F.failed files.new) words.now (λ line says. TellsWith E.takes_hints E.failed E.contents E.fault_form line says err.old err.new) (λ says. TellsAmong E.takes_hints E.failed E.contents E.fault_form says err.old err.new) out.old out.new result }
+    ensures handed_on { O.waits out.old ≡ false → result ≡ Clean → O.waits out.new ≡ false }
 {
     match compare_files(alloc, files, words, out) {
         Ok(end) => report_lines(&end, words, err),
@@ -71,7 +73,7 @@ fn compare_all<'p, F: FileStore<'p>, O: Write, E: HintSink>(
 }
 
 /// Reports only by the status whether a packet is treated differently.
-fn ask_quietly<'p, F: FileStore<'p>, O: Write, E: HintSink>(
+fn ask_quietly<'p, F: FileStore<'p>, O: PrintSink, E: HintSink>(
     alloc: Global,
     files: &mut F,
     words: &CompareWords<'p>,
@@ -80,6 +82,7 @@ fn ask_quietly<'p, F: FileStore<'p>, O: Write, E: HintSink>(
 ) -> Status
     ensures kept { Keeps (F.place files.old) (F.place files.new) (F.text files.old) (F.text files.new) (F.pending files.old) (F.pending files.new) }
     ensures answers { F.known ≡ true → StatusAnswers F.Input.left F.Input.failures (F.place files.old) (F.text files.old) (F.printed files.old) (F.failed files.new) words.now (λ line says. TellsWith E.takes_hints E.failed E.contents E.fault_form line says err.old err.new) (λ says. TellsAmong E.takes_hints E.failed E.contents E.fault_form says err.old err.new) _out.old _out.new result }
+    ensures silent { _out.new ≡ _out.old }
 {
     match seek_files(alloc, files, words) {
         Ok(end) => {
@@ -96,7 +99,7 @@ fn ask_quietly<'p, F: FileStore<'p>, O: Write, E: HintSink>(
 /// else the packets that they treat differently are printed, and the counts, or with `-q` only the
 /// status says whether there is one. Both filters are accepted, and the paths are compared, before
 /// a capture is opened. No file but OUT changes.
-pub fn compare_and_report<'p, R: AllocGlobal + Screen, F: FileStore<'p>, O: Write, E: HintSink>(
+pub fn compare_and_report<'p, R: AllocGlobal + Screen, F: FileStore<'p>, O: PrintSink, E: HintSink>(
     rt: &R,
     files: &mut F,
     words: &CompareWords<'p>,
@@ -109,6 +112,8 @@ pub fn compare_and_report<'p, R: AllocGlobal + Screen, F: FileStore<'p>, O: Writ
     // No file but OUT changes, and it is closed.
     ensures others { F.known ≡ true → KeepsOthers (F.place files.old) (F.text files.old) (F.text files.new) words.now.output }
     ensures closed { F.known ≡ true → F.pending files.new ≡ F.pending files.old }
+    // Nothing that was printed waits, if all went well.
+    ensures handed_on { O.waits out.old ≡ false → result ≡ Clean → O.waits out.new ≡ false }
 {
     if words.inputs.is_empty() {
         decide_files(rt, files, words, out, err)

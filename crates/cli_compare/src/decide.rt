@@ -1,8 +1,9 @@
 //! Two filters decided for every packet, over files that contracts can know.
 
-ghost use Rattle.std.specs.Prelude.{◌≡◌, ◌≢◌, ℕ, List, [], true, false, All, IfOk, IfErr};
+ghost use Rattle.std.specs.Prelude.{◌≡◌, ◌≢◌, ℕ, List, [], true, false, All, IfOk, IfErr, OnOk};
 ghost use Rattle.fault_report.specs.Reports.{TellsAmong};
 ghost use Rattle.cli_answers.specs.Telling.{TellsUnprinted};
+ghost use Rattle.cli_text.specs.declared.status.Status.TheVariants.{Clean};
 ghost use Rattle.cli_compare.specs.Comparing.{DecidesAnswer, DecidesPair, IsOut, KeepsOthers, WritesPacket, out_of};
 ghost use Rattle.cli_compare.specs.Deciding.{AnswersPair, HoldsOfPair, IsStatusAfter, IsUnanswered, PrintsAnswer, form_of, packet_of};
 ghost use Rattle.cli_compare.specs.Telling.{TellsWith};
@@ -20,12 +21,12 @@ use cli_report::HintSink;
 use cli_store::FileStore;
 use cli_text::Status;
 use cli_watch::Screen;
+use cli_watch::output::PrintSink;
 use filter_same::{Sameness, Witness};
 use line_text::LineForm;
 use savefile::Fault;
 use std::alloc::Global;
 use std::io;
-use std::io::Write;
 
 /// What writing OUT came to, by how it was closed and how its savefile was written.
 fn out_of(closed: io::Result<()>, written: Result<(), Fault>) -> Result<(), OutFault>
@@ -61,7 +62,7 @@ fn write_out<'p, F: FileStore<'p>>(
 
 /// Decides both filters, and prints the answer unless it is not wanted.
 #[inline(never)]
-fn answer<R: Screen, O: Write>(
+fn answer<R: Screen, O: PrintSink>(
     alloc: Global,
     notice: &Notice<'_, R>,
     words: &CompareWords<'_>,
@@ -72,6 +73,7 @@ fn answer<R: Screen, O: Write>(
     ensures silent { words.now.quiet ≡ true → O.contents out.new ≡ O.contents out.old }
     ensures printed { words.now.quiet ≡ false → IfOk result (λ s. PrintsAnswer (form_of words.now.json) pair.now 2000000 s (O.contents out.old) (O.contents out.new)) }
     ensures fault { words.now.quiet ≡ false → IfErr result (IsUnanswered (form_of words.now.json) pair.now 2000000 (O.contents out.old) (O.contents out.new)) }
+    ensures handed_on { O.waits out.old ≡ false → OnOk result (O.waits out.new ≡ false) }
 {
     if words.quiet {
         Ok(decide_pair(alloc, notice, pair, BUDGET)?)
@@ -112,7 +114,7 @@ fn report_and_write<'p, F: FileStore<'p>, E: HintSink>(
 /// Decides both filters, writes the packet that shows a difference to OUT, and reports how that
 /// ended.
 #[inline(never)]
-fn decide_and_report<'p, R: AllocGlobal + Screen, F: FileStore<'p>, O: Write, E: HintSink>(
+fn decide_and_report<'p, R: AllocGlobal + Screen, F: FileStore<'p>, O: PrintSink, E: HintSink>(
     rt: &R,
     files: &mut F,
     words: &CompareWords<'p>,
@@ -125,6 +127,7 @@ fn decide_and_report<'p, R: AllocGlobal + Screen, F: FileStore<'p>, O: Write, E:
     ensures decides { F.known ≡ true → DecidesPair (F.place files.old) (F.text files.old) (F.text files.new) (F.failed files.new) words.now pair.now (λ says. TellsAmong E.takes_hints E.failed E.contents E.fault_form says err.old err.new) (O.contents out.old) (O.contents out.new) result }
     ensures others { F.known ≡ true → KeepsOthers (F.place files.old) (F.text files.old) (F.text files.new) words.now.output }
     ensures closed { F.known ≡ true → F.pending files.new ≡ F.pending files.old }
+    ensures handed_on { O.waits out.old ≡ false → result ≡ Clean → O.waits out.new ≡ false }
 {
     let notice = Notice::new(rt, err.takes_hints());
     let answer = answer(rt.alloc(), &notice, words, pair, out);
@@ -134,17 +137,18 @@ fn decide_and_report<'p, R: AllocGlobal + Screen, F: FileStore<'p>, O: Write, E:
 /// Accepts both filters and compares the paths, decides the filters for every packet, and reports
 /// how that ended.
 #[inline(never)]
-pub(crate) fn decide_files<'p, R: AllocGlobal + Screen, F: FileStore<'p>, O: Write, E: HintSink>(
-    rt: &R,
-    files: &mut F,
-    words: &CompareWords<'p>,
-    out: &mut O,
-    err: &mut E,
-) -> Status
+pub(crate) fn decide_files<
+    'p,
+    R: AllocGlobal + Screen,
+    F: FileStore<'p>,
+    O: PrintSink,
+    E: HintSink,
+>(rt: &R, files: &mut F, words: &CompareWords<'p>, out: &mut O, err: &mut E) -> Status
     requires none_open { F.opened files.old ≡ [] }
     ensures answers { F.known ≡ true → DecidesAnswer O.contents (F.place files.old) (F.text files.old) (F.text files.new) (F.printed files.old) (F.failed files.new) words.now (λ line says. TellsWith E.takes_hints E.failed E.contents E.fault_form line says err.old err.new) (λ says. TellsAmong E.takes_hints E.failed E.contents E.fault_form says err.old err.new) out.old out.new result }
     ensures others { F.known ≡ true → KeepsOthers (F.place files.old) (F.text files.old) (F.text files.new) words.now.output }
     ensures closed { F.known ≡ true → F.pending files.new ≡ F.pending files.old }
+    ensures handed_on { O.waits out.old ≡ false → result ≡ Clean → O.waits out.new ≡ false }
 {
     match accept_pair(rt.alloc(), files, words) {
         Ok(pair) => decide_and_report(rt, files, words, &pair, out, err),

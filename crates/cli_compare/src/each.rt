@@ -1,6 +1,6 @@
 //! The packets of a capture that two filters treat differently: the function under `bpftap compare`.
 
-ghost use Rattle.std.specs.Prelude.{◌≡◌, ◌≢◌, ◌↔◌, ◌<◌, ◌≤◌, ◌+◌, ◌-◌, ◌^◌, ℕ, min, List, Option, [], Err, IfErr, IfOk};
+ghost use Rattle.std.specs.Prelude.{◌≡◌, ◌≢◌, ◌↔◌, ◌<◌, ◌≤◌, ◌+◌, ◌-◌, ◌^◌, ℕ, min, List, Option, [], Err, IfErr, IfOk, OnOk, false};
 ghost use Rattle.std.specs.Io.KnownBytes.{Consumes};
 ghost use Rattle.savefile.specs.declared.header.Header.{Header};
 ghost use Rattle.savefile.specs.Reader.{HasGiven};
@@ -14,8 +14,9 @@ use crate::pair::{Agreement, FilterPair};
 use cli_answers::PacketForm;
 use cli_answers::ahead::advance_flushed;
 use cli_answers::form::PacketLine;
-use cli_answers::printing::{Unprinted, send_last};
+use cli_answers::printing::Unprinted;
 use cli_watch::frames::{FrameCounts, is_unseen};
+use cli_watch::output::{PrintSink, send_last};
 use line_text::sending::send;
 use savefile::laws::given_so_far;
 use savefile::{Fault, PacketRef, Reader, Source};
@@ -229,13 +230,14 @@ fn print_one<O: Write>(
 }
 
 /// Prints the counts, and all that the writer has gathered: `253 packets: 3 differ, 2 accepted by the first alone, 1 by the second`.
-pub fn print_counts<O: Write>(
+pub fn print_counts<O: PrintSink>(
     alloc: Global,
     counts: DifferenceCounts,
     form: PacketForm,
     out: &mut O,
 ) -> Result<(), Unprinted>
-    ensures { Takes (O.contents out.old) (O.contents out.new) result (counts_in form counts.packets (counts.first + counts.second) counts.first counts.second) }
+    ensures taken { Takes (O.contents out.old) (O.contents out.new) result (counts_in form counts.packets (counts.first + counts.second) counts.first counts.second) }
+    ensures handed_on { OnOk result (O.waits out.new ≡ false) }
 {
     let mut line = String::new(alloc);
     put_counts(&mut line, form, counts)?;

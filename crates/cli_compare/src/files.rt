@@ -1,7 +1,7 @@
 //! `bpftap compare` by captures, over files that contracts can know: the packets that are treated
 //! differently, and whether there is one.
 
-ghost use Rattle.std.specs.Prelude.{◌≡◌, true, IfErr, IfOk, OnErr};
+ghost use Rattle.std.specs.Prelude.{◌≡◌, false, true, IfErr, IfOk, IsOk, OnErr};
 ghost use Rattle.cli_store.specs.Files.{Keeps};
 ghost use Rattle.cli_compare.specs.Comparing.{IsRefused, PrintsLines, Seeks};
 
@@ -13,13 +13,13 @@ use cli_answers::captures::{LinesEnd, SoughtCaptures, SoughtEnd, find_in_capture
 use cli_answers::opened::close_captures;
 use cli_args::compare::CompareWords;
 use cli_store::FileStore;
+use cli_watch::output::PrintSink;
 use std::alloc::Global;
-use std::io::Write;
 
 /// Prints a line for each packet of the captures that the filters treat differently, in order up to
 /// the first fault, and then the counts of all. The filters are accepted, and the paths are
 /// compared, before a capture is opened.
-pub fn compare_files<'p, F: FileStore<'p>, O: Write>(
+pub fn compare_files<'p, F: FileStore<'p>, O: PrintSink>(
     alloc: Global,
     files: &mut F,
     words: &CompareWords<'p>,
@@ -29,6 +29,7 @@ pub fn compare_files<'p, F: FileStore<'p>, O: Write>(
     ensures prints { F.known ≡ true → IfOk result (PrintsLines F.Input.left F.Input.failures O.contents (F.place files.old) (F.text files.old) (F.printed files.old) (F.failed files.new) words.now out.old out.new) }
     ensures refused { F.known ≡ true → IfErr result (IsRefused (F.place files.old) (F.text files.old) (F.printed files.old) (F.failed files.new) words.now) }
     ensures silent { OnErr result (out.new ≡ out.old) }
+    ensures handed_on { O.waits out.old ≡ false → IfOk result (λ end. IsOk end.read → IsOk end.printed → O.waits out.new ≡ false) }
 {
     let PairAsked { pair, captures } = ask_pair(alloc, files, words)?;
     let form = PacketForm::asked(words.json);

@@ -1,6 +1,6 @@
 //! Two filters decided for every packet: the function under `bpftap compare` without a capture.
 
-ghost use Rattle.std.specs.Prelude.{◌≡◌, ◌++◌, ℕ, List, Ok, IfOk, IfErr, OnOk, MatchOption, None, Some, string_bytes};
+ghost use Rattle.std.specs.Prelude.{◌≡◌, ◌++◌, ℕ, List, Ok, IfOk, IfErr, OnOk, MatchOption, None, Some, false, string_bytes};
 ghost use Rattle.filter_same.specs.Filters.{filter_accepts, filter_test};
 ghost use Rattle.cli_compare.specs.Deciding.{AreLines, HoldsOfPair, IsText, IsUnanswered, PrintsAnswer, PutsDetail, PutsWitness, answer_line, asked_accepts, asked_test, cause_text, dump_of, lengths_text, packet_of_witness, witness_of};
 
@@ -11,13 +11,13 @@ use bpfvm::NoMemory;
 use cli_answers::AskedFilter;
 use cli_answers::dump::put_dump;
 use cli_answers::line::put_answer;
-use cli_answers::printing::{Unprinted, send_last};
+use cli_answers::printing::Unprinted;
 use cli_watch::Screen;
+use cli_watch::output::{PrintSink, send_last};
 use filter_same::{Cause, Filter, Sameness, Witness, decide_filters};
 use line_text::LineForm;
 use savefile::PacketRef;
 use std::alloc::{AllocError, Global};
-use std::io::Write;
 
 /// How many nodes the diagrams of two filters may have, for each length of the IPv4 header, and half of the steps that are taken in all.
 pub const BUDGET: usize = 2_000_000;
@@ -198,7 +198,7 @@ pub fn decide_pair<R: Screen>(
 ///
 /// `Unprinted::NoMemory`: nothing was printed. `Unprinted::Output`: the writer failed, and took a prefix of the text.
 #[tactic(auto, using(crate::proofs::Witnesses::unanswered))]
-pub fn print_sameness<R: Screen, O: Write>(
+pub fn print_sameness<R: Screen, O: PrintSink>(
     alloc: Global,
     notice: &Notice<'_, R>,
     form: LineForm,
@@ -209,6 +209,7 @@ pub fn print_sameness<R: Screen, O: Write>(
     ensures holds { IfOk result (HoldsOfPair pair.now) }
     ensures printed { IfOk result (λ s. PrintsAnswer form pair.now budget s (O.contents out.old) (O.contents out.new)) }
     ensures fault { IfErr result (λ e. IsUnanswered form pair.now budget (O.contents out.old) (O.contents out.new) e) }
+    ensures handed_on { OnOk result (O.waits out.new ≡ false) }
 {
     let sameness = decide_pair(alloc, notice, pair, budget)?;
     let text = text_of(alloc, form, pair, budget, &sameness)?;

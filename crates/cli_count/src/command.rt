@@ -1,6 +1,7 @@
 //! `bpftap explain` with `-c`, `-l`, or a bound, over files.
 
-ghost use Rattle.std.specs.Prelude.{◌≡◌};
+ghost use Rattle.std.specs.Prelude.{◌≡◌, OnOk, false};
+ghost use Rattle.cli_text.specs.declared.status.Status.TheVariants.{Clean};
 ghost use Rattle.cli_store.specs.Files.{Keeps};
 
 use crate::captures::{CountJob, CountTotals, CountedCaptures, count_captures};
@@ -23,7 +24,7 @@ use cli_report::failures::hint_output;
 use cli_store::{DiskFiles, FileStore};
 use cli_text::Status;
 use cli_watch::hints::{is_asked, report_unseen};
-use cli_watch::output::WatchedOutput;
+use cli_watch::output::{PrintSink, WatchedOutput};
 use cli_watch::{Screen, Watch};
 use line_text::LineForm;
 use std::alloc::Global;
@@ -76,17 +77,19 @@ fn prepare<'w, 'p, F: FileStore<'p>>(
 
 /// Prints the sum of the counts of several captures, if a header was read, and all that the writer
 /// has gathered.
-fn finish_counts<O: Write>(
+fn finish_counts<O: PrintSink>(
     alloc: Global,
     words: &CountWords<'_>,
     has_program: bool,
     totals: CountTotals,
     out: &mut O,
-) -> Result<(), Unprinted> {
+) -> Result<(), Unprinted>
+    ensures { OnOk result (O.waits out.new ≡ false) }
+{
     totals.printed?;
     let is_summed = words.inputs.len() > 1 && words.shown == CountShown::Counts;
     if !totals.opened || !is_summed {
-        return Ok(out.flush()?);
+        return Ok(out.hand_on()?);
     }
     if words.json {
         let taken = if has_program {
@@ -104,14 +107,23 @@ fn finish_counts<O: Write>(
     )
 }
 
+/// Hands on the paths that were printed, if all were.
+fn finish_paths<O: PrintSink>(printed: Result<(), Unprinted>, out: &mut O) -> Result<(), Unprinted>
+    ensures { OnOk result (O.waits out.new ≡ false) }
+{
+    printed?;
+    Ok(out.hand_on()?)
+}
+
 /// Counts the packets, prints the counts if they are asked for, and reports how that ended.
-fn count_all<'p, F: FileStore<'p>, O: Write, E: HintSink>(
+fn count_all<'p, F: FileStore<'p>, O: PrintSink, E: HintSink>(
     files: &mut F,
     job: Job<'_, 'p, F::Input>,
     out: &mut O,
     err: &mut E,
 ) -> Status
     ensures kept { Keeps (F.place files.old) (F.place files.new) (F.text files.old) (F.text files.new) (F.pending files.old) (F.pending files.new) }
+    ensures handed_on { O.waits out.old ≡ false → result ≡ Clean → O.waits out.new ≡ false }
 {
     let Job {
         alloc,
@@ -146,13 +158,14 @@ fn count_all<'p, F: FileStore<'p>, O: Write, E: HintSink>(
 }
 
 /// Prints the paths of the captures that have an accepted packet, and reports how that ended.
-fn list_all<'p, F: FileStore<'p>, O: Write, E: HintSink>(
+fn list_all<'p, F: FileStore<'p>, O: PrintSink, E: HintSink>(
     files: &mut F,
     job: Job<'_, 'p, F::Input>,
     out: &mut O,
     err: &mut E,
 ) -> Status
     ensures kept { Keeps (F.place files.old) (F.place files.new) (F.text files.old) (F.text files.new) (F.pending files.old) (F.pending files.new) }
+    ensures handed_on { O.waits out.old ≡ false → result ≡ Clean → O.waits out.new ≡ false }
 {
     let Job {
         alloc,
@@ -173,10 +186,7 @@ fn list_all<'p, F: FileStore<'p>, O: Write, E: HintSink>(
         read,
     } = list_captures(&listing, captures, out);
     let noted = close_captures(files, sources, read);
-    let printed = match totals.printed {
-        Ok(()) => out.flush().map_err(Unprinted::Output),
-        Err(unprinted) => Err(unprinted),
-    };
+    let printed = finish_paths(totals.printed, out);
     let status = report_listed(&printed, read, totals.found, paths, err);
     hint_ended(paths, read, &noted, err);
     status
@@ -185,7 +195,7 @@ fn list_all<'p, F: FileStore<'p>, O: Write, E: HintSink>(
 /// `bpftap explain` with `-c`, `-l`, or a bound, whatever the files are: the filter is accepted and
 /// the paths are compared before a capture is opened, and no capture is the file that is printed
 /// to. No file changes.
-pub fn count_and_report<'p, F: FileStore<'p>, O: Write, E: HintSink>(
+pub fn count_and_report<'p, F: FileStore<'p>, O: PrintSink, E: HintSink>(
     alloc: Global,
     files: &mut F,
     words: &CountWords<'p>,
@@ -193,6 +203,8 @@ pub fn count_and_report<'p, F: FileStore<'p>, O: Write, E: HintSink>(
     err: &mut E,
 ) -> Status
     ensures kept { Keeps (F.place files.old) (F.place files.new) (F.text files.old) (F.text files.new) (F.pending files.old) (F.pending files.new) }
+    // Nothing that was printed waits, if all went well.
+    ensures handed_on { O.waits out.old ≡ false → result ≡ Clean → O.waits out.new ≡ false }
 {
     match prepare(alloc, files, words) {
         Ok(job) => match words.shown {

@@ -1,11 +1,12 @@
 //! The lines of captures whose packets are counted.
 
-ghost use Rattle.std.specs.Prelude.{◌≡◌, ◌++◌, IfOk, OnOk, Some, string_bytes};
+ghost use Rattle.std.specs.Prelude.{◌≡◌, ◌++◌, IfOk, OnOk, Some, false, string_bytes};
 ghost use Rattle.line_text.specs.Sending.{Takes};
 ghost use Rattle.cli_count.specs.Lines.{count_json, count_line, count_text, counts_json, member_json, packets_json, path_json, path_line, sum_json, taken_json, verdicts_json};
 
 use cli_answers::counts::VerdictCounts;
-use cli_answers::printing::{Unprinted, send_last};
+use cli_answers::printing::Unprinted;
+use cli_watch::output::{PrintSink, send_last};
 use line_text::sending::send;
 use line_text::{LineForm, put_string};
 use std::alloc::{AllocError, Global};
@@ -162,13 +163,14 @@ fn put_sum_object(
 /// Prints the counts of several captures as an object:
 /// `{"packets":253,"yes":67,"no":186,"abort":0,"instructions":1692}`, on one line, and flushes the
 /// writer.
-pub(crate) fn print_sum_object<O: Write>(
+pub(crate) fn print_sum_object<O: PrintSink>(
     alloc: Global,
     counts: VerdictCounts,
     taken: Option<u64>,
     out: &mut O,
 ) -> Result<(), Unprinted>
-    ensures { Takes (O.contents out.old) (O.contents out.new) result (sum_json counts taken) }
+    ensures taken { Takes (O.contents out.old) (O.contents out.new) result (sum_json counts taken) }
+    ensures handed_on { OnOk result (O.waits out.new ≡ false) }
 {
     let mut line = String::new(alloc);
     match put_sum_object(&mut line, counts, taken) {

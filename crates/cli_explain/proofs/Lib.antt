@@ -4,3 +4,4 @@ pub mod Ranging
 pub mod Visits
 pub mod Stopping
 pub mod InFull
+pub mod Handing

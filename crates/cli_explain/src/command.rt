@@ -1,7 +1,8 @@
 //! `bpftap explain`, over files.
 
-ghost use Rattle.std.specs.Prelude.{◌≡◌, true};
+ghost use Rattle.std.specs.Prelude.{◌≡◌, false, true};
 ghost use Rattle.cli_text.specs.Status.{greater};
+ghost use Rattle.cli_text.specs.declared.status.Status.TheVariants.{Clean};
 ghost use Rattle.fault_report.specs.Reports.{TellsAmong, TellsOne};
 ghost use Rattle.cli_store.specs.Files.{Keeps};
 ghost use Rattle.cli_answers.specs.Telling.{TellsEnd, printed_status, stop_status};
@@ -21,7 +22,7 @@ use cli_report::failures::hint_output;
 use cli_store::{DiskFiles, FileStore};
 use cli_text::Status;
 use cli_watch::hints::{is_asked, report_unseen};
-use cli_watch::output::WatchedOutput;
+use cli_watch::output::{PrintSink, WatchedOutput};
 use cli_watch::{Screen, Watch};
 use std::alloc::Global;
 use std::fs::Files;
@@ -51,7 +52,7 @@ fn report_lines<E: HintSink>(
 }
 
 /// Prints a line for each packet, and the counts if a header was read; and reports how that ended.
-fn explain_all<'p, F: FileStore<'p>, O: Write, E: HintSink>(
+fn explain_all<'p, F: FileStore<'p>, O: PrintSink, E: HintSink>(
     alloc: Global,
     files: &mut F,
     words: &ExplainWords<'p>,
@@ -60,6 +61,7 @@ fn explain_all<'p, F: FileStore<'p>, O: Write, E: HintSink>(
 ) -> Status
     ensures kept { Keeps (F.place files.old) (F.place files.new) (F.text files.old) (F.text files.new) (F.pending files.old) (F.pending files.new) }
     ensures answers { F.known ≡ true → LinesAnswer F.Input.left F.Input.failures O.contents (F.place files.old) (F.text files.old) (F.printed files.old) (F.failed files.new) words.now (λ says. TellsOne E.takes_hints E.failed E.contents E.fault_form says err.old err.new) (λ says. TellsAmong E.takes_hints E.failed E.contents E.fault_form says err.old err.new) out.old out.new result }
+    ensures handed_on { O.waits out.old ≡ false → result ≡ Clean → O.waits out.new ≡ false }
 {
     match explain_files(alloc, files, words, out) {
         Ok(end) => report_lines(&end, words, err),
@@ -68,7 +70,7 @@ fn explain_all<'p, F: FileStore<'p>, O: Write, E: HintSink>(
 }
 
 /// Reports only by the status whether the filter accepts a packet.
-fn ask_quietly<'p, F: FileStore<'p>, O: Write, E: HintSink>(
+fn ask_quietly<'p, F: FileStore<'p>, O: PrintSink, E: HintSink>(
     alloc: Global,
     files: &mut F,
     words: &ExplainWords<'p>,
@@ -77,6 +79,7 @@ fn ask_quietly<'p, F: FileStore<'p>, O: Write, E: HintSink>(
 ) -> Status
     ensures kept { Keeps (F.place files.old) (F.place files.new) (F.text files.old) (F.text files.new) (F.pending files.old) (F.pending files.new) }
     ensures answers { F.known ≡ true → StatusAnswers F.Input.left F.Input.failures (F.place files.old) (F.text files.old) (F.printed files.old) (F.failed files.new) words.now (λ says. TellsOne E.takes_hints E.failed E.contents E.fault_form says err.old err.new) (λ says. TellsAmong E.takes_hints E.failed E.contents E.fault_form says err.old err.new) _out.old _out.new result }
+    ensures silent { _out.new ≡ _out.old }
 {
     match seek_files(alloc, files, words) {
         Ok(end) => {
@@ -91,7 +94,7 @@ fn ask_quietly<'p, F: FileStore<'p>, O: Write, E: HintSink>(
 
 /// `bpftap explain`, whatever the files are: with `-q` only the status answers; with `-p` packets of each capture are printed in full; else a
 /// line for each packet, and the counts. The filter is accepted, and the paths are compared, before a capture is opened. No file changes.
-pub fn explain_and_report<'p, F: FileStore<'p>, O: Write, E: HintSink>(
+pub fn explain_and_report<'p, F: FileStore<'p>, O: PrintSink, E: HintSink>(
     alloc: Global,
     files: &mut F,
     words: &ExplainWords<'p>,
@@ -100,6 +103,8 @@ pub fn explain_and_report<'p, F: FileStore<'p>, O: Write, E: HintSink>(
 ) -> Status
     ensures kept { Keeps (F.place files.old) (F.place files.new) (F.text files.old) (F.text files.new) (F.pending files.old) (F.pending files.new) }
     ensures answers { F.known ≡ true → Answers F.Input.left F.Input.failures O.contents (F.place files.old) (F.text files.old) (F.printed files.old) (F.failed files.new) words.now (λ says. TellsOne E.takes_hints E.failed E.contents E.fault_form says err.old err.new) (λ says. TellsAmong E.takes_hints E.failed E.contents E.fault_form says err.old err.new) out.old out.new result }
+    // Where all went well, nothing that was printed waits.
+    ensures handed_on { O.waits out.old ≡ false → result ≡ Clean → O.waits out.new ≡ false }
 {
     match (words.quiet, words.places) {
         (true, _) => ask_quietly(alloc, files, words, out, err),

@@ -15,6 +15,7 @@ use cli_answers::form::PacketLine;
 use cli_answers::printing::Unprinted;
 use cli_answers::{AskedFilter, PacketForm};
 use cli_watch::frames::is_unseen;
+use cli_watch::output::PrintSink;
 use filter_meaning::Verdict;
 use line_text::sending::send;
 use savefile::laws::given_so_far;
@@ -50,7 +51,7 @@ pub struct Explained<R> {
 /// [`Fault::NoMemory`] the source is as it was too. It has the fault of the first torn or bad record, after the line of the counts. It is
 /// [`Fault::Device`] exactly if the source failed. If `printed` has a fault, `out` took a prefix of the lines, and `read` is `Ok`, since no
 /// further packet was read; or it took all lines of the packets, and a prefix of that of the counts.
-pub fn explain_each<R: Source, O: Write>(
+pub fn explain_each<R: Source, O: PrintSink>(
     alloc: Global,
     from: R,
     filter: &AskedFilter,

@@ -1,6 +1,6 @@
 //! `bpftap explain`, over files that contracts can know: the lines of all packets, and whether one is accepted.
 
-ghost use Rattle.std.specs.Prelude.{◌≡◌, true, IfErr, IfOk, OnErr};
+ghost use Rattle.std.specs.Prelude.{◌≡◌, false, true, IfErr, IfOk, IsOk, OnErr};
 ghost use Rattle.cli_store.specs.Files.{Keeps};
 ghost use Rattle.cli_explain.specs.Explaining.{IsRefused, PrintsLines, Seeks};
 
@@ -12,12 +12,12 @@ use cli_answers::counts::VerdictCounts;
 use cli_answers::opened::close_captures;
 use cli_args::explain::ExplainWords;
 use cli_store::FileStore;
+use cli_watch::output::PrintSink;
 use std::alloc::Global;
-use std::io::Write;
 
 /// Prints a line for each packet of the captures, in order up to the first fault, and then the counts of all. The filter is accepted, and the
 /// paths are compared, before a capture is opened.
-pub fn explain_files<'p, F: FileStore<'p>, O: Write>(
+pub fn explain_files<'p, F: FileStore<'p>, O: PrintSink>(
     alloc: Global,
     files: &mut F,
     words: &ExplainWords<'p>,
@@ -27,6 +27,7 @@ pub fn explain_files<'p, F: FileStore<'p>, O: Write>(
     ensures prints { F.known ≡ true → IfOk result (PrintsLines F.Input.left F.Input.failures O.contents (F.place files.old) (F.text files.old) (F.printed files.old) (F.failed files.new) words.now out.old out.new) }
     ensures refused { F.known ≡ true → IfErr result (IsRefused (F.place files.old) (F.text files.old) (F.printed files.old) (F.failed files.new) words.now) }
     ensures silent { OnErr result (out.new ≡ out.old) }
+    ensures handed_on { O.waits out.old ≡ false → IfOk result (λ end. IsOk end.read → IsOk end.printed → O.waits out.new ≡ false) }
 {
     let inputs = words.inputs.as_slice();
     let Asked { filter, captures } = ask(alloc, files, words.listing, words.expr, inputs)?;

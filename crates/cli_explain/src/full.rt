@@ -1,6 +1,6 @@
 //! `bpftap explain -p`, over files that contracts can know: packets of each capture in full.
 
-ghost use Rattle.std.specs.Prelude.{◌≡◌, true};
+ghost use Rattle.std.specs.Prelude.{◌≡◌, false, true};
 ghost use Rattle.std.specs.List.{AllByRecursion};
 ghost use Rattle.cli_text.specs.declared.status.Status.TheVariants.{Clean};
 ghost use Rattle.fault_report.specs.Reports.{TellsAmong, TellsMore, TellsOne};
@@ -24,10 +24,10 @@ use cli_args::places::PlaceRange;
 use cli_report::HintSink;
 use cli_store::FileStore;
 use cli_text::Status;
+use cli_watch::output::PrintSink;
 use filtergen::{Refusal, compile};
 use savefile::Fault;
 use std::alloc::Global;
-use std::io::Write;
 
 /// Which packets of each capture are explained in full, and by what; and the paths of the captures, as they are reported.
 #[derive(Clone, Copy)]
@@ -49,7 +49,7 @@ fn goes_on_after(read: Result<bool, Fault>, printed: &Result<(), Unprinted>) -> 
 }
 
 /// Prints the packets of a range of places of the capture of this number in full, closes it, and reports how that ended.
-fn explain_places_of<'p, F: FileStore<'p>, O: Write, E: HintSink>(
+fn explain_places_of<'p, F: FileStore<'p>, O: PrintSink, E: HintSink>(
     asked: &InFull<'_, '_, '_>,
     files: &mut F,
     number: usize,
@@ -62,8 +62,8 @@ fn explain_places_of<'p, F: FileStore<'p>, O: Write, E: HintSink>(
         FindsOne F.Input.left (F.failed files.new) (λ says. TellsAmong E.takes_hints E.failed E.contents E.fault_form says err.old err.new) asked.now.paths.now asked.now.filter.form number asked.now.filter.filter.now asked.now.places.first asked.now.places.last capture (O.contents out.old) (O.contents out.new) result }
     ensures stays { F.known ≡ true → F.failed files.old ≡ true → F.failed files.new ≡ true }
     ensures more { TellsMore E.takes_hints E.failed E.contents E.fault_form err.old err.new }
+    ensures handed_on { O.waits out.old ≡ false → result.status ≡ Clean → O.waits out.new ≡ false }
 {
-    let PlaceRange { first, last } = asked.places;
     let form = asked.filter.form.of_capture(number);
     let filter = FilterWithProgram {
         form,
@@ -73,7 +73,7 @@ fn explain_places_of<'p, F: FileStore<'p>, O: Write, E: HintSink>(
         source,
         read,
         printed,
-    } = explain_range(asked.alloc, capture, &filter, first, last, out);
+    } = explain_range(asked.alloc, capture, &filter, asked.places, out);
     let noted = files.done(source);
     let goes_on = goes_on_after(read, &printed);
     let found = Found {
@@ -81,7 +81,7 @@ fn explain_places_of<'p, F: FileStore<'p>, O: Write, E: HintSink>(
         read,
         printed,
     };
-    let status = report_one(&found, first, asked.paths, number, err);
+    let status = report_one(&found, asked.places.first, asked.paths, number, err);
     match read {
         Ok(true) => {}
         Ok(false) => hint_place(asked.paths, number, err),
@@ -91,7 +91,7 @@ fn explain_places_of<'p, F: FileStore<'p>, O: Write, E: HintSink>(
 }
 
 /// Prints these packets of each capture in full, in order, until one can't be read so far or the printing fails; and closes all captures.
-fn explain_in_full<'p, F: FileStore<'p>, O: Write, E: HintSink>(
+fn explain_in_full<'p, F: FileStore<'p>, O: PrintSink, E: HintSink>(
     asked: &InFull<'_, '_, '_>,
     files: &mut F,
     captures: Vec<F::Input>,
@@ -101,6 +101,7 @@ fn explain_in_full<'p, F: FileStore<'p>, O: Write, E: HintSink>(
     ensures kept { Keeps (F.place files.old) (F.place files.new) (F.text files.old) (F.text files.new) (F.pending files.old) (F.pending files.new) }
     ensures finds { F.known ≡ true → AllByRecursion (λ capture. F.Input.failures capture ≡ 0) captures.items →
         FindsIn F.Input.left O.contents (F.failed files.new) (λ says. TellsAmong E.takes_hints E.failed E.contents E.fault_form says err.old err.new) asked.now.paths.now asked.now.filter.form asked.now.filter.filter.now asked.now.places.first asked.now.places.last 0 true Clean captures.items out.old out.new result }
+    ensures handed_on { O.waits out.old ≡ false → result ≡ Clean → O.waits out.new ≡ false }
 {
     let mut status = Status::Clean;
     let mut goes_on = true;
@@ -128,7 +129,7 @@ fn program_of(compiled: &Result<Program, Refusal>) -> Result<&Program, Refusal> 
 
 /// Prints the packets of a range of places of each capture in full, with the run of the filter's program, as texts or as objects; and reports
 /// how that ended.
-pub fn explain_places<'p, F: FileStore<'p>, O: Write, E: HintSink>(
+pub fn explain_places<'p, F: FileStore<'p>, O: PrintSink, E: HintSink>(
     alloc: Global,
     files: &mut F,
     words: &ExplainWords<'p>,
@@ -138,6 +139,7 @@ pub fn explain_places<'p, F: FileStore<'p>, O: Write, E: HintSink>(
 ) -> Status
     ensures kept { Keeps (F.place files.old) (F.place files.new) (F.text files.old) (F.text files.new) (F.pending files.old) (F.pending files.new) }
     ensures answers { F.known ≡ true → PlacesAnswer F.Input.left F.Input.failures O.contents (F.place files.old) (F.text files.old) (F.printed files.old) (F.failed files.new) words.now places (λ says. TellsOne E.takes_hints E.failed E.contents E.fault_form says err.old err.new) (λ says. TellsAmong E.takes_hints E.failed E.contents E.fault_form says err.old err.new) out.old out.new result }
+    ensures handed_on { O.waits out.old ≡ false → result ≡ Clean → O.waits out.new ≡ false }
 {
     let paths = words.inputs.as_slice();
     let Asked { filter, captures } = match ask(alloc, files, words.listing, words.expr, paths) {

@@ -1,6 +1,6 @@
 //! One packet of a capture in full: the function under `bpftap explain -p`.
 
-ghost use Rattle.std.specs.Prelude.{◌≡◌, ◌≢◌, ◌↔◌, ℕ, List, Option, [], Ok, Err, true};
+ghost use Rattle.std.specs.Prelude.{◌≡◌, ◌≢◌, ◌↔◌, ℕ, List, Option, [], Ok, Err, OnOk, false, true};
 ghost use Rattle.std.specs.Io.KnownBytes.{Consumes};
 ghost use Rattle.savefile.specs.declared.header.Header.{Header};
 ghost use Rattle.savefile.specs.Reader.{HasGiven, Lends};
@@ -14,11 +14,11 @@ use crate::program::FilterWithProgram;
 use crate::whole::whole_text;
 use cli_answers::PacketForm;
 use cli_answers::form::PacketLine;
-use cli_answers::printing::{Unprinted, send_last};
+use cli_answers::printing::Unprinted;
+use cli_watch::output::{PrintSink, send_last};
 use savefile::laws::given_so_far;
 use savefile::{Fault, PacketRef, Reader, Source};
 use std::alloc::Global;
-use std::io::Write;
 
 /// What explaining one packet came to.
 #[derive(Debug, Drop)]
@@ -39,7 +39,7 @@ pub struct Found<R> {
 /// a torn or bad record. Then nothing is printed; with [`Fault::NoMemory`] the source is as it was too. If `printed` is `NoMemory`, `out`
 /// took only that line or nothing, and if it is `Output` a prefix of the line, or the line and what comes after it. Of an object it took
 /// nothing, and a prefix.
-pub fn explain_one<R: Source, O: Write>(
+pub fn explain_one<R: Source, O: PrintSink>(
     alloc: Global,
     from: R,
     filter: &FilterWithProgram<'_, '_>,
@@ -94,7 +94,7 @@ pub(crate) fn go_to<R: Source>(reader: &mut Reader<R>, place: u64) -> Result<boo
 }
 
 /// Prints the packet that a reader went on to, where it did.
-fn print_found<R: Source, O: Write>(
+fn print_found<R: Source, O: PrintSink>(
     alloc: Global,
     filter: &FilterWithProgram<'_, '_>,
     place: u64,
@@ -113,14 +113,15 @@ fn print_found<R: Source, O: Write>(
 }
 
 /// Prints a packet in full, in the form that is asked for.
-pub(crate) fn print_whole<O: Write>(
+pub(crate) fn print_whole<O: PrintSink>(
     alloc: Global,
     filter: &FilterWithProgram<'_, '_>,
     place: u64,
     packet: &PacketRef<'_>,
     out: &mut O,
 ) -> Result<(), Unprinted>
-    ensures { PrintsWhole filter.now.form filter.now.filter.now place packet.now (O.contents out.old) (O.contents out.new) result }
+    ensures prints { PrintsWhole filter.now.form filter.now.filter.now place packet.now (O.contents out.old) (O.contents out.new) result }
+    ensures handed_on { OnOk result (O.waits out.new ≡ false) }
 {
     match filter.form {
         PacketForm::Text => print_text(alloc, filter, place, packet, out),
@@ -129,14 +130,15 @@ pub(crate) fn print_whole<O: Write>(
 }
 
 /// Prints a packet's line, and then everything else about it.
-fn print_text<O: Write>(
+fn print_text<O: PrintSink>(
     alloc: Global,
     filter: &FilterWithProgram<'_, '_>,
     place: u64,
     packet: &PacketRef<'_>,
     out: &mut O,
 ) -> Result<(), Unprinted>
-    ensures { PrintsWhole Text filter.now.filter.now place packet.now (O.contents out.old) (O.contents out.new) result }
+    ensures prints { PrintsWhole Text filter.now.filter.now place packet.now (O.contents out.old) (O.contents out.new) result }
+    ensures handed_on { OnOk result (O.waits out.new ≡ false) }
 {
     let mut buffer = PacketLine::new(alloc);
     let asking = Asking {
@@ -148,14 +150,15 @@ fn print_text<O: Write>(
 }
 
 /// Prints what follows a packet's line.
-fn print_rest<O: Write>(
+fn print_rest<O: PrintSink>(
     alloc: Global,
     filter: &FilterWithProgram<'_, '_>,
     place: u64,
     packet: &PacketRef<'_>,
     out: &mut O,
 ) -> Result<(), Unprinted>
-    ensures { PrintsMore (O.contents out.old) (O.contents out.new) result }
+    ensures prints { PrintsMore (O.contents out.old) (O.contents out.new) result }
+    ensures handed_on { OnOk result (O.waits out.new ≡ false) }
 {
     let text = whole_text(alloc, filter, place, packet)?;
     send_last(text.as_bytes(), out)?;
@@ -163,7 +166,7 @@ fn print_rest<O: Write>(
 }
 
 /// Prints the object of a packet of the capture of this number, with everything about it.
-fn print_object<O: Write>(
+fn print_object<O: PrintSink>(
     alloc: Global,
     filter: &FilterWithProgram<'_, '_>,
     capture: usize,
@@ -171,7 +174,8 @@ fn print_object<O: Write>(
     packet: &PacketRef<'_>,
     out: &mut O,
 ) -> Result<(), Unprinted>
-    ensures { PrintsWhole (Json capture) filter.now.filter.now place packet.now (O.contents out.old) (O.contents out.new) result }
+    ensures prints { PrintsWhole (Json capture) filter.now.filter.now place packet.now (O.contents out.old) (O.contents out.new) result }
+    ensures handed_on { OnOk result (O.waits out.new ≡ false) }
 {
     let object = whole_object(alloc, filter, capture, place, packet)?;
     send_last(object.as_bytes(), out)?;

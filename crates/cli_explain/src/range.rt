@@ -1,6 +1,6 @@
 //! The packets of a range of places in full: the function under `bpftap explain -p FIRST-LAST`.
 
-ghost use Rattle.std.specs.Prelude.{◌≡◌, ◌≢◌, ◌↔◌, ◌++◌, ◌∷◌, ℕ, List, Option, [], Err, length};
+ghost use Rattle.std.specs.Prelude.{◌≡◌, ◌≢◌, ◌↔◌, ◌++◌, ◌∷◌, ℕ, List, Option, [], Err, IsOk, false, length};
 ghost use Rattle.std.specs.Io.KnownBytes.{Consumes};
 ghost use Rattle.savefile.specs.declared.header.Header.{Header};
 ghost use Rattle.savefile.specs.declared.packet.Packet.{Packet};
@@ -10,31 +10,34 @@ ghost use Rattle.cli_explain.specs.Range.{FindsRange, PrintsRange, ShowsRange};
 use crate::one::{Found, go_to, print_whole};
 use crate::program::FilterWithProgram;
 use cli_answers::printing::Unprinted;
+use cli_args::places::PlaceRange;
+use cli_watch::output::PrintSink;
 use savefile::laws::given_so_far;
 use savefile::{Fault, Reader, Source};
 use std::alloc::Global;
-use std::io::Write;
 
 /// Prints all of the packets from one place of a capture to another, one after the other, each as [`explain_one`](crate::one::explain_one)
-/// does; if `last` is below `first`, only that at `first`. If the capture ends between these places, that is no fault.
+/// does; if the last place is below the first, only that at the first. If the capture ends between these places, that is no fault.
 ///
-/// `read` is `Ok(false)` if the capture has no packet at `first`, and then nothing is printed. It has the fault that ended the capture, if one
+/// `read` is `Ok(false)` if the capture has no packet at the first place, and then nothing is printed. It has the fault that ended the capture, if one
 /// did, after the packets before it. With [`Fault::NoMemory`] of the header the source is as it was. If `printed` has a fault, the packets
 /// before it are printed, and of the one that it came at what [`explain_one`](crate::one::explain_one) says.
-pub fn explain_range<R: Source, O: Write>(
+pub fn explain_range<R: Source, O: PrintSink>(
     alloc: Global,
     from: R,
     filter: &FilterWithProgram<'_, '_>,
-    first: u64,
-    last: u64,
+    places: PlaceRange,
     out: &mut O,
 ) -> Found<R>
     // Which packets there are, and what was printed of them.
-    ensures finds { FindsRange R.left from filter.now.form filter.now.filter.now first last (O.contents out.old) (O.contents out.new) result }
+    ensures finds { FindsRange R.left from filter.now.form filter.now.filter.now places.first places.last (O.contents out.old) (O.contents out.new) result }
 
     // The next bytes of the source are taken, and its fault is returned if and only if it failed.
     ensures gave { (given : List ℕ) × Consumes (R.left from) (R.left result.source) given }
     ensures source_broke { (result.read ≡ Err Fault.Device) ↔ (R.failures result.source ≢ R.failures from) }
+
+    // If nothing waited and all was printed, nothing waits.
+    ensures handed_on { O.waits out.old ≡ false → IsOk result.printed → O.waits out.new ≡ false }
 {
     let mut reader = match Reader::open(alloc, from) {
         Ok(reader) => reader,
@@ -46,7 +49,7 @@ pub fn explain_range<R: Source, O: Write>(
             };
         }
     };
-    let ended = show_range(alloc, filter, first, last, &mut reader, out);
+    let ended = show_range(alloc, filter, places, &mut reader, out);
     Found {
         source: reader.close(),
         read: ended.read,
@@ -55,21 +58,21 @@ pub fn explain_range<R: Source, O: Write>(
 }
 
 /// Goes on to the first place, and prints the packets from there.
-fn show_range<R: Source, O: Write>(
+fn show_range<R: Source, O: PrintSink>(
     alloc: Global,
     filter: &FilterWithProgram<'_, '_>,
-    first: u64,
-    last: u64,
+    places: PlaceRange,
     reader: &mut Reader<R>,
     out: &mut O,
 ) -> Found<()>
     ensures shows { (from : Option (List ℕ)) (header : Header) → HasGiven R.left from header [] reader.old →
-        ShowsRange from (R.left reader.new.source) header filter.now.form filter.now.filter.now first last (O.contents out.old) (O.contents out.new) result.read result.printed }
+        ShowsRange from (R.left reader.new.source) header filter.now.form filter.now.filter.now places.first places.last (O.contents out.old) (O.contents out.new) result.read result.printed }
     ensures taken { (bytes : List ℕ) × Consumes (R.left reader.old.source) (R.left reader.new.source) bytes }
     ensures source_broke { (result.read ≡ Err Fault.Device) ↔ (R.failures reader.new.source ≢ R.failures reader.old.source) }
+    ensures handed_on { O.waits out.old ≡ false → IsOk result.printed → O.waits out.new ≡ false }
 {
-    match go_to(reader, first) {
-        Ok(true) => print_range(alloc, filter, first, last, reader, out),
+    match go_to(reader, places.first) {
+        Ok(true) => print_range(alloc, filter, places, reader, out),
         Ok(false) => outcome(Ok(false), Ok(())),
         Err(fault) => outcome(Err(fault), Ok(())),
     }
@@ -88,22 +91,22 @@ fn outcome(read: Result<bool, Fault>, printed: Result<(), Unprinted>) -> Found<(
 }
 
 /// Prints the packet that a reader lends, which is the first, and those after it, up to the last place.
-fn print_range<R: Source, O: Write>(
+fn print_range<R: Source, O: PrintSink>(
     alloc: Global,
     filter: &FilterWithProgram<'_, '_>,
-    first: u64,
-    last: u64,
+    places: PlaceRange,
     reader: &mut Reader<R>,
     out: &mut O,
 ) -> Found<()>
     requires { Lends reader.old }
-    ensures prints { (from : Option (List ℕ)) (header : Header) (before : List Packet) → length before ≡ first →
+    ensures prints { (from : Option (List ℕ)) (header : Header) (before : List Packet) → length before ≡ places.first →
         HasGiven R.left from header (before ++ reader.old.lent ∷ []) reader.old →
-        PrintsRange from (R.left reader.new.source) header filter.now.form filter.now.filter.now first last before (O.contents out.old) (O.contents out.new) result.read result.printed }
+        PrintsRange from (R.left reader.new.source) header filter.now.form filter.now.filter.now places.first places.last before (O.contents out.old) (O.contents out.new) result.read result.printed }
     ensures taken { (bytes : List ℕ) × Consumes (R.left reader.old.source) (R.left reader.new.source) bytes }
     ensures source_broke { (result.read ≡ Err Fault.Device) ↔ (R.failures reader.new.source ≢ R.failures reader.old.source) }
+    ensures handed_on { IsOk result.printed → O.waits out.new ≡ false }
 {
-    let mut place = first;
+    let mut place = places.first;
     loop {
         // Where the printing breaks off, what was read so far begins what the capture holds.
         given_so_far(reader);
@@ -111,7 +114,7 @@ fn print_range<R: Source, O: Write>(
         if printed.is_err() {
             return outcome(Ok(true), printed);
         }
-        if place >= last {
+        if place >= places.last {
             return outcome(Ok(true), Ok(()));
         }
         match reader.advance() {

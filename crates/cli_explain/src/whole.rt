@@ -87,22 +87,6 @@ fn put_answer(text: &mut String, asked: AskedPart<'_>) -> Result<(), AllocError>
     text.push('\n')
 }
 
-/// Appends a primitive or a relation that is asked, its own answer, and what it looks at, which is noted too.
-fn put_asked(
-    alloc: Global,
-    text: &mut String,
-    noted: &mut Vec<Look>,
-    part: &Expr,
-    packet: &PacketRef<'_>,
-) -> Result<Verdict, NoMemory> {
-    let asked = decide(part, packet.bytes, packet.len);
-    put_answer(text, asked)?;
-    let looks = looks_of(alloc, part, packet.bytes, packet.len)?;
-    put_looks(text, looks.as_slice(), packet)?;
-    noted.extend_from_slice(looks.as_slice())?;
-    Ok(asked.verdict)
-}
-
 /// Appends a primitive or a relation that is not asked.
 fn put_unasked(text: &mut String, part: &Expr) -> Result<(), AllocError> {
     text.push_str("not asked  ")?;
@@ -115,58 +99,92 @@ pub(crate) fn join_verdicts(first: Verdict, goes_on: Verdict, second: Verdict) -
     if first == goes_on { second } else { first }
 }
 
-/// Appends a primitive or a relation, and answers what it answers, where it is asked.
-fn put_one_part(
+/// What follows a packet's line, and what the parts of its expression looked at.
+#[derive(Drop)]
+struct WholeText {
     alloc: Global,
-    text: &mut String,
-    noted: &mut Vec<Look>,
-    part: &Expr,
-    is_asked: bool,
-    packet: &PacketRef<'_>,
-) -> Result<Verdict, NoMemory> {
-    if is_asked {
-        return put_asked(alloc, text, noted, part, packet);
+    text: String,
+    noted: Vec<Look>,
+}
+
+impl WholeText {
+    /// Appends a primitive or a relation that is asked, its own answer, and what it looks at, which
+    /// is noted too.
+    fn put_asked(&mut self, part: &Expr, packet: &PacketRef<'_>) -> Result<Verdict, NoMemory> {
+        let asked = decide(part, packet.bytes, packet.len);
+        put_answer(&mut self.text, asked)?;
+        let looks = looks_of(self.alloc, part, packet.bytes, packet.len)?;
+        put_looks(&mut self.text, looks.as_slice(), packet)?;
+        self.noted.extend_from_slice(looks.as_slice())?;
+        Ok(asked.verdict)
     }
-    put_unasked(text, part)?;
-    Ok(Verdict::No)
-}
 
-/// Appends the primitives and relations of an expression from left to right, and answers what it answers. Those that are not
-/// asked are named so.
-fn put_parts(
-    alloc: Global,
-    text: &mut String,
-    noted: &mut Vec<Look>,
-    expr: &Expr,
-    is_asked: bool,
-    packet: &PacketRef<'_>,
-) -> Result<Verdict, NoMemory> {
-    let (left, goes_on, right) = match expr {
-        Expr::Not(operand) => {
-            let verdict = put_parts(alloc, text, noted, operand, is_asked, packet)?;
-            return Ok(verdict.opposite());
+    /// Appends a primitive or a relation, and answers what it answers, where it is asked.
+    fn put_one_part(
+        &mut self,
+        part: &Expr,
+        is_asked: bool,
+        packet: &PacketRef<'_>,
+    ) -> Result<Verdict, NoMemory> {
+        if is_asked {
+            return self.put_asked(part, packet);
         }
-        Expr::And(left, right) => (left, Verdict::Yes, right),
-        Expr::Or(left, right) => (left, Verdict::No, right),
-        _ => return put_one_part(alloc, text, noted, expr, is_asked, packet),
-    };
-    let first = put_parts(alloc, text, noted, left, is_asked, packet)?;
-    let is_next_asked = is_asked && first == goes_on;
-    let second = put_parts(alloc, text, noted, right, is_next_asked, packet)?;
-    Ok(join_verdicts(first, goes_on, second))
-}
+        put_unasked(&mut self.text, part)?;
+        Ok(Verdict::No)
+    }
 
-/// Appends how an expression was read, and its primitives and relations; what they looked at is noted.
-fn put_expression(
-    alloc: Global,
-    text: &mut String,
-    noted: &mut Vec<Look>,
-    expr: &Expr,
-    packet: &PacketRef<'_>,
-) -> Result<(), NoMemory> {
-    write!(text, "\nexpression: {}\n\n", Canonical(expr))?;
-    put_parts(alloc, text, noted, expr, true, packet)?;
-    Ok(())
+    /// Appends the primitives and relations of an expression from left to right, and answers what
+    /// it answers. Those that are not asked are named so.
+    fn put_parts(
+        &mut self,
+        expr: &Expr,
+        is_asked: bool,
+        packet: &PacketRef<'_>,
+    ) -> Result<Verdict, NoMemory> {
+        let (left, goes_on, right) = match expr {
+            Expr::Not(operand) => {
+                return Ok(self.put_parts(operand, is_asked, packet)?.opposite());
+            }
+            Expr::And(left, right) => (left, Verdict::Yes, right),
+            Expr::Or(left, right) => (left, Verdict::No, right),
+            _ => return self.put_one_part(expr, is_asked, packet),
+        };
+        let first = self.put_parts(left, is_asked, packet)?;
+        let is_next_asked = is_asked && first == goes_on;
+        let second = self.put_parts(right, is_next_asked, packet)?;
+        Ok(join_verdicts(first, goes_on, second))
+    }
+
+    /// Appends how an expression was read, and its primitives and relations; what they looked at is
+    /// noted.
+    fn put_expression(&mut self, expr: &Expr, packet: &PacketRef<'_>) -> Result<(), NoMemory> {
+        write!(self.text, "\nexpression: {}\n\n", Canonical(expr))?;
+        self.put_parts(expr, true, packet)?;
+        Ok(())
+    }
+
+    /// Appends what follows a packet's line.
+    fn put_whole(
+        &mut self,
+        filter: &FilterWithProgram<'_, '_>,
+        place: u64,
+        packet: &PacketRef<'_>,
+    ) -> Result<(), NoMemory> {
+        let shown = u128::from(place) + 1;
+        write!(
+            self.text,
+            "places count from 0; tcpdump and Wireshark count packets from 1, and this is packet {shown} there\n"
+        )?;
+        match filter.filter {
+            AskedFilter::Expression(expr) => {
+                self.put_expression(expr, packet)?;
+                self.text.push_str("\nbytes, with those marked that the expression looked at:\n")?;
+            }
+            AskedFilter::Program(_) => self.text.push_str("\nbytes:\n")?,
+        }
+        put_dump(&mut self.text, self.noted.as_slice(), packet.bytes)?;
+        put_program(self.alloc, &mut self.text, filter.program, packet)
+    }
 }
 
 /// Appends an instruction by its name, with blanks for tabs.
@@ -279,31 +297,6 @@ fn put_program(
     }
 }
 
-/// Appends what follows a packet's line.
-fn put_whole(
-    alloc: Global,
-    text: &mut String,
-    filter: &FilterWithProgram<'_, '_>,
-    place: u64,
-    packet: &PacketRef<'_>,
-) -> Result<(), NoMemory> {
-    let shown = u128::from(place) + 1;
-    write!(
-        text,
-        "places count from 0; tcpdump and Wireshark count packets from 1, and this is packet {shown} there\n"
-    )?;
-    let mut noted = Vec::new(alloc);
-    match filter.filter {
-        AskedFilter::Expression(expr) => {
-            put_expression(alloc, text, &mut noted, expr, packet)?;
-            text.push_str("\nbytes, with those marked that the expression looked at:\n")?;
-        }
-        AskedFilter::Program(_) => text.push_str("\nbytes:\n")?,
-    }
-    put_dump(text, noted.as_slice(), packet.bytes)?;
-    put_program(alloc, text, filter.program, packet)
-}
-
 /// What follows a packet's line.
 pub(crate) fn whole_text(
     alloc: Global,
@@ -311,7 +304,11 @@ pub(crate) fn whole_text(
     place: u64,
     packet: &PacketRef<'_>,
 ) -> Result<String, NoMemory> {
-    let mut text = String::new(alloc);
-    put_whole(alloc, &mut text, filter, place, packet)?;
-    Ok(text)
+    let mut whole = WholeText {
+        alloc,
+        text: String::new(alloc),
+        noted: Vec::new(alloc),
+    };
+    whole.put_whole(filter, place, packet)?;
+    Ok(whole.text)
 }

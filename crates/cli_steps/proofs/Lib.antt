@@ -4,3 +4,4 @@ mod Ending
 mod Asked
 mod Reasons
 mod Reporting
+mod Handing

@@ -1,7 +1,8 @@
 //! `bpftap steps`, over files that contracts can know.
 
-ghost use Rattle.std.specs.Prelude.{◌≡◌, [], true, map, IfOk, OnErr, option_copied};
+ghost use Rattle.std.specs.Prelude.{◌≡◌, [], false, true, map, IfOk, OnErr, option_copied};
 ghost use Rattle.std.specs.Io.KnownBytes.{Keeps};
+ghost use Rattle.cli_text.specs.declared.status.Status.TheVariants.{Clean};
 ghost use Rattle.cli_steps.specs.FromFiles.{StepsFiles, detail_for, form_for};
 ghost use Rattle.cli_steps.specs.Playing.{is_traced};
 ghost use Rattle.cli_steps.specs.Telling.{PrintsPlayed};
@@ -13,9 +14,9 @@ use crate::steps::{Detail, Printing, Replayed, StepsReplay};
 use cli_args::steps::StepsWords;
 use cli_store::FileStore;
 use cli_text::Status;
+use cli_watch::output::PrintSink;
 use line_text::LineForm;
 use std::alloc::{AllocError, Global};
-use std::io::Write;
 use tap::Fault;
 
 /// What is wanted of the replay: its answers with `-v`, and its trace with `-p`.
@@ -54,7 +55,7 @@ fn borrow_all(alloc: Global, texts: &[Vec<u8>]) -> Result<Vec<&[u8]>, AllocError
 }
 
 /// Plays what was read, and prints. The error is that memory was refused before: nothing is printed then.
-fn play_input<O: Write>(
+fn play_input<O: PrintSink>(
     alloc: Global,
     words: &StepsWords<'_>,
     input: &StepsInput,
@@ -65,6 +66,7 @@ fn play_input<O: Write>(
         (map (λ c. c.items) input.now.captures.items) input.now.plan.specs.items input.now.plan.steps.items
         (O.contents out.old) (O.contents out.new) played.0 played.1) }
     ensures nothing { OnErr result (Keeps (O.contents out.old) (O.contents out.new)) }
+    ensures handed_on { IfOk result (λ played. played.0 ≡ Clean → O.waits out.new ≡ false) }
 {
     let captures = borrow_all(alloc, input.captures.as_slice())?;
     let replay = StepsReplay {
@@ -76,7 +78,7 @@ fn play_input<O: Write>(
 
 /// `bpftap steps`, whatever the files are. LISTENERS and SCRIPT are read, and the paths are compared, before a capture is read. The script
 /// is played once. Nothing is printed before a refusal, and no file but the picture changes.
-pub fn steps_files<'p, F: FileStore<'p>, O: Write>(
+pub fn steps_files<'p, F: FileStore<'p>, O: PrintSink>(
     alloc: Global,
     files: &mut F,
     words: &StepsWords<'p>,
@@ -85,6 +87,8 @@ pub fn steps_files<'p, F: FileStore<'p>, O: Write>(
     requires none_open { F.opened files.old ≡ [] }
     ensures steps { F.known ≡ true → StepsFiles (F.place files.old) (F.text files.old) (F.text files.new) (F.printed files.old) (F.failed files.new) (F.denied files.new) words.now
         (O.contents out.old) (O.contents out.new) result }
+    // Nothing that was printed waits, unless standard output failed.
+    ensures handed_on { IfOk result (λ report. report.status ≡ Clean → O.waits out.new ≡ false) }
     // The picture is closed.
     ensures closed { F.known ≡ true → F.pending files.new ≡ F.pending files.old }
 {

@@ -1,9 +1,10 @@
 //! Listeners that are played a script over captures: the function under `bpftap steps`.
 
-ghost use Rattle.std.specs.Prelude.{◌≡◌, ◌++◌, true, false, map, IfOk, OnErr};
+ghost use Rattle.std.specs.Prelude.{◌≡◌, ◌⊎◌, ◌++◌, true, false, map, IfOk, OnErr};
 ghost use Rattle.std.specs.Io.KnownBytes.{Keeps};
 ghost use Rattle.line_text.specs.declared.form.LineForm.TheVariants.{Text};
 ghost use Rattle.line_text.specs.Sending.{Takes, streams};
+ghost use Rattle.cli_text.specs.declared.status.Status.TheVariants.{Clean, Failed, Refused};
 ghost use Rattle.tap_text.specs.Answers.{answers_from};
 ghost use Rattle.tap_text.specs.Printed.{reports_in};
 ghost use Rattle.cli_steps.specs.Playing.{trace_text, is_explained, is_traced, PlaysAs};
@@ -13,6 +14,7 @@ ghost use Rattle.cli_steps.specs.Telling.{PrintsPlayed};
 use crate::report::{report_end, report_refusal};
 use cli_text::Status;
 use cli_text::report::{Outcome, report_line};
+use cli_watch::output::PrintSink;
 use line_text::LineForm;
 use std::alloc::{AllocError, Global};
 use std::io;
@@ -106,6 +108,22 @@ fn print_trace<O: Write>(
         Detail::Answers => print_explained(alloc, printing.form, plan, trace, out),
         Detail::Trace => Ok(print_reports_in(printing.form, reports, out)),
         Detail::Reports => Ok(print_reports_in(printing.form, reports, out)),
+    }
+}
+
+/// Hands on what was printed, and answers the exit status of the printing after that. Where nothing was printed, or the output failed
+/// already, it does nothing.
+fn hand_on<O: PrintSink>(printed: Status, out: &mut O) -> Status
+    ensures bytes { Keeps (O.contents out.old) (O.contents out.new) }
+    ensures ends { (result ≡ printed) ⊎ ((result ≡ Failed) × (printed ≡ Refused → ⊥)) }
+    ensures handed_on { result ≡ Clean → O.waits out.new ≡ false }
+{
+    match printed {
+        Status::Clean | Status::Damaged => match out.hand_on() {
+            Ok(()) => printed,
+            Err(_) => Status::Failed,
+        },
+        Status::Refused | Status::Failed | Status::Negative | Status::Undecided => printed,
     }
 }
 
@@ -205,19 +223,20 @@ impl StepsReplay<'_, '_, '_> {
         }
     }
 
-    /// Plays as [`play`](StepsReplay::play) does, and reports nothing: who calls it does that.
-    pub fn print<O: Write>(
+    /// Plays as [`play`](StepsReplay::play) does, and hands on what was printed. It reports nothing: who calls it does that.
+    pub fn print<O: PrintSink>(
         self,
         alloc: Global,
         printing: Printing,
         out: &mut O,
     ) -> (Status, Result<Replayed, Fault>)
-        ensures { PrintsPlayed printing.form (is_explained printing.detail) (is_traced printing.detail)
+        ensures played { PrintsPlayed printing.form (is_explained printing.detail) (is_traced printing.detail)
             (map (λ c. c.now) self.entry.captures.now) self.entry.plan.now.specs.items self.entry.plan.now.steps.items
             (O.contents out.old) (O.contents out.new) result.0 result.1 }
+        ensures handed_on { result.0 ≡ Clean → O.waits out.new ≡ false }
     {
         let (outcome, replayed) = self.play(alloc, printing, out, &mut io::sink());
-        (outcome.status, replayed)
+        (hand_on(outcome.status, out), replayed)
     }
 }
 

@@ -1,5 +1,6 @@
 //! Each packet goes out before the source is asked for the next one.
 
+use crate::printer::Printer;
 use crate::same::same;
 use bpfvm::Program;
 use cli_answers::PacketForm;
@@ -106,10 +107,10 @@ fn explain_sends_each_line_before_it_reads_on(rt: HostRuntime) {
         left: capture.as_slice(),
         calls: &calls,
     });
-    let mut out = writer_of(&rt, &calls);
+    let mut out = Printer(writer_of(&rt, &calls));
     let filter = of_program(rt.alloc(), accept_all(&rt)).expect(&rt, "memory");
     explain_each(rt.alloc(), source, &filter, PacketForm::Text, &mut out);
-    same(&rt, out.seen.as_slice(), [2, 3, 4, 5].as_slice());
+    same(&rt, out.0.seen.as_slice(), [2, 3, 4, 5].as_slice());
 }
 
 #[test]

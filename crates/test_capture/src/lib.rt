@@ -25,6 +25,8 @@ mod late;
 #[cfg(test)]
 mod paths;
 #[cfg(test)]
+mod printer;
+#[cfg(test)]
 mod same;
 #[cfg(test)]
 mod sought;

@@ -1,5 +1,6 @@
 //! `explain` into an output that takes all and sends nothing on.
 
+use crate::printer::Printer;
 use crate::same::same;
 use cli_answers::filter::of_expression;
 use cli_answers::printing::Unprinted;
@@ -31,7 +32,7 @@ fn asked(rt: &(impl Abort + AllocGlobal)) -> (Vec<u8>, AskedFilter) {
 fn lines_that_are_not_sent_on_are_a_fault(rt: HostRuntime) {
     let (capture, filter) = asked(&rt);
     let taken = Vec::new(rt.alloc());
-    let mut out = UnflushedWriter { taken };
+    let mut out = Printer(UnflushedWriter { taken });
     let explained = explain_each(
         rt.alloc(),
         capture.as_slice(),
@@ -40,14 +41,14 @@ fn lines_that_are_not_sent_on_are_a_fault(rt: HostRuntime) {
         &mut out,
     );
     same(&rt, is_output(&explained.printed), true);
-    assert!(rt; out.taken.ends_with(b"1 packets: 1 Yes, 0 No, 0 Abort\n"));
+    assert!(rt; out.0.taken.ends_with(b"1 packets: 1 Yes, 0 No, 0 Abort\n"));
 }
 
 #[test]
 fn a_packet_that_is_not_sent_on_is_a_fault(rt: HostRuntime) {
     let (capture, filter) = asked(&rt);
     let taken = Vec::new(rt.alloc());
-    let mut out = UnflushedWriter { taken };
+    let mut out = Printer(UnflushedWriter { taken });
     let filter = FilterWithProgram {
         filter: &filter,
         program: Err(Refusal::TooLong),
@@ -55,5 +56,5 @@ fn a_packet_that_is_not_sent_on_is_a_fault(rt: HostRuntime) {
     };
     let found = explain_one(rt.alloc(), capture.as_slice(), &filter, 0, &mut out);
     same(&rt, is_output(&found.printed), true);
-    assert!(rt; out.taken.starts_with(b"place 0 time 1.000000000 "));
+    assert!(rt; out.0.taken.starts_with(b"place 0 time 1.000000000 "));
 }

@@ -1,7 +1,6 @@
 //! What is printed and reported of a split.
 
-ghost use Rattle.std.specs.Prelude.{false};
-
+use crate::printer::Printer;
 use crate::same::same;
 use cli_split::line::line_for;
 use cli_split::part::PartEnd;
@@ -14,8 +13,6 @@ use line_text::LineForm;
 use pcap_cut::cut::Tally;
 use savefile::Fault;
 use std::alloc::Global;
-use std::io;
-use std::io::Write;
 use std::process::Abort;
 use test_fixtures::devices::{BreakingWriter, UnflushedWriter};
 
@@ -46,28 +43,6 @@ fn end_of(
         sources: Vec::new(rt.alloc()),
         parts,
         end,
-    }
-}
-
-/// Prints into a writer that is asked to hand on.
-#[derive(Drop)]
-struct Printer<W>(W);
-
-impl<W: Write> Write for Printer<W> {
-    fn write(&mut self, from: &[u8]) -> io::Result<usize> {
-        self.0.write(from)
-    }
-
-    fn flush(&mut self) -> io::Result<()> {
-        self.0.flush()
-    }
-}
-
-impl<W: Write> PrintSink for Printer<W> {
-    ghost waits = { λ _. false };
-
-    fn hand_on(&mut self) -> io::Result<()> {
-        self.flush()
     }
 }
 

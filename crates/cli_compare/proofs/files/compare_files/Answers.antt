@@ -3,6 +3,7 @@ use Rattle.cli_answers.specs.declared.form.PacketForm.{PacketForm}
 use Rattle.cli_answers.proofs.Closing.{fresh}
 use Rattle.cli_compare.specs.Captures.{ComparesIn}
 use Rattle.cli_compare.specs.Comparing.{PrintsLines, PrintsTotals}
+use Rattle.cli_compare.proofs.Handing.{lines-handed}
 use Rattle.cli_compare.proofs.Stopping.{compares-broke}
 use Rattle.cli_compare.proofs.files.compare_files.Goals as goal
 
@@ -33,3 +34,11 @@ returns-clause-prints g c tells =
       broke = λ n device. c.close_captures-noted.ensures.failed tells (compares-broke left failures contents form asked.pair asked.captures.items c.args.out.now call.new.out call.result n
           (fresh left failures (F.place old) (F.text old) words.inputs.items asked.captures.items asks.captures) call.ensures device);
     }
+
+pub returns-clause-handed_on : goal.returns-clause-handed_on
+returns-clause-handed_on g c none read printed =
+    let asked = c.in_ok-pair.field-0 in
+    let call = c.compare_captures-sources in
+    let end = c.print_totals in
+    lines-handed g.F.Input.Source.left g.F.Input.Source.failures g.O.Write.contents c.asked-form.result asked.pair g.O.PrintSink.waits asked.captures.items c.args.out.now call.new.out end.new.out call.result end.result
+    call.ensures (record { unopened = end.ensures.none; broken = end.ensures.failed; counted = end.ensures.prints }) end.ensures.handed_on none read printed

@@ -4,6 +4,7 @@ use Rattle.cli_answers.specs.declared.form.PacketForm.{PacketForm}
 use Rattle.cli_answers.proofs.Closing.{fresh}
 use Rattle.cli_explain.specs.Captures.{ExplainsIn}
 use Rattle.cli_explain.specs.Explaining.{PrintsLines, PrintsTotals}
+use Rattle.cli_explain.proofs.Handing.{lines-handed}
 use Rattle.cli_explain.proofs.Stopping.{explains-broke}
 use Rattle.cli_explain.proofs.files.explain_files.Goals as goal
 
@@ -35,3 +36,10 @@ returns-clause-prints g c tells =
       broke = λ n device. c.close_captures-noted.ensures.failed tells (explains-broke left failures contents form asked.filter asked.captures.items c.args.out.now call.new.out call.result n
           (fresh left failures (F.place old) (F.text old) words.inputs.items asked.captures.items asks.captures) call.ensures device);
     }
+
+pub returns-clause-handed_on : goal.returns-clause-handed_on
+returns-clause-handed_on g c none read printed =
+    let call = c.explain_captures-sources in
+    let end = c.print_totals in
+    lines-handed g.F.Input.Source.left g.F.Input.Source.failures g.O.Write.contents c.asked-form.result c.in_ok-filter.field-0.filter g.O.PrintSink.waits c.in_ok-filter.field-0.captures.items c.args.out.now call.new.out end.new.out call.result end.result
+    call.ensures (record { unopened = end.ensures.none; broken = end.ensures.failed; counted = end.ensures.prints }) end.ensures.handed_on none read printed

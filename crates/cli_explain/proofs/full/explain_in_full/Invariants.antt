@@ -1,6 +1,7 @@
-use Rattle.std.proofs.Common.{◌≡◌, ◌+◌, ◌≤◌, length, true}
+use Rattle.std.proofs.Common.{◌≡◌, ◌+◌, ◌≤◌, length, false, true}
 use Rattle.std.specs.List.{AllByRecursion}
 use Rattle.fault_report.specs.Reports.{TellsMore}
+use Rattle.cli_text.specs.declared.status.Status.TheVariants.{Clean}
 use Rattle.cli_store.specs.Files.{Keeps}
 use Rattle.cli_explain.proofs.InFull.{Leads}
 use Rattle.cli_explain.proofs.full.explain_in_full.Given as goal
@@ -18,3 +19,4 @@ invariant-loop-capture g l =
     × (F.known ≡ true → AllByRecursion works l.fn.captures.items
     → Leads g.F.Input.Source.left g.O.Write.contents g.E.FaultSink.takes_hints g.E.FaultSink.failed g.E.Write.contents g.E.FaultSink.fault_form l.asked.paths.now l.asked.filter.form l.asked.filter.filter.now l.asked.places.first l.asked.places.last l.fn.captures.items l.fn.out l.fn.err (F.failed l.files)
     l.err l.number l.goes_on l.status l.capture-iterator.rest.items l.out)
+    × (g.O.PrintSink.waits l.fn.out ≡ false → l.status ≡ Clean → g.O.PrintSink.waits l.out ≡ false)

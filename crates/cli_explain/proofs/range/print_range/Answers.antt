@@ -27,12 +27,12 @@ loop-alloc-preserved g c = record {
       let p = c.loop-alloc.reader.lent in
       let q = c.advance.new.self.lent in
       let one = whole-one c.args.filter.now.form c.args.filter.now.filter.now c.loop-alloc.place p (g.O.Write.contents c.loop-alloc.out) (g.O.Write.contents c.print_whole-printed.new.out) c.print_whole-printed.result (sym c.is_err.ensures.value ∙ c.if-is_err.false)
-      (subst (λ (r : Packet). PrintsWhole c.args.filter.now.form c.args.filter.now.filter.now c.loop-alloc.place r (g.O.Write.contents c.loop-alloc.out) (g.O.Write.contents c.print_whole-printed.new.out) c.print_whole-printed.result) c.packet.ensures c.print_whole-printed.ensures) in (
+      (subst (λ (r : Packet). PrintsWhole c.args.filter.now.form c.args.filter.now.filter.now c.loop-alloc.place r (g.O.Write.contents c.loop-alloc.out) (g.O.Write.contents c.print_whole-printed.new.out) c.print_whole-printed.result) c.packet.ensures c.print_whole-printed.ensures.prints) in (
         shown ++ p ∷ [],
         omega (arith, length-append shown (p ∷ []), here),
         subst (λ (ps : List Packet). HasGiven g.R.Source.left from header (ps ++ q ∷ []) c.advance.new.self) (append_assoc before shown (p ∷ []))
             (c.in-Ok-true.ensures.packet from header ((before ++ shown) ++ p ∷ []) gives (ap Ok c.in-Ok-true.field-0-test)),
-        each-last c.args.filter.now.form c.args.filter.now.filter.now c.args.first c.loop-alloc.place shown p (g.O.Write.contents c.args.out.now) (g.O.Write.contents c.loop-alloc.out) (g.O.Write.contents c.print_whole-printed.new.out) here each one,
+        each-last c.args.filter.now.form c.args.filter.now.filter.now c.args.places.first c.loop-alloc.place shown p (g.O.Write.contents c.args.out.now) (g.O.Write.contents c.loop-alloc.out) (g.O.Write.contents c.print_whole-printed.new.out) here each one,
       );
   lends = lends-it _ _ c.advance.result c.advance.ensures.leaves (c.in-Ok-true.is ∙ ap Ok c.in-Ok-true.field-0-test);
   above = omega (arith, c.loop-alloc.invariant.above);
@@ -48,19 +48,19 @@ pub returns-then-is_err-clause-prints : goal.returns-then-is_err-clause-prints
 returns-then-is_err-clause-prints g c = λ from header before length given.
     let (shown, here, gives, each) = c.loop-alloc.invariant.prints from header before given in
     let p = c.loop-alloc.reader.lent in
-    range-broken from _ header c.args.filter.now.form c.args.filter.now.filter.now c.args.first c.args.last c.loop-alloc.place before shown p (g.O.Write.contents c.args.out.now) (g.O.Write.contents c.loop-alloc.out) (g.O.Write.contents c.print_whole-printed.new.out) _ _ c.print_whole-printed.result
+    range-broken from _ header c.args.filter.now.form c.args.filter.now.filter.now c.args.places.first c.args.places.last c.loop-alloc.place before shown p (g.O.Write.contents c.args.out.now) (g.O.Write.contents c.loop-alloc.out) (g.O.Write.contents c.print_whole-printed.new.out) _ _ c.print_whole-printed.result
     c.outcome.ensures.read c.outcome.ensures.printed (sym c.is_err.ensures.value ∙ c.if-is_err.true) here each
-    (subst (λ (r : Packet). PrintsWhole c.args.filter.now.form c.args.filter.now.filter.now c.loop-alloc.place r (g.O.Write.contents c.loop-alloc.out) (g.O.Write.contents c.print_whole-printed.new.out) c.print_whole-printed.result) c.packet.ensures c.print_whole-printed.ensures)
+    (subst (λ (r : Packet). PrintsWhole c.args.filter.now.form c.args.filter.now.filter.now c.loop-alloc.place r (g.O.Write.contents c.loop-alloc.out) (g.O.Write.contents c.print_whole-printed.new.out) c.print_whole-printed.result) c.packet.ensures c.print_whole-printed.ensures.prints)
     (c.given_so_far.ensures from header ((before ++ shown) ++ p ∷ []) gives)
 
-pub returns-then-place-last-clause-prints : goal.returns-then-place-last-clause-prints
-returns-then-place-last-clause-prints g c = λ from header before length given.
+pub returns-then-place-places-clause-prints : goal.returns-then-place-places-clause-prints
+returns-then-place-places-clause-prints g c = λ from header before length given.
     let (shown, here, gives, each) = c.loop-alloc.invariant.prints from header before given in
     let p = c.loop-alloc.reader.lent in
     let one = whole-one c.args.filter.now.form c.args.filter.now.filter.now c.loop-alloc.place p (g.O.Write.contents c.loop-alloc.out) (g.O.Write.contents c.print_whole-printed.new.out) c.print_whole-printed.result (sym c.is_err.ensures.value ∙ c.if-is_err.false)
-    (subst (λ (r : Packet). PrintsWhole c.args.filter.now.form c.args.filter.now.filter.now c.loop-alloc.place r (g.O.Write.contents c.loop-alloc.out) (g.O.Write.contents c.print_whole-printed.new.out) c.print_whole-printed.result) c.packet.ensures c.print_whole-printed.ensures) in
-    range-whole from _ header c.args.filter.now.form c.args.filter.now.filter.now c.args.first c.args.last c.loop-alloc.place before shown p (g.O.Write.contents c.args.out.now) (g.O.Write.contents c.loop-alloc.out) (g.O.Write.contents c.print_whole-printed.new.out) _ _ _
-    c.outcome-then-place-last.ensures.read c.outcome-then-place-last.ensures.printed here c.if-place-last.true c.loop-alloc.invariant.within each one
+    (subst (λ (r : Packet). PrintsWhole c.args.filter.now.form c.args.filter.now.filter.now c.loop-alloc.place r (g.O.Write.contents c.loop-alloc.out) (g.O.Write.contents c.print_whole-printed.new.out) c.print_whole-printed.result) c.packet.ensures c.print_whole-printed.ensures.prints) in
+    range-whole from _ header c.args.filter.now.form c.args.filter.now.filter.now c.args.places.first c.args.places.last c.loop-alloc.place before shown p (g.O.Write.contents c.args.out.now) (g.O.Write.contents c.loop-alloc.out) (g.O.Write.contents c.print_whole-printed.new.out) _ _ _
+    c.outcome-then-place-places.ensures.read c.outcome-then-place-places.ensures.printed here c.if-place-places.true c.loop-alloc.invariant.within each one
     (c.given_so_far.ensures from header ((before ++ shown) ++ p ∷ []) gives)
 
 pub returns-in-Ok-false-clause-prints : goal.returns-in-Ok-false-clause-prints
@@ -68,9 +68,9 @@ returns-in-Ok-false-clause-prints g c = λ from header before length given.
     let (shown, here, gives, each) = c.loop-alloc.invariant.prints from header before given in
     let p = c.loop-alloc.reader.lent in
     let one = whole-one c.args.filter.now.form c.args.filter.now.filter.now c.loop-alloc.place p (g.O.Write.contents c.loop-alloc.out) (g.O.Write.contents c.print_whole-printed.new.out) c.print_whole-printed.result (sym c.is_err.ensures.value ∙ c.if-is_err.false)
-    (subst (λ (r : Packet). PrintsWhole c.args.filter.now.form c.args.filter.now.filter.now c.loop-alloc.place r (g.O.Write.contents c.loop-alloc.out) (g.O.Write.contents c.print_whole-printed.new.out) c.print_whole-printed.result) c.packet.ensures c.print_whole-printed.ensures) in
-    range-ended from _ header c.args.filter.now.form c.args.filter.now.filter.now c.args.first c.args.last c.loop-alloc.place before shown p (g.O.Write.contents c.args.out.now) (g.O.Write.contents c.loop-alloc.out) (g.O.Write.contents c.print_whole-printed.new.out) _ _ _
-    c.outcome-in-Ok-false.ensures.read c.outcome-in-Ok-false.ensures.printed here c.if-place-last.false each one
+    (subst (λ (r : Packet). PrintsWhole c.args.filter.now.form c.args.filter.now.filter.now c.loop-alloc.place r (g.O.Write.contents c.loop-alloc.out) (g.O.Write.contents c.print_whole-printed.new.out) c.print_whole-printed.result) c.packet.ensures c.print_whole-printed.ensures.prints) in
+    range-ended from _ header c.args.filter.now.form c.args.filter.now.filter.now c.args.places.first c.args.places.last c.loop-alloc.place before shown p (g.O.Write.contents c.args.out.now) (g.O.Write.contents c.loop-alloc.out) (g.O.Write.contents c.print_whole-printed.new.out) _ _ _
+    c.outcome-in-Ok-false.ensures.read c.outcome-in-Ok-false.ensures.printed here c.if-place-places.false each one
     (c.in-Ok-false.ensures.end from header ((before ++ shown) ++ p ∷ []) gives (ap Ok c.in-Ok-false.field-0-test))
 
 pub returns-in-Ok-false-clause-taken : goal.returns-in-Ok-false-clause-taken
@@ -84,9 +84,9 @@ returns-in-Err-clause-prints g c = λ from header before length given.
     let (shown, here, gives, each) = c.loop-alloc.invariant.prints from header before given in
     let p = c.loop-alloc.reader.lent in
     let one = whole-one c.args.filter.now.form c.args.filter.now.filter.now c.loop-alloc.place p (g.O.Write.contents c.loop-alloc.out) (g.O.Write.contents c.print_whole-printed.new.out) c.print_whole-printed.result (sym c.is_err.ensures.value ∙ c.if-is_err.false)
-    (subst (λ (r : Packet). PrintsWhole c.args.filter.now.form c.args.filter.now.filter.now c.loop-alloc.place r (g.O.Write.contents c.loop-alloc.out) (g.O.Write.contents c.print_whole-printed.new.out) c.print_whole-printed.result) c.packet.ensures c.print_whole-printed.ensures) in
-    range-stopped from _ header c.args.filter.now.form c.args.filter.now.filter.now c.args.first c.args.last c.loop-alloc.place before shown p (g.O.Write.contents c.args.out.now) (g.O.Write.contents c.loop-alloc.out) (g.O.Write.contents c.print_whole-printed.new.out) _ _ c.in-Err.fault _
-    c.outcome-in-Err.ensures.read c.outcome-in-Err.ensures.printed here c.if-place-last.false each one
+    (subst (λ (r : Packet). PrintsWhole c.args.filter.now.form c.args.filter.now.filter.now c.loop-alloc.place r (g.O.Write.contents c.loop-alloc.out) (g.O.Write.contents c.print_whole-printed.new.out) c.print_whole-printed.result) c.packet.ensures c.print_whole-printed.ensures.prints) in
+    range-stopped from _ header c.args.filter.now.form c.args.filter.now.filter.now c.args.places.first c.args.places.last c.loop-alloc.place before shown p (g.O.Write.contents c.args.out.now) (g.O.Write.contents c.loop-alloc.out) (g.O.Write.contents c.print_whole-printed.new.out) _ _ c.in-Err.fault _
+    c.outcome-in-Err.ensures.read c.outcome-in-Err.ensures.printed here c.if-place-places.false each one
     (c.in-Err.ensures.cause from header ((before ++ shown) ++ p ∷ []) gives)
 
 pub returns-in-Err-clause-taken : goal.returns-in-Err-clause-taken

@@ -12,15 +12,15 @@ invariant-loop-alloc g l =
     record {
       prints : (from : Option (List ℕ)) (header : Header) (before : List Packet) →
           HasGiven g.R.Source.left from header (before ++ l.fn.reader.lent ∷ []) l.fn.reader →
-          (shown : List Packet) × (l.place ≡ l.first + length shown)
+          (shown : List Packet) × (l.place ≡ l.places.first + length shown)
           × HasGiven g.R.Source.left from header ((before ++ shown) ++ l.reader.lent ∷ []) l.reader
-          × PrintsEach l.filter.form l.filter.filter.now l.first shown (g.O.Write.contents l.fn.out) (g.O.Write.contents l.out);
+          × PrintsEach l.filter.form l.filter.filter.now l.places.first shown (g.O.Write.contents l.fn.out) (g.O.Write.contents l.out);
       lends : Lends l.reader;
-      above : l.first ≤ l.place;
-      within : l.place ≤ l.first + (l.last - l.first);
+      above : l.places.first ≤ l.place;
+      within : l.place ≤ l.places.first + (l.places.last - l.places.first);
       taken : (bytes : List ℕ) × Consumes (g.R.Source.left l.fn.reader.source) (g.R.Source.left l.reader.source) bytes;
       source_works : g.R.Source.failures l.reader.source ≡ g.R.Source.failures l.fn.reader.source;
     }
 
 abbrev pub decreases-loop-alloc : goal.decreases-loop-alloc
-decreases-loop-alloc g l = l.last - l.place
+decreases-loop-alloc g l = l.places.last - l.place

@@ -6,7 +6,7 @@ use Rattle.cli_explain.proofs.range.show_range.Goals as goal
 
 pub returns-in-Ok-true-clause-shows : goal.returns-in-Ok-true-clause-shows
 returns-in-Ok-true-clause-shows g c = λ from header given.
-    let (before, here, gives) = goes-found g.R.Source.left from header c.args.first c.go_to.new.reader c.go_to.result
+    let (before, here, gives) = goes-found g.R.Source.left from header c.args.places.first c.go_to.new.reader c.go_to.result
     (c.in-Ok-true.is ∙ ap Ok c.in-Ok-true.field-0-test) (c.go_to.ensures.goes from header given) in
     inl (before, here, c.print_range.ensures.prints from header before here gives)
 
@@ -18,10 +18,10 @@ returns-in-Ok-true-clause-taken g c =
 
 pub returns-in-Ok-false-clause-shows : goal.returns-in-Ok-false-clause-shows
 returns-in-Ok-false-clause-shows g c = λ from header given.
-    shows-none g.R.Source.left from header c.args.filter.now.form c.args.filter.now.filter.now c.args.first c.args.last c.go_to.new.reader c.go_to.result _ _ _ _
+    shows-none g.R.Source.left from header c.args.filter.now.form c.args.filter.now.filter.now c.args.places.first c.args.places.last c.go_to.new.reader c.go_to.result _ _ _ _
     (c.in-Ok-false.is ∙ ap Ok c.in-Ok-false.field-0-test) c.outcome.ensures.read c.outcome.ensures.printed (c.go_to.ensures.goes from header given)
 
 pub returns-in-Err-clause-shows : goal.returns-in-Err-clause-shows
 returns-in-Err-clause-shows g c = λ from header given.
-    shows-stopped g.R.Source.left from header c.args.filter.now.form c.args.filter.now.filter.now c.args.first c.args.last c.go_to.new.reader c.go_to.result _ _ c.in-Err.fault _ _
+    shows-stopped g.R.Source.left from header c.args.filter.now.form c.args.filter.now.filter.now c.args.places.first c.args.places.last c.go_to.new.reader c.go_to.result _ _ c.in-Err.fault _ _
     c.in-Err.is c.outcome-in-Err.ensures.read c.outcome-in-Err.ensures.printed (c.go_to.ensures.goes from header given)
