@@ -105,3 +105,11 @@ first_told form (Some part) = part_told form part
 -- where the header of the first capture was read
 abbrev pub total_told : {R W : Type 0} → LineForm → SplitEnd R W → List ℕ
 total_told form end = if passes_header end.end then first_told form (slice_get end.parts.items 0) else []
+
+-- ---- The command
+
+-- what is said of a path, if it is that of the only IN; or what is said of several IN
+abbrev pub ByInputs : List (Bor (List ℕ)) → (Bor (List ℕ) → Type 0) → Type 0 → Type 0
+ByInputs [] one several = several
+ByInputs (path ∷ []) one several = one path
+ByInputs (path ∷ next ∷ others) one several = several

@@ -3,7 +3,7 @@
 ghost use Rattle.std.specs.Prelude.{◌≡◌, [], true, false, Result};
 ghost use Rattle.cli_text.specs.declared.status.Status.TheVariants.{Clean};
 ghost use Rattle.cli_store.specs.Files.{Keeps};
-ghost use Rattle.cli_cut.specs.Captures.{Closed, CutsAll, IsStatusOfAll};
+ghost use Rattle.cli_cut.specs.Captures.{ByInputs, Closed, CutsAll, IsStatusOfAll};
 ghost use Rattle.cli_cut.specs.Checking.{Checked, ChecksFiles, IsCheckStatus};
 ghost use Rattle.cli_cut.specs.Cutting.{CutsFiles, IsStatusOf};
 ghost use Rattle.cli_cut.specs.Reporting.{TellsChecked, TellsClosed, TellsEnd, TellsOutcome};
@@ -96,6 +96,27 @@ pub fn cut_several_and_report<'p, F: FileStore<'p>, E: HintSink>(
     }
 }
 
+/// `bpftap cut`, whatever the files are: of the only IN, or of several.
+pub fn cut_inputs_and_report<'p, F: FileStore<'p>, E: HintSink>(
+    alloc: Global,
+    files: &mut F,
+    words: &CutWords<'p>,
+    err: &mut E,
+) -> Status
+    requires none_open { F.opened files.old ≡ [] }
+    ensures cuts { F.known ≡ true → ByInputs words.now.inputs.items
+        (λ path. (outcome : CutOutcome) × CutsFiles (F.place files.old) (F.text files.old) (F.text files.new) (F.failed files.new) (F.denied files.new) words.now path outcome
+        × IsStatusOf outcome result × TellsOutcome E.takes_hints E.failed E.contents E.fault_form path words.now outcome err.old err.new)
+        ((outcome : Result Closed Refusal) × CutsAll (F.place files.old) (F.text files.old) (F.text files.new) (F.failed files.new) (F.denied files.new) words.now outcome
+        × IsStatusOfAll outcome result × TellsClosed E.takes_hints E.failed E.contents E.fault_form words.now outcome err.old err.new) }
+    ensures closed { F.known ≡ true → F.pending files.new ≡ F.pending files.old }
+{
+    match words.inputs.as_slice() {
+        [input] => cut_and_report(alloc, files, words, *input, err),
+        _ => cut_several_and_report(alloc, files, words, err),
+    }
+}
+
 /// `bpftap cut`: the filter is accepted, and the paths are compared, before an IN is opened. OUT is
 /// made at its first write.
 pub fn cut_command<R: Files + AllocGlobal + Screen, E: HintSink>(
@@ -106,16 +127,8 @@ pub fn cut_command<R: Files + AllocGlobal + Screen, E: HintSink>(
     let watch = Watch::new(rt, words.inputs.as_slice(), err.takes_hints()).counting(counts_frames(
         words,
     ));
-    let status = match words.inputs.as_slice() {
-        [input] => cut_and_report(
-            rt.alloc(),
-            &mut DiskFiles::new(rt, &watch),
-            words,
-            *input,
-            err,
-        ),
-        _ => cut_several_and_report(rt.alloc(), &mut DiskFiles::new(rt, &watch), words, err),
-    };
+    let mut files = DiskFiles::new(rt, &watch);
+    let status = cut_inputs_and_report(rt.alloc(), &mut files, words, err);
     if counts_frames(words) {
         let _ = report_unseen(watch.frames(), status, err);
     }
