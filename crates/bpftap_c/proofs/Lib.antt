@@ -4,7 +4,7 @@ pub mod FoundCut
 pub mod Hinting
 pub mod Joined
 pub mod Lending
-pub mod Played
+pub mod Playing
 pub mod Prepared
 pub mod Rejecting
 pub mod SpanReading

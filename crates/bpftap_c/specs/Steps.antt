@@ -74,23 +74,24 @@ replay_of put (Some f) =
 abbrev pub no_replay : Failure → BpftapReplay
 no_replay failure = record { fault = code_of failure; number = number_of failure; size = size_of failure; place = place_of failure }
 
--- A text is put, the steps being played. Or they are not, and all is as it was.
+-- A text that shows the steps being played is put. Or they are not played, and all is as it was.
+abbrev pub PutsPlayed : (List ℕ → Option (ℕ × RecordFault) → Type 0) → (Failure → Type 0) → List ℕ → List ℕ → BpftapReplay → Type 0
+PutsPlayed Shows IsRefused old new told =
+    ((text : List ℕ) × (record_fault : Option (ℕ × RecordFault)) × (put : BpftapResult) × Shows text record_fault
+    × PutsText text old new put × (told ≡ replay_of put record_fault))
+    ⊎ ((failure : Failure) × IsRefused failure × (told ≡ no_replay failure) × (new ≡ old))
+
+-- some text
 abbrev pub PutsPicture : List ℕ → List ℕ → List (List ℕ) → List ℕ → List ℕ → BpftapReplay → Type 0
 PutsPicture listeners script captures old new told =
-    ((text : List ℕ) × (record_fault : Option (ℕ × RecordFault)) × (put : BpftapResult) × IsDrawn listeners script captures record_fault
-    × PutsText text old new put × (told ≡ replay_of put record_fault))
-    ⊎ ((failure : Failure) × IsUnplayed listeners script captures failure × (told ≡ no_replay failure) × (new ≡ old))
+    PutsPlayed (λ text record_fault. IsDrawn listeners script captures record_fault) (IsUnplayed listeners script captures) old new told
 
--- The answers are put in this form. Or there are none, and all is as it was.
+-- the answers in this form
 abbrev pub PutsAnswers : LineForm → List ℕ → List ℕ → List (List ℕ) → List ℕ → List ℕ → BpftapReplay → Type 0
 PutsAnswers form listeners script captures old new told =
-    ((text : List ℕ) × (record_fault : Option (ℕ × RecordFault)) × (put : BpftapResult) × IsAnswered form listeners script captures text record_fault
-    × PutsText text old new put × (told ≡ replay_of put record_fault))
-    ⊎ ((failure : Failure) × IsUnplayed listeners script captures failure × (told ≡ no_replay failure) × (new ≡ old))
+    PutsPlayed (IsAnswered form listeners script captures) (IsUnplayed listeners script captures) old new told
 
--- The reports are put in this form. Or there are none, and all is as it was.
+-- the reports in this form
 abbrev pub PutsReports : LineForm → List ℕ → List ℕ → List (List ℕ) → List ℕ → List ℕ → BpftapReplay → Type 0
 PutsReports form listeners script captures old new told =
-    ((text : List ℕ) × (record_fault : Option (ℕ × RecordFault)) × (put : BpftapResult) × IsReported form listeners script captures text record_fault
-    × PutsText text old new put × (told ≡ replay_of put record_fault))
-    ⊎ ((failure : Failure) × IsUnplayed listeners script captures failure × (told ≡ no_replay failure) × (new ≡ old))
+    PutsPlayed (IsReported form listeners script captures) (IsUnplayed listeners script captures) old new told

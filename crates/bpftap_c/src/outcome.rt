@@ -1,12 +1,14 @@
 //! What a call returns: 0 or the number of a fault, a size and a place.
 
 ghost use Rattle.std.specs.Prelude.{◌≡◌};
+ghost use Rattle.bpftap_c.specs.declared.outcome.Failure.TheVariants.{Lines, NoMemory, Replay};
 ghost use Rattle.bpftap_c.specs.Outcome.{invalid_code, invalid_place, listing_code, listing_place, text_code, text_place, tree_code, open_code, capture_code, capture_place, line_code, line_place, replay_code, replay_place, replay_number, code_of, number_of, place_of, size_of, done, failed};
 
 use bpfvm::{Invalid, ListingFault};
 use filtergen::{ExpressionFault, Refusal};
 use line_text::LineFault;
 use listener::OpenFault;
+use std::alloc::AllocError;
 
 /// What most calls return.
 #[repr(C)]
@@ -44,6 +46,30 @@ pub enum Failure {
     Lines(LineFault),
     /// Steps cannot be played.
     Replay(tap::Fault),
+}
+
+impl From<AllocError> for Failure {
+    ghost from_gives = { λ _ failure. failure ≡ NoMemory };
+
+    fn from(_refused: AllocError) -> Failure {
+        Failure::NoMemory
+    }
+}
+
+impl From<LineFault> for Failure {
+    ghost from_gives = { λ fault failure. failure ≡ Lines fault };
+
+    fn from(fault: LineFault) -> Failure {
+        Failure::Lines(fault)
+    }
+}
+
+impl From<tap::Fault> for Failure {
+    ghost from_gives = { λ fault failure. failure ≡ Replay fault };
+
+    fn from(fault: tap::Fault) -> Failure {
+        Failure::Replay(fault)
+    }
 }
 
 fn invalid_code(fault: Invalid) -> u32

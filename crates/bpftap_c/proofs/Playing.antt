@@ -1,6 +1,7 @@
 -- The listeners that LISTENERS asks for are those that were played, though no more than 65 of them are kept.
-use Rattle.std.proofs.Common.{◌≡◌, ◌<◌, ◌≤◌, ◌⊎◌, ◌∙◌, inl, inr, sym, subst, ℕ, List, Option, length, take, arith, length-take, take_all}
+use Rattle.std.proofs.Common.{◌≡◌, ◌<◌, ◌≤◌, ◌⊎◌, ◌∙◌, inl, inr, sym, subst, ℕ, List, Option, Result, Ok, Err, length, take, arith, length-take, take_all}
 use Rattle.std.proofs.lemmas.Bool.{cases_lt}
+use Rattle.std.specs.Prelude.{IfErr, IfOk}
 use Rattle.savefile.specs.declared.fault.Fault.{Fault as RecordFault}
 use Rattle.tap.specs.declared.fault.Fault.{Fault}
 use Rattle.tap.specs.declared.fault.Fault.TheVariants.{TooMany, NoListener, Capture, Expression, Compile, Open, NoMemory}
@@ -19,8 +20,13 @@ use Rattle.line_text.specs.Files.{IsFileOf}
 use Rattle.tap_text.specs.Answers.{answers_from, cursors_of}
 use Rattle.tap_text.specs.Listeners.{IsListenerLine, AreFirstOf}
 use Rattle.tap_text.specs.Script.{IsStepLine}
-use Rattle.bpftap_c.specs.Steps.{IsAnswered, IsPlayed, IsUnplayed}
+use Rattle.bpftap_c.specs.Memory.{PutsText}
+use Rattle.bpftap_c.specs.Steps.{IsAnswered, IsPlayed, IsUnplayed, PutsPlayed, replay_of, no_replay}
+use Rattle.bpftap_c.specs.declared.outcome.BpftapResult.{BpftapResult}
+use Rattle.bpftap_c.specs.declared.outcome.Failure.{Failure}
 use Rattle.bpftap_c.specs.declared.outcome.Failure.TheVariants as failures
+use Rattle.bpftap_c.specs.declared.played.Played.{Played}
+use Rattle.bpftap_c.specs.declared.steps.BpftapReplay.{BpftapReplay}
 
 -- 64 listeners are all kept
 few_are_kept : (all : List Spec) → length all ≤ 64 → take 65 all ≡ all
@@ -98,3 +104,11 @@ is_unplayed listeners script captures kept steps fault asked of_script first = (
   of_script,
   first_of_all captures asked.all steps fault (subst (λ (specs : List Spec). IsFirst captures specs steps fault) asked.first first),
 )
+
+-- what was made of the steps is put, or why nothing was
+pub puts : {Shows : List ℕ → Option (ℕ × RecordFault) → Type 0} {IsRefused : Failure → Type 0} (made : Result Played Failure) (old new : List ℕ) (told : BpftapReplay)
+    → IfOk made (λ p. Shows p.text.items p.record_fault) → IfErr made IsRefused
+    → IfOk made (λ p. (put : BpftapResult) × PutsText p.text.items old new put × (told ≡ replay_of put p.record_fault))
+    → IfErr made (λ failure. (told ≡ no_replay failure) × (new ≡ old)) → PutsPlayed Shows IsRefused old new told
+puts (Ok p) old new told shows refused (put, taken, is) none = inl (p.text.items, p.record_fault, put, shows, taken, is)
+puts (Err failure) old new told shows refused put (is, same) = inr (failure, refused, is, same)

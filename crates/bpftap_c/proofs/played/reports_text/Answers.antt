@@ -1,0 +1,22 @@
+use Rattle.std.proofs.lemmas.Result.{err_from_is_err_and}
+use Rattle.bpftap_c.proofs.Playing.{is_played, is_unplayed}
+use Rattle.bpftap_c.proofs.played.reports_text.Goals as goal
+
+pub returns-in-Ok-clause-ok : goal.returns-in-Ok-clause-ok
+returns-in-Ok-clause-ok c =
+    let told = c.in_ok-reports.ensures in
+    let stands = rw (c.as_slice.ensures.value, c.in_ok-captures.ensures, c.as_slice-specs.ensures.value, c.as_slice-steps.ensures.value) at told.stands in
+    let replays = rw (c.as_slice.ensures.value, c.in_ok-captures.ensures, c.as_slice-specs.ensures.value, c.as_slice-steps.ensures.value) at told.tells in
+    let taken = rw (c.new-text.ensures.items, c.as_slice-2.ensures.value) at c.in-Ok.ensures in
+    (_, is_played _ _ _ _ _ replays.0 _ _ c.in_ok-plan.ensures.listeners c.in_ok-plan.ensures.script replays.1 stands, taken)
+
+pub returns-in_err-plan-clause-err : goal.returns-in_err-plan-clause-err
+returns-in_err-plan-clause-err c =
+    let p = err_from_is_err_and c.from_residual-in_err-plan.result c.from_residual-in_err-plan.ensures.1 in
+    rw (p.1, p.2) c.in_err-plan.ensures.fault
+
+pub returns-in_err-reports-clause-err : goal.returns-in_err-reports-clause-err
+returns-in_err-reports-clause-err c =
+    let p = err_from_is_err_and c.from_residual-in_err-reports.result c.from_residual-in_err-reports.ensures.1 in
+    let first = rw (c.as_slice.ensures.value, c.in_ok-captures.ensures, c.as_slice-specs.ensures.value, c.as_slice-steps.ensures.value) at c.in_err-reports.ensures.first in
+    rw (p.1, p.2) (is_unplayed c.args.listeners.now c.args.script.now _ _ _ _ c.in_ok-plan.ensures.listeners c.in_ok-plan.ensures.script first)
