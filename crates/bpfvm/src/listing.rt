@@ -15,7 +15,7 @@ use arrayvec::ArrayVec;
 use std::alloc::Global;
 
 /// The text before the first such byte, and the text after it.
-fn split_once(text: &[u8], at: u8) -> Option<(&[u8], &[u8])>
+pub fn split_once(text: &[u8], at: u8) -> Option<(&[u8], &[u8])>
     ensures parts { IfSome result (λ parts. text.now ≡ parts.0.now ++ at ∷ parts.1.now) }
     ensures first { IfSome result (λ parts. All (λ byte. byte ≢ at) parts.0.now) }
     ensures none { IfNone result (All (λ byte. byte ≢ at) text.now) }
@@ -35,8 +35,9 @@ fn first_line(text: &[u8]) -> (&[u8], &[u8])
     }
 }
 
-/// A decimal number, up to the greatest one.
-fn number(text: &[u8], most: u32) -> Option<u32>
+/// A number up to the greatest one, in decimal digits only. Leading zeros are fine; a sign, a blank
+/// or no digit is refused.
+pub fn number(text: &[u8], most: u64) -> Option<u64>
     ensures some { IfSome result (λ n. IsNumber most text.now n) }
     ensures none { IfNone result ((n : ℕ) → IsNumber most text.now n → ⊥) }
 {
@@ -48,12 +49,12 @@ fn number(text: &[u8], most: u32) -> Option<u32>
         if !byte.is_ascii_digit() {
             return None;
         }
-        n = 10 * n + u64::from(*byte - b'0');
-        if n > u64::from(most) {
+        n = 10 * n + u128::from(*byte - b'0');
+        if n > u128::from(most) {
             return None;
         }
     }
-    Some(n as u32)
+    Some(n as u64)
 }
 
 /// The instruction that has these fields, each in decimal.
@@ -61,15 +62,15 @@ fn insn_from(code: &[u8], jt: &[u8], jf: &[u8], k: &[u8]) -> Option<Insn>
     ensures some { IfSome result (λ insn. AreFields code.now jt.now jf.now k.now insn) }
     ensures none { IfNone result ((insn : Insn) → AreFields code.now jt.now jf.now k.now insn → ⊥) }
 {
-    let code = number(code, u32::from(u16::MAX))?;
-    let jt = number(jt, u32::from(u8::MAX))?;
-    let jf = number(jf, u32::from(u8::MAX))?;
-    let k = number(k, u32::MAX)?;
+    let code = number(code, u64::from(u16::MAX))?;
+    let jt = number(jt, u64::from(u8::MAX))?;
+    let jf = number(jf, u64::from(u8::MAX))?;
+    let k = number(k, u64::from(u32::MAX))?;
     Some(Insn {
         code: code as u16,
         jt: jt as u8,
         jf: jf as u8,
-        k,
+        k: k as u32,
     })
 }
 
@@ -138,7 +139,7 @@ pub fn read_listing(text: &[u8]) -> Result<Program, ListingFault>
     ensures fault { (fault : ListingFault) → (result ≡ Err fault) ↔ IsRefusedListing text.now fault }
 {
     let (first, others) = first_line(text);
-    let Some(count) = number(first, u32::MAX) else {
+    let Some(count) = number(first, u32::MAX as u64) else {
         return Err(ListingFault::BadLine(1));
     };
     let listed = match read_lines(others) {

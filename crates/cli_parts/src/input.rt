@@ -15,7 +15,7 @@ use cli_report::probe::{FailureProbe, ProbedInput};
 use cli_report::stream::give_hint;
 use cli_text::Status;
 use cli_text::report::EscapedPath;
-use cli_watch::{Screen, Watch, Watched};
+use cli_watch::{Screen, Watch, WatchedReader};
 use fault_report::Report;
 use fault_report::reporting::report_fault;
 use savefile::{Counted, HEADER_LEN};
@@ -29,7 +29,7 @@ pub type PartBytes<F> = Chain<Cursor<Vec<u8>>, Take<F>>;
 
 /// The same, watched while it is read.
 pub type PartInput<'w, 'r, R> = ProbedInput<
-    Watched<'w, 'r, R, PartBytes<Retried<<R as Files>::File>>>,
+    WatchedReader<'w, 'r, R, PartBytes<Retried<<R as Files>::File>>>,
 >;
 
 /// A part that is open, and how many bytes the whole capture has.

@@ -1,7 +1,7 @@
 //! The captures that a command reads and watches.
 
 use crate::screen::Screen;
-use crate::watch::{Watch, Watched};
+use crate::watch::{Watch, WatchedReader};
 use cli_files::late::LateInput;
 use cli_files::reading::report_io;
 use cli_files::retried::Retried;
@@ -14,10 +14,12 @@ use std::fs;
 use std::fs::Files;
 
 /// A capture that is opened at its first read.
-pub type WatchedInput<'w, 'r, 'p, R> = ProbedInput<Watched<'w, 'r, R, LateInput<'r, 'p, R>>>;
+pub type WatchedInput<'w, 'r, 'p, R> = ProbedInput<WatchedReader<'w, 'r, R, LateInput<'r, 'p, R>>>;
 
 /// A capture that is open.
-pub type WatchedFile<'w, 'r, R> = ProbedInput<Watched<'w, 'r, R, Retried<<R as Files>::File>>>;
+pub type WatchedFile<'w, 'r, R> = ProbedInput<
+    WatchedReader<'w, 'r, R, Retried<<R as Files>::File>>,
+>;
 
 /// The captures at these paths, none of them opened.
 pub fn watched_inputs<'w, 'r, 'p, R: Files + Screen>(

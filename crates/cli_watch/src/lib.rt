@@ -11,4 +11,4 @@ pub mod screen;
 pub mod watch;
 
 pub use screen::Screen;
-pub use watch::{Watch, Watched};
+pub use watch::{Watch, WatchedReader};

@@ -52,8 +52,8 @@ impl<'r, R: Files + Screen> Watch<'r, R> {
 
 impl<'r, R: Screen> Watch<'r, R> {
     /// A capture that is watched while it is read.
-    pub fn watched<T>(&self, inner: T) -> Watched<'_, 'r, R, T> {
-        Watched {
+    pub fn watched<T>(&self, inner: T) -> WatchedReader<'_, 'r, R, T> {
+        WatchedReader {
             inner,
             walk: self.is_counting.then_some(FrameWalk::new()),
             watch: self,
@@ -95,13 +95,13 @@ impl<'r, R: Screen> Watch<'r, R> {
 
 /// A reader of a capture that is watched. It gives what the reader inside gives.
 #[derive(Drop)]
-pub struct Watched<'w, 'r, R, T> {
+pub struct WatchedReader<'w, 'r, R, T> {
     inner: T,
     walk: Option<FrameWalk>,
     watch: &'w Watch<'r, R>,
 }
 
-impl<R: Screen, T: Read> Read for Watched<'_, '_, R, T> {
+impl<R: Screen, T: Read> Read for WatchedReader<'_, '_, R, T> {
     ghost remaining = { λ watched. T.remaining watched.inner };
 
     fn read(&mut self, to: &mut [u8]) -> io::Result<usize> {

@@ -7,7 +7,7 @@ ghost use Rattle.filter_bdd.specs.Calls.{call_answer, IsInside, IsResult, IsStep
 
 use crate::answer::{Answer, Operation};
 use crate::cache::{Call, ComputedCache};
-use crate::order::Order;
+use crate::order::BitOrder;
 use crate::table::{Node, Stop, UniqueTable};
 use std::alloc::Global;
 use std::marker::Model;
@@ -40,7 +40,7 @@ pub struct Budget {
 pub struct Diagrams {
     table: UniqueTable,
     cache: ComputedCache,
-    order: Order,
+    order: BitOrder,
     budget: Budget,
 }
 
@@ -83,7 +83,7 @@ fn bit_of(node: Node) -> u32 {
 }
 
 /// What is done with three nodes: the bit is the one that is asked for first.
-fn step_of(order: &Order, first: Node, second: Node, third: Node) -> Step
+fn step_of(order: &BitOrder, first: Node, second: Node, third: Node) -> Step
     ensures { IsStep first second third result }
 {
     match (first, second, third) {
@@ -105,14 +105,14 @@ impl Diagrams {
         Diagrams {
             table: UniqueTable::new(alloc),
             cache: ComputedCache::empty(alloc),
-            order: Order::natural(alloc),
+            order: BitOrder::natural(alloc),
             budget,
         }
     }
 
     /// Sets the order in which bits are asked for. It is to be set before nodes are made: two nodes
     /// that ask in other orders may say the same and not be one.
-    pub fn set_order(&mut self, order: Order)
+    pub fn set_order(&mut self, order: BitOrder)
         ensures { self.new ≡ self.old }
     {
         self.order = order;

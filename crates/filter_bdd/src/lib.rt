@@ -15,5 +15,5 @@ mod table;
 pub use answer::{Answer, Operation};
 pub use compare::{ByOrder, Field};
 pub use diagrams::{Budget, Diagrams};
-pub use order::Order;
+pub use order::BitOrder;
 pub use table::{Node, Stop};

@@ -6,17 +6,17 @@ use std::alloc::Global;
 /// The order in which nodes ask for bits. What a node answers does not depend on it, but how many
 /// nodes there are does: bits that are compared with one another are best asked for in turn.
 #[derive(Drop)]
-pub struct Order {
+pub struct BitOrder {
     /// When a bit is asked for, by its name.
     ranks: Vec<u32>,
     /// How many bits are asked for before those that have no entry in `ranks`.
     listed: u32,
 }
 
-impl Order {
+impl BitOrder {
     /// By the names of the bits.
-    pub fn natural(alloc: Global) -> Order {
-        Order {
+    pub fn natural(alloc: Global) -> BitOrder {
+        BitOrder {
             ranks: Vec::new(alloc),
             listed: 0,
         }
@@ -24,11 +24,11 @@ impl Order {
 
     /// First these bits, as they stand in the list, and then the others by their names. A bit that
     /// stands there twice has its first place.
-    pub fn of(alloc: Global, first: &[u32]) -> Result<Order, Stop> {
+    pub fn of(alloc: Global, first: &[u32]) -> Result<BitOrder, Stop> {
         let Ok(listed) = u32::try_from(first.len()) else {
             return Err(Stop::Budget);
         };
-        let mut order = Order {
+        let mut order = BitOrder {
             ranks: ranks_after(alloc, listed, first)?,
             listed,
         };

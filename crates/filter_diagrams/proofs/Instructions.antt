@@ -25,7 +25,7 @@ use Rattle.filter_diagrams.specs.declared.actions.Action.TheVariants.{Load, Stor
 use Rattle.filter_diagrams.specs.declared.actions.Operand.{Operand}
 use Rattle.filter_diagrams.specs.declared.actions.Register.{Register}
 use Rattle.filter_diagrams.specs.declared.actions.Register.TheVariants as registers
-use Rattle.filter_diagrams.specs.declared.actions.Source.{Source}
+use Rattle.filter_diagrams.specs.declared.actions.LoadSource.{LoadSource}
 use Rattle.filter_diagrams.specs.declared.actions.Test.{Test}
 use Rattle.filter_diagrams.specs.declared.state.State.{State}
 use Rattle.filter_diagrams.specs.declared.steps.Step.{Step}
@@ -119,7 +119,7 @@ header-length a b d e f offset first mask words four s g h hf hm low hn whole =
 -- ---- Loads
 
 -- what a symbol stands for is what an instruction loads
-pub load-by : (x y : Symbols) (state : State) (source : Source) (i : Insn) (f : Packet → Option ℕ) (s : Symbol)
+pub load-by : (x y : Symbols) (state : State) (source : LoadSource) (i : Insn) (f : Packet → Option ℕ) (s : Symbol)
     → ((p : Packet) (r : Registers) → IsStateOf x.words.diagrams state p r → f p ≡ number_from source p.captured p.wire i r) → StandsFor y f s
     → IsLoad x y state (number_from source) i s
 load-by x y state source i f s same h = record {
@@ -127,13 +127,13 @@ load-by x y state source i f s same h = record {
   is = λ p ok head r is. subst (Is y.words.diagrams p s) (same p r is) (h.is p ok head);
 }
 
-pub load-as : (x y : Symbols) (state : State) (source other : Source) (i : Insn) (s : Symbol) → source ≡ other → IsLoad x y state (number_from other) i s → IsLoad x y state (number_from source) i s
+pub load-as : (x y : Symbols) (state : State) (source other : LoadSource) (i : Insn) (s : Symbol) → source ≡ other → IsLoad x y state (number_from other) i s → IsLoad x y state (number_from source) i s
 load-as x y state source other i s is h = subst (λ o. IsLoad x y state (number_from o) i s) (sym is) h
 
 -- ---- Steps
 
 -- the number that is loaded goes into a register
-pub load-step : (x y : Symbols) (state next : State) (to : Register) (source : Source) (i : Insn) (s : Symbol) → Extends x y → AreWords x.words.diagrams state
+pub load-step : (x y : Symbols) (state next : State) (to : Register) (source : LoadSource) (i : Insn) (s : Symbol) → Extends x y → AreWords x.words.diagrams state
     → IsLoad x y state (number_from source) i s → HasWord state to s.word next → IsStepOf x y state i (Load to source) (steps.On s.guard 0 next)
 load-step x y state next to source i s grew words load has = record {
   inside = (load.inside.guard, with-words y.words.diagrams state next to s.word has (words_extended x y state grew words) load.inside.word);

@@ -9,8 +9,8 @@ use Rattle.filter_diagrams.specs.declared.actions.Register.{Register}
 use Rattle.filter_diagrams.specs.declared.actions.Register.TheVariants as registers
 use Rattle.filter_diagrams.specs.declared.actions.Operand.{Operand}
 use Rattle.filter_diagrams.specs.declared.actions.Operand.TheVariants as operands
-use Rattle.filter_diagrams.specs.declared.actions.Source.{Source}
-use Rattle.filter_diagrams.specs.declared.actions.Source.TheVariants as sources
+use Rattle.filter_diagrams.specs.declared.actions.LoadSource.{LoadSource}
+use Rattle.filter_diagrams.specs.declared.actions.LoadSource.TheVariants as sources
 use Rattle.filter_diagrams.specs.declared.actions.Test.{Test}
 use Rattle.filter_diagrams.specs.declared.actions.Test.TheVariants as tests
 use Rattle.filter_diagrams.specs.declared.actions.Action.{Action}
@@ -31,7 +31,7 @@ comparison_of tests.GreaterOrEqual = codes.GreaterOrEqual
 comparison_of tests.AnyBit = codes.AnyBit
 
 -- the number that an instruction loads, if there is one
-abbrev pub number_from : Source → List ℕ → ℕ → Insn → Registers → Option ℕ
+abbrev pub number_from : LoadSource → List ℕ → ℕ → Insn → Registers → Option ℕ
 number_from (sources.Absolute size) packet wire i r = number_at packet i.k (bytes_of size)
 number_from (sources.Indirect size) packet wire i r = number_at packet (r.index + i.k) (bytes_of size)
 number_from sources.Immediate packet wire i r = Some i.k

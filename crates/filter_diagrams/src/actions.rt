@@ -25,7 +25,7 @@ pub enum Operand {
 
 /// A number that an instruction loads.
 #[derive(Clone, Copy, Debug, PartialEq, Eq)]
-pub enum Source {
+pub enum LoadSource {
     /// Bytes of the frame at a constant offset.
     Absolute(Size),
     /// Bytes of the frame at an offset that the index register adds to.
@@ -60,7 +60,7 @@ pub enum Test {
 #[derive(Clone, Copy, Debug, PartialEq, Eq)]
 pub enum Action {
     /// A number goes into a register.
-    Load(Register, Source),
+    Load(Register, LoadSource),
     /// The number in a register goes into a cell of the scratch memory.
     Store(Register),
     Jump,
@@ -71,33 +71,33 @@ pub enum Action {
 
 /// The number that an instruction of a code loads, and the register that it goes into, if it loads
 /// one and calculates nothing.
-fn load_of(code: u16) -> Option<(Register, Source)>
+fn load_of(code: u16) -> Option<(Register, LoadSource)>
     ensures { IfSome result (λ l. IsAction (operation_of code) (Action.Load l.0 l.1)) }
 {
     match code {
-        code::LD_W_ABS => Some((Register::Accumulator, Source::Absolute(Size::Four))),
-        code::LD_H_ABS => Some((Register::Accumulator, Source::Absolute(Size::Two))),
-        code::LD_B_ABS => Some((Register::Accumulator, Source::Absolute(Size::One))),
-        code::LD_W_IND => Some((Register::Accumulator, Source::Indirect(Size::Four))),
-        code::LD_H_IND => Some((Register::Accumulator, Source::Indirect(Size::Two))),
-        code::LD_B_IND => Some((Register::Accumulator, Source::Indirect(Size::One))),
-        code::LD_IMM => Some((Register::Accumulator, Source::Immediate)),
-        code::LDX_IMM => Some((Register::Index, Source::Immediate)),
-        code::LD_MEM => Some((Register::Accumulator, Source::Memory)),
-        code::LDX_MEM => Some((Register::Index, Source::Memory)),
-        code::LD_LEN => Some((Register::Accumulator, Source::Length)),
-        code::LDX_LEN => Some((Register::Index, Source::Length)),
-        code::LDX_MSH => Some((Register::Index, Source::HeaderLength)),
-        code::NEG => Some((Register::Accumulator, Source::Negated)),
-        code::TAX => Some((Register::Index, Source::Register(Register::Accumulator))),
-        code::TXA => Some((Register::Accumulator, Source::Register(Register::Index))),
+        code::LD_W_ABS => Some((Register::Accumulator, LoadSource::Absolute(Size::Four))),
+        code::LD_H_ABS => Some((Register::Accumulator, LoadSource::Absolute(Size::Two))),
+        code::LD_B_ABS => Some((Register::Accumulator, LoadSource::Absolute(Size::One))),
+        code::LD_W_IND => Some((Register::Accumulator, LoadSource::Indirect(Size::Four))),
+        code::LD_H_IND => Some((Register::Accumulator, LoadSource::Indirect(Size::Two))),
+        code::LD_B_IND => Some((Register::Accumulator, LoadSource::Indirect(Size::One))),
+        code::LD_IMM => Some((Register::Accumulator, LoadSource::Immediate)),
+        code::LDX_IMM => Some((Register::Index, LoadSource::Immediate)),
+        code::LD_MEM => Some((Register::Accumulator, LoadSource::Memory)),
+        code::LDX_MEM => Some((Register::Index, LoadSource::Memory)),
+        code::LD_LEN => Some((Register::Accumulator, LoadSource::Length)),
+        code::LDX_LEN => Some((Register::Index, LoadSource::Length)),
+        code::LDX_MSH => Some((Register::Index, LoadSource::HeaderLength)),
+        code::NEG => Some((Register::Accumulator, LoadSource::Negated)),
+        code::TAX => Some((Register::Index, LoadSource::Register(Register::Accumulator))),
+        code::TXA => Some((Register::Accumulator, LoadSource::Register(Register::Index))),
         _ => None,
     }
 }
 
 /// What an instruction of a code calculates, if it does.
 fn calculation_of(code: u16) -> Option<(Operator, Operand)>
-    ensures { IfSome result (λ c. IsAction (operation_of code) (Action.Load Register.Accumulator (Source.Calculated c.0 c.1))) }
+    ensures { IfSome result (λ c. IsAction (operation_of code) (Action.Load Register.Accumulator (LoadSource.Calculated c.0 c.1))) }
 {
     match code {
         code::ADD_K => Some((Operator::Plus, Operand::Constant)),
@@ -154,7 +154,10 @@ pub fn action_of(code: u16) -> Option<Action>
         return Some(Action::Load(to, source));
     }
     if let Some((operator, operand)) = calculation_of(code) {
-        return Some(Action::Load(Register::Accumulator, Source::Calculated(operator, operand)));
+        return Some(Action::Load(
+            Register::Accumulator,
+            LoadSource::Calculated(operator, operand),
+        ));
     }
     control_of(code)
 }

@@ -6,7 +6,7 @@ ghost use Rattle.filter_meaning.specs.Meaning.{Packet, Test, and_test, or_test, 
 ghost use Rattle.filter_symbols.specs.Packets.{IsPacket, HasHeader, verdict_at};
 ghost use Rattle.filter_symbols.specs.Symbols.{SaysOf, Extends};
 
-use filter_bdd::{Answer, Budget, Operation, Order, Stop};
+use filter_bdd::{Answer, BitOrder, Budget, Operation, Stop};
 use filter_symbols::Symbols;
 use filter_tree::Direction;
 use std::alloc::Global;
@@ -20,7 +20,7 @@ pub struct Builder {
 
 impl Builder {
     /// No node yet. Nodes will ask for bits in this order.
-    pub fn new(alloc: Global, header: Option<u32>, budget: Budget, order: Order) -> Builder
+    pub fn new(alloc: Global, header: Option<u32>, budget: Budget, order: BitOrder) -> Builder
         ensures { result.symbols.header ≡ header }
     {
         let mut symbols = Symbols::new(alloc, header, budget);

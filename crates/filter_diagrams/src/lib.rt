@@ -19,6 +19,6 @@ mod state;
 mod steps;
 mod trees;
 
-pub use actions::{Action, Operand, Register, Source, Test, action_of};
+pub use actions::{Action, LoadSource, Operand, Register, Test, action_of};
 pub use builder::Builder;
 pub use refusal::Refusal;

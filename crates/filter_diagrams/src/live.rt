@@ -1,6 +1,6 @@
 //! What a program reads again: the registers and cells that are live at each place.
 
-use crate::actions::{Action, Operand, Register, Source, action_of};
+use crate::actions::{Action, LoadSource, Operand, Register, action_of};
 use bpfvm::Insn;
 use filter_bdd::Stop;
 use std::alloc::Global;
@@ -66,21 +66,24 @@ impl Live {
     }
 
     /// What a load reads is read.
-    fn with_source(self, source: Source, cell: u32) -> Live {
+    fn with_source(self, source: LoadSource, cell: u32) -> Live {
         match source {
-            Source::Absolute(_) | Source::Immediate | Source::Length | Source::HeaderLength => self,
-            Source::Indirect(_) => self.with_register(Register::Index, true),
-            Source::Memory => Live {
+            LoadSource::Absolute(_)
+            | LoadSource::Immediate
+            | LoadSource::Length
+            | LoadSource::HeaderLength => self,
+            LoadSource::Indirect(_) => self.with_register(Register::Index, true),
+            LoadSource::Memory => Live {
                 accumulator: self.accumulator,
                 index: self.index,
                 memory: self.memory | bit_of(cell),
             },
-            Source::Calculated(_, operand) => {
+            LoadSource::Calculated(_, operand) => {
                 self.with_register(Register::Accumulator, true)
                     .with_operand(operand)
             }
-            Source::Negated => self.with_register(Register::Accumulator, true),
-            Source::Register(from) => self.with_register(from, true),
+            LoadSource::Negated => self.with_register(Register::Accumulator, true),
+            LoadSource::Register(from) => self.with_register(from, true),
         }
     }
 

@@ -10,7 +10,7 @@ ghost use Rattle.filter_diagrams.specs.Actions.{comparison_of, operand_of, numbe
 ghost use Rattle.filter_diagrams.specs.States.{AreWords};
 ghost use Rattle.filter_diagrams.specs.Walks.{IsOperand, IsLoad, IsOn, IsJump, IsStepOf};
 
-use crate::actions::{Action, Operand, Source, Test};
+use crate::actions::{Action, LoadSource, Operand, Test};
 use crate::builder::Builder;
 use crate::refusal::Refusal;
 use crate::state::{State, kept};
@@ -113,29 +113,29 @@ impl Builder {
     /// The number that an instruction loads.
     #[tactic(auto, using(crate::proofs::Builders::extends_more, crate::proofs::Builders::extends_same, crate::proofs::Builders::inside_extended, crate::proofs::Instructions::word_extended))]
     #[inline(never)]
-    fn load_of(&mut self, state: &State, insn: &Insn, source: Source) -> Result<Symbol, Refusal>
+    fn load_of(&mut self, state: &State, insn: &Insn, source: LoadSource) -> Result<Symbol, Refusal>
         requires { AreWords self.old.symbols.words.diagrams state.now }
         ensures load { IfOk result (IsLoad self.old.symbols self.new.symbols state.now (number_from source) insn.now) }
         ensures extends { Extends self.old.symbols self.new.symbols }
     {
         match source {
-            Source::Absolute(size) => Ok(self.symbols.load_at(insn.k, size)?),
-            Source::Indirect(size) => self.load_after(kept(state.index)?, insn.k, size),
-            Source::Immediate => Ok(self.symbols.number(insn.k)?),
-            Source::Memory => Ok(self.symbol_of(kept(state.cell(insn.k))?)?),
-            Source::Length => Ok(self.symbols.wire_length()?),
-            Source::HeaderLength => self.header_length(insn.k),
-            Source::Calculated(operator, operand) => {
+            LoadSource::Absolute(size) => Ok(self.symbols.load_at(insn.k, size)?),
+            LoadSource::Indirect(size) => self.load_after(kept(state.index)?, insn.k, size),
+            LoadSource::Immediate => Ok(self.symbols.number(insn.k)?),
+            LoadSource::Memory => Ok(self.symbol_of(kept(state.cell(insn.k))?)?),
+            LoadSource::Length => Ok(self.symbols.wire_length()?),
+            LoadSource::HeaderLength => self.header_length(insn.k),
+            LoadSource::Calculated(operator, operand) => {
                 let first = kept(state.accumulator)?;
                 let second = self.operand(state, insn, operand)?;
                 Ok(self.calculated(operator, first, second)?)
             }
-            Source::Negated => {
+            LoadSource::Negated => {
                 let number = kept(state.accumulator)?;
                 let zero = self.symbols.words.constant(0)?;
                 Ok(self.calculated(Operator::Minus, zero, number)?)
             }
-            Source::Register(from) => Ok(self.symbol_of(kept(state.register(from))?)?),
+            LoadSource::Register(from) => Ok(self.symbol_of(kept(state.register(from))?)?),
         }
     }
 

@@ -1,7 +1,7 @@
 -- The numbers that the bytes of a packet are.
 use Rattle.std.proofs.Common.{◌≡◌, ℕ, suc, ◌+◌, ◌<◌, ◌≤◌, List, [], ◌∷◌, length, take, drop, Some, None, ap, ◌∙◌, arith, nat_le, true, false, if◌then◌else◌, get_or, drop-cons}
 use Rattle.std.proofs.lemmas.Bool.Decides.{nat_tests}
-use Rattle.std.specs.Int.{w16, w32, w64, from_be_bytes}
+use Rattle.std.specs.Int.{w64, from_be_bytes}
 use Rattle.bpfvm.specs.Machine.{big_endian, number_at}
 
 -- a number of bytes that are all there
@@ -14,31 +14,7 @@ pub number-none : (b : List ℕ) (o n : ℕ) → length b < o + n → number_at 
 unfolding number_at
 number-none b o n past = let h : nat_le (o + n) (length b) ≡ false = grind (arith, nat_tests) in ap (λ c. if c then Some (big_endian (take n (drop o b))) else None) h
 
--- one byte is itself
-pub number-byte : (b : List ℕ) (o : ℕ) → o < length b → number_at b o 1 ≡ Some (get_or b o 0)
-number-byte b o inside =
-    let one = drop-cons b o 0 inside in
-    number-some b o 1 (omega arith) ∙ rw one (ap (λ n. Some n) (omega arith))
-
--- more bytes are what `from_be_bytes` makes of them
-pub number-half : (b : List ℕ) (o : ℕ) → o + 2 ≤ length b → number_at b o 2 ≡ Some (from_be_bytes w16 (get_or b o 0 ∷ get_or b (o + 1) 0 ∷ []))
-number-half b o inside =
-    let first = drop-cons b o 0 (omega arith) in
-    let second = drop-cons b (suc o) 0 (omega arith) in
-    let one : suc o ≡ o + 1 = omega arith in
-    number-some b o 2 inside ∙ rw (first, second, one) (ap (λ n. Some n) (omega arith))
-
-pub number-word : (b : List ℕ) (o : ℕ) → o + 4 ≤ length b → number_at b o 4 ≡ Some (from_be_bytes w32 (get_or b o 0 ∷ get_or b (o + 1) 0 ∷ get_or b (o + 2) 0 ∷ get_or b (o + 3) 0 ∷ []))
-number-word b o inside =
-    let first = drop-cons b o 0 (omega arith) in
-    let second = drop-cons b (suc o) 0 (omega arith) in
-    let third = drop-cons b (suc (suc o)) 0 (omega arith) in
-    let fourth = drop-cons b (suc (suc (suc o))) 0 (omega arith) in
-    let three : suc (suc (suc o)) ≡ o + 3 = omega arith in
-    let two : suc (suc o) ≡ o + 2 = omega arith in
-    let one : suc o ≡ o + 1 = omega arith in
-    number-some b o 4 inside ∙ rw (first, second, third, fourth, three, two, one) (ap (λ n. Some n) (omega arith))
-
+-- six bytes are what `from_be_bytes` makes of them
 pub number-six : (b : List ℕ) (o : ℕ) → o + 6 ≤ length b
     → number_at b o 6 ≡ Some (from_be_bytes w64 (0 ∷ 0 ∷ get_or b o 0 ∷ get_or b (o + 1) 0 ∷ get_or b (o + 2) 0 ∷ get_or b (o + 3) 0 ∷ get_or b (o + 4) 0 ∷ get_or b (o + 5) 0 ∷ []))
 number-six b o inside =

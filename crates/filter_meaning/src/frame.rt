@@ -7,6 +7,7 @@ ghost use Rattle.filter_meaning.specs.Notes.{Noted};
 ghost use Rattle.filter_meaning.specs.declared.frame.Look.TheVariants.{Bytes, Length};
 
 use crate::cause::AbortCause;
+use bpfvm::{byte_at, half_at, word_at};
 use std::alloc::Global;
 use std::marker::Model;
 
@@ -98,45 +99,6 @@ impl Notes {
             self.keep(Look::Length);
         }
     }
-}
-
-/// The byte at an offset.
-fn byte_at(packet: &[u8], offset: usize) -> Option<u32>
-    requires { offset < 2 ^ 34 }
-    ensures { result ≡ number_at packet.now offset 1 }
-{
-    if packet.len() < offset + 1 {
-        return None;
-    }
-    Some(u32::from(packet[offset]))
-}
-
-/// The two bytes at an offset, in network order.
-fn half_at(packet: &[u8], offset: usize) -> Option<u32>
-    requires { offset < 2 ^ 34 }
-    ensures { result ≡ number_at packet.now offset 2 }
-{
-    if packet.len() < offset + 2 {
-        return None;
-    }
-    Some(u32::from(u16::from_be_bytes([packet[offset], packet[offset + 1]])))
-}
-
-/// The four bytes at an offset, in network order.
-fn word_at(packet: &[u8], offset: usize) -> Option<u32>
-    requires { offset < 2 ^ 34 }
-    ensures { result ≡ number_at packet.now offset 4 }
-{
-    if packet.len() < offset + 4 {
-        return None;
-    }
-    let bytes = [
-        packet[offset],
-        packet[offset + 1],
-        packet[offset + 2],
-        packet[offset + 3],
-    ];
-    Some(u32::from_be_bytes(bytes))
 }
 
 /// The six bytes at an offset, in network order.

@@ -2,7 +2,7 @@
 
 use crate::filters::Filter;
 use bpfvm::Insn;
-use filter_diagrams::{Action, Operand, Register, Source, action_of};
+use filter_diagrams::{Action, LoadSource, Operand, Register, action_of};
 use filter_tree::{Expr, Operator, Value};
 
 /// An offset of a layer that is far from its first byte.
@@ -105,8 +105,8 @@ fn expression_looks_far(expr: &Expr) -> bool {
 /// Whether an instruction looks at bytes that may be far from the first one.
 fn instruction_looks_far(insn: &Insn) -> bool {
     match action_of(insn.code) {
-        Some(Action::Load(_, Source::Indirect(_))) => true,
-        Some(Action::Load(_, Source::Absolute(_) | Source::HeaderLength)) => insn.k >= FAR,
+        Some(Action::Load(_, LoadSource::Indirect(_))) => true,
+        Some(Action::Load(_, LoadSource::Absolute(_) | LoadSource::HeaderLength)) => insn.k >= FAR,
         _ => false,
     }
 }
@@ -147,13 +147,13 @@ impl Constants {
     }
 
     /// Whether an instruction loads one from a source. `cell` is the instruction's number.
-    fn loads(self, source: Source, cell: u32) -> bool {
+    fn loads(self, source: LoadSource, cell: u32) -> bool {
         match source {
-            Source::Immediate => true,
-            Source::Memory => self.memory & bit_of(cell) > 0,
-            Source::Register(from) => self.has(from),
-            Source::Negated | Source::Calculated(_, Operand::Constant) => self.accumulator,
-            Source::Calculated(_, Operand::InIndex) => self.accumulator && self.index,
+            LoadSource::Immediate => true,
+            LoadSource::Memory => self.memory & bit_of(cell) > 0,
+            LoadSource::Register(from) => self.has(from),
+            LoadSource::Negated | LoadSource::Calculated(_, Operand::Constant) => self.accumulator,
+            LoadSource::Calculated(_, Operand::InIndex) => self.accumulator && self.index,
             _ => false,
         }
     }
@@ -202,7 +202,7 @@ impl Constants {
     /// What is heavy of an instruction between the two registers.
     fn heavy_instruction(self, insn: &Insn) -> Option<Heavy> {
         match action_of(insn.code) {
-            Some(Action::Load(_, Source::Calculated(operator, Operand::InIndex))) => {
+            Some(Action::Load(_, LoadSource::Calculated(operator, Operand::InIndex))) => {
                 let heavy = heavy_operator(operator)?;
                 let by_constant = self.index || heavy == Heavy::Product && self.accumulator;
                 if by_constant { None } else { Some(heavy) }

@@ -4,8 +4,8 @@ use crate::filters::Filter;
 use crate::shape::Shape;
 use crate::standings::{Standings, WIRE};
 use bpfvm::Insn;
-use filter_bdd::{Order, Stop};
-use filter_diagrams::{Action, Operand, Register, Source, action_of};
+use filter_bdd::{BitOrder, Stop};
+use filter_diagrams::{Action, LoadSource, Operand, Register, action_of};
 use filter_tree::headers::ETHER_HDR_LEN;
 use filter_tree::{Expr, Layer, Operator, Size, Value};
 use std::alloc::Global;
@@ -175,31 +175,31 @@ impl Survey {
     }
 
     /// What a load gives.
-    fn source(&mut self, shapes: &Shapes, insn: &Insn, source: Source) -> Result<Shape, Stop> {
+    fn source(&mut self, shapes: &Shapes, insn: &Insn, source: LoadSource) -> Result<Shape, Stop> {
         match source {
-            Source::Absolute(size) => self.load(0, &Shape::number(insn.k), size),
-            Source::Indirect(size) => self.load(insn.k, &shapes.index, size),
-            Source::Immediate => Ok(Shape::number(insn.k)),
-            Source::Memory => Ok(
+            LoadSource::Absolute(size) => self.load(0, &Shape::number(insn.k), size),
+            LoadSource::Indirect(size) => self.load(insn.k, &shapes.index, size),
+            LoadSource::Immediate => Ok(Shape::number(insn.k)),
+            LoadSource::Memory => Ok(
                 shapes
                     .memory
                     .get(insn.k as usize)
                     .copied()
                     .unwrap_or(Shape::UNKNOWN),
             ),
-            Source::Length => Ok(Shape::field(0, WIRE)),
-            Source::HeaderLength => match self.header {
+            LoadSource::Length => Ok(Shape::field(0, WIRE)),
+            LoadSource::HeaderLength => match self.header {
                 Some(words) if insn.k == NETWORK => Ok(Shape::number(words.wrapping_mul(4))),
                 _ => Ok(Shape::field(insn.k.saturating_add(WIRE), 1).moved(2)),
             },
-            Source::Calculated(operator, operand) => {
+            LoadSource::Calculated(operator, operand) => {
                 let second = shapes.operand(operand, insn.k);
                 self.calculated(operator, shapes.accumulator, second)
             }
-            Source::Negated => {
+            LoadSource::Negated => {
                 self.calculated(Operator::Minus, Shape::number(0), shapes.accumulator)
             }
-            Source::Register(from) => Ok(shapes.register(from)),
+            LoadSource::Register(from) => Ok(shapes.register(from)),
         }
     }
 
@@ -281,7 +281,7 @@ pub(crate) fn order_of(
     header: Option<u32>,
     first: Filter<'_>,
     second: Filter<'_>,
-) -> Result<Order, Stop> {
+) -> Result<BitOrder, Stop> {
     let mut survey = Survey {
         standings: Standings::new(alloc)?,
         header,

@@ -2,7 +2,7 @@
 //! bits are asked for by that.
 
 use crate::shape::{Part, Shape};
-use filter_bdd::{Order, Stop};
+use filter_bdd::{BitOrder, Stop};
 use filter_tree::headers::{ETHER_TYPE, IP_OFF, IP_P};
 use std::alloc::Global;
 
@@ -246,15 +246,15 @@ impl Standings {
     /// The order in which bits are asked for: those of protocols, those of indices, those that are
     /// compared with one another, and the others by their names. By their names all, if nothing
     /// is an index or is compared with another field.
-    pub fn order(&self, alloc: Global) -> Result<Order, Stop> {
+    pub fn order(&self, alloc: Global) -> Result<BitOrder, Stop> {
         if self.groups == 0 && self.indices.is_empty() {
-            return Ok(Order::natural(alloc));
+            return Ok(BitOrder::natural(alloc));
         }
         let mut ranks = Vec::new(alloc);
         self.push_kinds(&mut ranks)?;
         self.push_indices(&mut ranks)?;
         self.push_groups(&mut ranks)?;
         ranks.sort_unstable();
-        Order::of(alloc, names_of(alloc, &ranks)?.as_slice())
+        BitOrder::of(alloc, names_of(alloc, &ranks)?.as_slice())
     }
 }

@@ -46,9 +46,9 @@ impl Split<Sight> for Ends {
 }
 
 /// A copy of what the joined seat knows.
-pub struct Witness;
+pub struct SeatWitness;
 
-impl Split<Sight> for Witness {
+impl Split<Sight> for SeatWitness {
     ghost left = { λ s. s };
 
     ghost right = { witness };
@@ -62,13 +62,13 @@ impl Join<Sight> for Ends {
 
 /// The calls that a load of `closed` ends if it finds the pair open, and the one that it ends
 /// if it is closed.
-pub trait Opening {
+pub trait ClosedLoad {
     ghost quiet: { List Feed };
 
     ghost late: { Feed };
 }
 
-impl Opening for Brand {
+impl ClosedLoad for Brand {
     ghost quiet = { [] };
 
     ghost late = { FlushClosed };
@@ -88,7 +88,7 @@ pub struct SawClosed<C> {
     marker: PhantomData<C>,
 }
 
-impl<C: Opening> Play<Buffer, Sight> for SawClosed<C> {
+impl<C: ClosedLoad> Play<Buffer, Sight> for SawClosed<C> {
     ghost then = { λ step me found after. saw_closed C.quiet C.late (known me) found (known after) × IsLegalWithReads after.0.view × FeederSees me.0 after.0 };
 }
 

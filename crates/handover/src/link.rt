@@ -13,7 +13,7 @@ ghost use Rattle.handover.specs.Orders.{HasOneOrder};
 ghost use Rattle.handover.specs.Rule.{first, last, profile_of, terms_of};
 ghost use Rattle.handover.specs.Settling.{IsWhole};
 
-use crate::atomic_words::{Ends, PairSeat, PairTable, SLOT, Witness};
+use crate::atomic_words::{Ends, PairSeat, PairTable, SLOT, SeatWitness};
 use crate::drain::{Drain, DrainEnd};
 use crate::feeder::{FeedEnd, Feeder};
 use crate::stand::Stand;
@@ -196,7 +196,7 @@ pub fn settle(link: Link, feeder: FeedEnd, drain: DrainEnd) -> Settled
     let FeedEnd { mut seat, counts } = feeder;
     let DrainEnd { seat: other } = drain;
     table.shared.join_seat::<Ends>(&mut seat, other);
-    let witness = table.shared.split_seat::<Witness>(&mut seat);
+    let witness = table.shared.split_seat::<SeatWitness>(&mut seat);
     let mut closed = table.close_with(seat);
     let hold = closed.take(SLOT);
     closed.free();

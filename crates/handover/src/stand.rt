@@ -15,7 +15,7 @@ ghost use Rattle.handover.specs.Rule.{terms_of, saw_closed, saw_turn, set_turn, 
 ghost use Rattle.handover.specs.Seated.{IsGiving, IsStand, IsOffered, HasCalled, HasFlushed};
 
 use crate::atomic_words::{
-    CLOSED, Call, GaveTurn, Opening, PairSeat, SLOT, SawClosed, SawTurn, TURN,
+    CLOSED, Call, ClosedLoad, GaveTurn, PairSeat, SLOT, SawClosed, SawTurn, TURN,
 };
 use crate::link::Link;
 use listener::{Buffer, Fed, Mode};
@@ -42,7 +42,7 @@ pub(crate) struct Stand {
 
 /// Loads `closed`. The step ends the calls that C names if the pair is open, else the one that
 /// found it closed.
-fn see_closed<C: Opening>(link: &Link, seat: &mut PairSeat) -> u64
+fn see_closed<C: ClosedLoad>(link: &Link, seat: &mut PairSeat) -> u64
     requires pair { seat.old.table_id ≡ link.now }
     requires calm { (seat.old.me.0.view.role ≡ Feeds) × (seat.old.me.0.view.rotating ≡ false) × (seat.old.me.0.view.ended ≡ false) }
     requires quiet { IsQuiet (terms_of seat.old.me.0.view.profile) seat.old.me.0.view.feeds C.quiet }

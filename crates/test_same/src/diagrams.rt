@@ -1,7 +1,7 @@
 //! The caller that the page of `filter_diagrams` shows, crates/filter_diagrams/README.md. The
 //! answers are written down by hand, from the tables of docs/LANGUAGE.md.
 
-use filter_bdd::{Answer, Budget, Order};
+use filter_bdd::{Answer, BitOrder, Budget};
 use filter_diagrams::{Builder, Refusal};
 use filter_tree::Expr;
 use filterlang::parse;
@@ -14,7 +14,7 @@ pub fn accepts_all(alloc: Global, expr: &Expr) -> Result<bool, Refusal> {
         nodes: 100_000,
         steps: 200_000,
     };
-    let mut builder = Builder::new(alloc, Some(5), budget, Order::natural(alloc));
+    let mut builder = Builder::new(alloc, Some(5), budget, BitOrder::natural(alloc));
     let place = builder.tree(expr)?;
     let diagrams = &builder.symbols.words.diagrams;
     Ok(diagrams.is(place, Answer::Final(0, true)))

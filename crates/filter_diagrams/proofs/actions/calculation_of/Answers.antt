@@ -3,7 +3,7 @@ use Rattle.bpfvm.specs.Codes.{operation_of}
 use Rattle.filter_tree.specs.declared.tree.Operator.TheVariants as operators
 use Rattle.filter_diagrams.specs.declared.actions.Register.TheVariants as registers
 use Rattle.filter_diagrams.specs.declared.actions.Operand.TheVariants as operands
-use Rattle.filter_diagrams.specs.declared.actions.Source.TheVariants as sources
+use Rattle.filter_diagrams.specs.declared.actions.LoadSource.TheVariants as sources
 use Rattle.filter_diagrams.specs.declared.actions.Action.TheVariants.{Load}
 use Rattle.filter_diagrams.proofs.Codes.{of-code}
 use Rattle.filter_diagrams.proofs.actions.calculation_of.Goals as goal

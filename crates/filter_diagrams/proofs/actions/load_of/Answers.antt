@@ -2,7 +2,7 @@ use Rattle.std.proofs.Common.{refl}
 use Rattle.bpfvm.specs.Codes.{operation_of}
 use Rattle.filter_tree.specs.declared.tree.Size.TheVariants as sizes
 use Rattle.filter_diagrams.specs.declared.actions.Register.TheVariants as registers
-use Rattle.filter_diagrams.specs.declared.actions.Source.TheVariants as sources
+use Rattle.filter_diagrams.specs.declared.actions.LoadSource.TheVariants as sources
 use Rattle.filter_diagrams.specs.declared.actions.Action.TheVariants.{Load}
 use Rattle.filter_diagrams.proofs.Codes.{of-code}
 use Rattle.filter_diagrams.proofs.actions.load_of.Goals as goal

@@ -1,6 +1,6 @@
 use Rattle.std.proofs.Common.{◌∙◌, ap, sym}
 use Rattle.bpfvm.specs.Listing.{lines_of}
-use Rattle.line_text.proofs.Lines.{lines_of-cut, lines_of-last, lines_of-some}
+use Rattle.bpfvm.proofs.Lines.{lines_of-cut, lines_of-last, lines_of-some}
 use Rattle.line_text.proofs.fields.first_line.Goals as goal
 
 pub returns-in-Some-clause-first : goal.returns-in-Some-clause-first

@@ -7,7 +7,7 @@ use Rattle.filter_words.specs.Words.{value}
 use Rattle.filter_words.proofs.Nodes.{word_grown}
 use Rattle.filter_symbols.specs.Packets.{bit_of}
 use Rattle.filter_diagrams.specs.declared.actions.Register.TheVariants as registers
-use Rattle.filter_diagrams.specs.declared.actions.Source.TheVariants as sources
+use Rattle.filter_diagrams.specs.declared.actions.LoadSource.TheVariants as sources
 use Rattle.filter_diagrams.proofs.Builders.{map-ok}
 use Rattle.filter_diagrams.proofs.Instructions.{load-as, load-by, register-number, register-word, cell-number, index-first, calculated-number, negated-number}
 use Rattle.filter_diagrams.proofs.builder.Builder.load_of.Goals as goal
