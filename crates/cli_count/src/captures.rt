@@ -75,21 +75,19 @@ fn taken_or_none(taken: Option<u64>) -> u64
 impl CountJob<'_, '_, '_> {
     /// Prints the counts of the capture of this number, if they are asked for and its header was
     /// read.
-    fn show<O: Write>(
+    fn show<R, O: Write>(
         &self,
         number: usize,
-        opened: bool,
-        counts: VerdictCounts,
-        taken: Option<u64>,
+        end: &CountEnd<R>,
         out: &mut O,
     ) -> Result<(), Unprinted>
-        ensures { Shows (shown_counts self.now.is_shown self.now.form (slice_get self.now.paths.now number) opened counts taken) (O.contents out.old) (O.contents out.new) result }
+        ensures { Shows (shown_counts self.now.is_shown self.now.form (slice_get self.now.paths.now number) end.now.opened end.now.counts end.now.taken) (O.contents out.old) (O.contents out.new) result }
     {
-        if !self.is_shown || !opened {
+        if !self.is_shown || !end.opened {
             return Ok(());
         }
         match self.paths.get(number) {
-            Some(path) => print_count(self.alloc, *path, counts, taken, self.form, out),
+            Some(path) => print_count(self.alloc, *path, end, self.form, out),
             None => Ok(()),
         }
     }
@@ -105,23 +103,20 @@ impl<R: Source, O: Write> Visitor<R, CountTotals, O> for CountJob<'_, '_, '_> {
         totals: &mut CountTotals,
         out: &mut O,
     ) -> Visited<R> {
-        let CountEnd {
-            source,
-            opened,
-            counts,
-            taken,
-            read,
-        } = count_packets(self.alloc, capture, self.filter, self.is_measured);
-        let printed = self.show(number, opened, counts, taken, out);
-        let goes_on = goes_on(read, &printed);
-        let opened = either(totals.opened, opened);
+        let end = count_packets(self.alloc, capture, self.filter, self.is_measured);
+        let printed = self.show(number, &end, out);
+        let goes_on = goes_on(end.read, &printed);
+        let opened = either(totals.opened, end.opened);
         *totals = CountTotals {
             opened,
-            counts: totals.counts.plus(counts),
-            instructions: totals.instructions.saturating_add(taken_or_none(taken)),
+            counts: totals.counts.plus(end.counts),
+            instructions: totals.instructions.saturating_add(taken_or_none(end.taken)),
             printed,
         };
-        Visited { source, goes_on }
+        Visited {
+            source: end.source,
+            goes_on,
+        }
     }
 }
 

@@ -8,7 +8,7 @@ use crate::captures::{CountJob, CountTotals, CountedCaptures, count_captures};
 use crate::filter::CountedFilter;
 use crate::line::print_sum_object;
 use crate::list::{ListJob, ListedCaptures, list_captures};
-use crate::report::{report_counts, report_listed};
+use crate::report::{bounds_status, listed_status, report_counting};
 use cli_answers::PacketForm;
 use cli_answers::asked::{Asked, Unasked, ask};
 use cli_answers::counts::print_counts;
@@ -149,7 +149,8 @@ fn count_all<'p, F: FileStore<'p>, O: PrintSink, E: HintSink>(
     let (accepted, frames) = (totals.counts.yes, totals.counts.frames());
     let has_program = filter.measured_program(counting.is_measured).is_some();
     let printed = finish_counts(alloc, words, has_program, totals, out);
-    let status = report_counts(&printed, read, accepted, words.bounds, paths, err);
+    let answer = bounds_status(words.bounds, accepted);
+    let status = report_counting(&printed, read, answer, paths, err);
     hint_ended(paths, read, &noted, err);
     if counts_frames(words) {
         let _ = report_unseen(frames, status, err);
@@ -187,7 +188,7 @@ fn list_all<'p, F: FileStore<'p>, O: PrintSink, E: HintSink>(
     } = list_captures(&listing, captures, out);
     let noted = close_captures(files, sources, read);
     let printed = finish_paths(totals.printed, out);
-    let status = report_listed(&printed, read, totals.found, paths, err);
+    let status = report_counting(&printed, read, listed_status(totals.found), paths, err);
     hint_ended(paths, read, &noted, err);
     status
 }

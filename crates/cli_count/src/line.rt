@@ -4,6 +4,7 @@ ghost use Rattle.std.specs.Prelude.{◌≡◌, ◌++◌, IfOk, OnOk, Some, false
 ghost use Rattle.line_text.specs.Sending.{Takes};
 ghost use Rattle.cli_count.specs.Lines.{count_json, count_line, count_text, counts_json, member_json, packets_json, path_json, path_line, sum_json, taken_json, verdicts_json};
 
+use crate::count::CountEnd;
 use cli_answers::counts::VerdictCounts;
 use cli_answers::printing::Unprinted;
 use cli_watch::output::{PrintSink, send_last};
@@ -122,17 +123,16 @@ fn path_line(alloc: Global, path: &str, form: LineForm) -> Result<String, AllocE
 /// Prints the counts of the capture at a path: `a.pcap 253 packets: 67 Yes, 186 No, 0 Abort`, or in
 /// JSON `{"file":"a.pcap","packets":253,"yes":67,"no":186,"abort":0,"instructions":1692}`, on one
 /// line.
-pub(crate) fn print_count<O: Write>(
+pub(crate) fn print_count<R, O: Write>(
     alloc: Global,
     path: &str,
-    counts: VerdictCounts,
-    taken: Option<u64>,
+    end: &CountEnd<R>,
     form: LineForm,
     out: &mut O,
 ) -> Result<(), Unprinted>
-    ensures { Takes (O.contents out.old) (O.contents out.new) result (count_line form path.now counts taken) }
+    ensures { Takes (O.contents out.old) (O.contents out.new) result (count_line form path.now end.now.counts end.now.taken) }
 {
-    match count_line(alloc, path, counts, taken, form) {
+    match count_line(alloc, path, end.counts, end.taken, form) {
         Ok(line) => Ok(send(line.as_bytes(), out)?),
         Err(AllocError) => Err(Unprinted::NoMemory),
     }

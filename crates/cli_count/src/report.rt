@@ -14,7 +14,7 @@ use cli_walk::Stop;
 
 /// The exit status of captures of which N packets are accepted; without bounds it is
 /// [`Status::Clean`].
-fn bounds_status(bounds: Option<CountBounds>, accepted: u64) -> Status
+pub(crate) fn bounds_status(bounds: Option<CountBounds>, accepted: u64) -> Status
     ensures { result ≡ bounds_status bounds accepted }
 {
     match bounds {
@@ -24,7 +24,7 @@ fn bounds_status(bounds: Option<CountBounds>, accepted: u64) -> Status
 }
 
 /// The exit status of captures of which one has an accepted packet, or none has.
-fn listed_status(found: bool) -> Status
+pub(crate) fn listed_status(found: bool) -> Status
     ensures { result ≡ listed_status found }
 {
     if found {
@@ -35,34 +35,15 @@ fn listed_status(found: bool) -> Status
 }
 
 /// Reports what was not printed and then the capture that ended the reading, if there are these,
-/// and returns the greatest exit status that applies: [`Status::Negative`] if the number of
-/// accepted packets is not within the bounds.
-pub fn report_counts<E: HintSink>(
+/// and returns the greatest exit status that applies: theirs, or that of the answer.
+pub fn report_counting<E: HintSink>(
     printed: &Result<(), Unprinted>,
     read: Result<(), Stop>,
-    accepted: u64,
-    bounds: Option<CountBounds>,
+    answer: Status,
     paths: &[&str],
     err: &mut E,
 ) -> Status
-    ensures { result ≡ greater (greater (printed_status printed.now) (stop_status read)) (bounds_status bounds accepted) }
+    ensures { result ≡ greater (greater (printed_status printed.now) (stop_status read)) answer }
 {
-    let status = report_captures(printed, read, paths, err);
-    status.max(bounds_status(bounds, accepted))
-}
-
-/// Reports what was not printed and then the capture that ended the reading, if there are these,
-/// and returns the greatest exit status that applies: [`Status::Negative`] if no capture has an
-/// accepted packet.
-pub fn report_listed<E: HintSink>(
-    printed: &Result<(), Unprinted>,
-    read: Result<(), Stop>,
-    found: bool,
-    paths: &[&str],
-    err: &mut E,
-) -> Status
-    ensures { result ≡ greater (greater (printed_status printed.now) (stop_status read)) (listed_status found) }
-{
-    let status = report_captures(printed, read, paths, err);
-    status.max(listed_status(found))
+    report_captures(printed, read, paths, err).max(answer)
 }

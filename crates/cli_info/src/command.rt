@@ -21,28 +21,6 @@ use std::fs::Files;
 use std::io;
 use std::io::{ErrorKind, Read, Write};
 
-/// Surveys a capture, prints its line, and reports a failed file; `Err` if standard output failed.
-fn inspect<R: Read + Drop, O: Write, E: HintSink>(
-    alloc: Global,
-    path: &str,
-    form: LineForm,
-    input: ProbedInput<R>,
-    out: &mut O,
-    err: &mut E,
-) -> Result<Status, Status> {
-    let survey = survey_capture(alloc, input);
-    let printed = print_survey(alloc, path, &survey, form, out);
-    let status = report_survey(&survey, path, err);
-    if let Err(fault) = survey.read {
-        give_hint(format_args!("{}:", EscapedPath(path)), err);
-        hint_input(&survey.source.inner, fault, err);
-    }
-    match printed {
-        Ok(()) => Ok(status),
-        Err(error) => Err(status.max(report_unprinted(&error, err))),
-    }
-}
-
 /// Reports that memory for a line ran out, or that standard output failed.
 fn report_unprinted<E: HintSink>(error: &io::Error, err: &mut E) -> Status {
     if error.kind() == ErrorKind::OutOfMemory {
@@ -52,41 +30,53 @@ fn report_unprinted<E: HintSink>(error: &io::Error, err: &mut E) -> Status {
     }
 }
 
-/// Inspects all captures, in order.
-fn inspect_all<R: Read + Drop, O: Write, E: HintSink>(
+/// How captures are inspected, and in which form their lines are printed.
+#[derive(Clone, Copy)]
+struct Inspector {
     alloc: Global,
-    words: &InfoWords<'_>,
-    inputs: Vec<ProbedInput<R>>,
-    out: &mut O,
-    err: &mut E,
-) -> Result<Status, Status> {
-    let form = LineForm::asked(words.json);
-    let mut status = Status::Clean;
-    for (path, input) in words.inputs.as_slice().iter().zip(inputs) {
-        match inspect(alloc, *path, form, input, out, err) {
-            Ok(one) => status = status.max(one),
-            Err(one) => return Err(status.max(one)),
-        }
-    }
-    Ok(status)
+    form: LineForm,
 }
 
-/// Inspects all captures, with a buffer in front of the output.
-fn inspect_buffered<F: Screen, R: Read + Drop, O: Write, E: HintSink>(
-    alloc: Global,
-    words: &InfoWords<'_>,
-    watch: &Watch<'_, F>,
-    inputs: Vec<ProbedInput<R>>,
-    out: &mut O,
-    err: &mut E,
-) -> Result<Status, Status> {
-    let out = WatchedOutput::new(&mut *out, watch);
-    let mut out = output_buffer(alloc, out, err)?;
-    let ended = inspect_all(alloc, words, inputs, &mut out, err);
-    watch.erase();
-    let ended = flush(ended, &mut out, err);
-    hint_output(out.get_ref(), err);
-    ended
+impl Inspector {
+    /// Surveys a capture, prints its line, and reports a failed file; `Err` if standard output
+    /// failed.
+    fn inspect<R: Read + Drop, O: Write, E: HintSink>(
+        self,
+        path: &str,
+        input: ProbedInput<R>,
+        out: &mut O,
+        err: &mut E,
+    ) -> Result<Status, Status> {
+        let survey = survey_capture(self.alloc, input);
+        let printed = print_survey(self.alloc, path, &survey, self.form, out);
+        let status = report_survey(&survey, path, err);
+        if let Err(fault) = survey.read {
+            give_hint(format_args!("{}:", EscapedPath(path)), err);
+            hint_input(&survey.source.inner, fault, err);
+        }
+        match printed {
+            Ok(()) => Ok(status),
+            Err(error) => Err(status.max(report_unprinted(&error, err))),
+        }
+    }
+
+    /// Inspects all captures, in order.
+    fn inspect_all<R: Read + Drop, O: Write, E: HintSink>(
+        self,
+        paths: &[&str],
+        inputs: Vec<ProbedInput<R>>,
+        out: &mut O,
+        err: &mut E,
+    ) -> Result<Status, Status> {
+        let mut status = Status::Clean;
+        for (path, input) in paths.iter().zip(inputs) {
+            match self.inspect(*path, input, out, err) {
+                Ok(one) => status = status.max(one),
+                Err(one) => return Err(status.max(one)),
+            }
+        }
+        Ok(status)
+    }
 }
 
 /// Sends what the output has gathered, unless it has failed.
@@ -119,7 +109,20 @@ pub fn info_command<R: Files + AllocGlobal + Screen, O: Write, E: HintSink>(
     let Ok(inputs) = watched_inputs(rt, rt.alloc(), paths, &watch) else {
         return report_memory(err);
     };
-    match inspect_buffered(rt.alloc(), words, &watch, inputs, out, err) {
+    let out = WatchedOutput::new(&mut *out, &watch);
+    let mut out = match output_buffer(rt.alloc(), out, err) {
+        Ok(out) => out,
+        Err(status) => return status,
+    };
+    let inspector = Inspector {
+        alloc: rt.alloc(),
+        form: LineForm::asked(words.json),
+    };
+    let ended = inspector.inspect_all(paths, inputs, &mut out, err);
+    watch.erase();
+    let ended = flush(ended, &mut out, err);
+    hint_output(out.get_ref(), err);
+    match ended {
         Ok(status) | Err(status) => status,
     }
 }

@@ -20,6 +20,7 @@ use cli_text::Status;
 use cli_watch::{Screen, Watch};
 use fault_report::reporting::{report_fault, report_memory};
 use line_text::LineForm;
+use replay_types::RunFault;
 use std::alloc::Global;
 use std::fs::Files;
 use std::io::Write;
@@ -78,37 +79,41 @@ impl NamesFiles for HostRuntime {
     }
 }
 
-/// Replays the captures, and reports how that ended, with hints.
+/// Replays the captures, and reports how that ended, with hints; or a fault, and then nothing is
+/// reported.
 fn replay_files<R: Threads + Wait + Sync + AllocGlobal, O: Write, E: HintSink>(
     rt: &R,
     words: &RunWords<'_>,
-    listeners: &[u8],
     late: LateFiles<'_, '_, '_, '_>,
     out: &mut O,
     err: &mut E,
-) -> Result<Status, Status> {
-    let alloc = rt.alloc();
+) -> Result<Status, RunFault> {
     let LateFiles {
         plan,
         captures,
         sinks,
         watch,
     } = late;
-    let replayed = replay_plan(rt, alloc, plan, captures, sinks);
+    let replayed = replay_plan(rt, rt.alloc(), plan, captures, sinks);
     watch.erase();
-    match replayed {
-        Ok(mut reports) => {
-            let (form, inputs) = (LineForm::asked(words.json), words.inputs.as_slice());
-            let status = report_flushed(form, inputs, reports.as_mut_slice(), out, err);
-            hint_run(inputs, reports.as_slice(), err);
-            Ok(status)
-        }
-        Err(fault) => {
-            let status = report_fault(&replay_fault(fault), Status::Refused, err);
-            hint_refused(alloc, listeners, words.inputs.len(), fault, err);
-            Err(status)
-        }
-    }
+    let mut reports = replayed?;
+    let (form, inputs) = (LineForm::asked(words.json), words.inputs.as_slice());
+    let status = report_flushed(form, inputs, reports.as_mut_slice(), out, err);
+    hint_run(inputs, reports.as_slice(), err);
+    Ok(status)
+}
+
+/// Reports why there is no replay, with a hint.
+fn report_refused<E: HintSink>(
+    alloc: Global,
+    words: &RunWords<'_>,
+    listeners: &[u8],
+    fault: RunFault,
+    err: &mut E,
+) -> Status {
+    let status = report_fault(&replay_fault(fault), Status::Refused, err);
+    hint_refused(alloc, listeners, words.inputs.len(), fault, err);
+    status
 }
 
 /// What is seen of the captures; or reports that memory ran out.
@@ -135,10 +140,13 @@ fn run_files<
     let watch = watch_of(rt, alloc, words, err)?;
     let late = rt.named_files(words, listeners.as_slice(), &watch, err)?;
     let mut out = output_buffer(alloc, &mut *out, err)?;
-    let status = replay_files(rt, words, listeners.as_slice(), late, &mut out, err);
+    let status = match replay_files(rt, words, late, &mut out, err) {
+        Ok(status) => status,
+        Err(fault) => report_refused(alloc, words, listeners.as_slice(), fault, err),
+    };
     hint_printed(out.get_ref(), err);
     hint_returns("LISTENERS", listeners.as_slice(), err);
-    status
+    Ok(status)
 }
 
 /// `bpftap run`: LISTENERS is accepted and the paths are compared before a capture is opened.

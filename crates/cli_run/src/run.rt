@@ -143,10 +143,9 @@ pub fn run_told<
     M: FnMut(&str) -> W,
     O: Write,
     E: Write,
-    T: Threads + Wait + Sync,
+    T: AllocGlobal + Threads + Wait + Sync,
 >(
     rt: &T,
-    alloc: Global,
     listeners: &[u8],
     captures: Vec<Vec<R>>,
     make: M,
@@ -157,6 +156,7 @@ pub fn run_told<
     ensures { Runs R.left R.failures W.taken W.failures M.step make listeners.now captures.items
         (streams (O.contents out.old) (E.contents err.old)) (streams (O.contents out.new) (E.contents err.new)) result.0 result.1.items }
 {
+    let alloc = rt.alloc();
     let plan = match read_plan(alloc, listeners, captures.len()) {
         Ok(plan) => plan,
         Err(fault) => return (refuse(fault_text(fault), err), Vec::new(alloc)),
@@ -197,10 +197,9 @@ pub fn run<
     M: FnMut(&str) -> W,
     O: Write,
     E: Write,
-    T: Threads + Wait + Sync,
+    T: AllocGlobal + Threads + Wait + Sync,
 >(
     rt: &T,
-    alloc: Global,
     listeners: &[u8],
     captures: Vec<Vec<R>>,
     make: M,
@@ -211,6 +210,6 @@ pub fn run<
     ensures { RunsTo R.left R.failures W.taken W.failures M.step make listeners.now captures.items
         (streams (O.contents out.old) (E.contents err.old)) (streams (O.contents out.new) (E.contents err.new)) result.0 result.1.items }
 {
-    let (outcome, sinks) = run_told(rt, alloc, listeners, captures, make, out, err);
+    let (outcome, sinks) = run_told(rt, listeners, captures, make, out, err);
     (outcome.status.code(), sinks)
 }

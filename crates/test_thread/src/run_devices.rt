@@ -80,7 +80,7 @@ fn call_touched<R: Abort + AllocGlobal + Threads + Wait + Sync>(
         made.fetch_add(1, SeqCst);
         Counted::new(Touched { calls: &calls })
     };
-    let (status, sinks) = run(rt, alloc, listeners, captures, make, &mut out, &mut err);
+    let (status, sinks) = run(rt, listeners, captures, make, &mut out, &mut err);
     same(rt, (status, out.len(), sinks.len()), (1, 0, 0));
     let told = String::from_utf8(err).expect(rt, "standard error is text");
     (told, calls.load(SeqCst), made.load(SeqCst))
@@ -184,7 +184,7 @@ fn broken_by<R: Abort + AllocGlobal + Threads + Wait + Sync>(
             room: *rooms.next().unwrap_or(&0),
         })
     };
-    let (status, sinks) = run(rt, alloc, listeners, interfaces, make, out, &mut err);
+    let (status, sinks) = run(rt, listeners, interfaces, make, out, &mut err);
     BrokenRun {
         told: String::from_utf8(err).expect(rt, "standard error is text"),
         status,

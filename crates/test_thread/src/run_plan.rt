@@ -98,7 +98,7 @@ fn status_of(
     let make = |_: &str| Counted::new(ByteCounter { written: &written });
     let mut out: Vec<u8> = Vec::new(alloc);
     let mut err: Vec<u8> = Vec::new(alloc);
-    let (status, _) = run(rt, alloc, listeners, captures, make, &mut out, &mut err);
+    let (status, _) = run(rt, listeners, captures, make, &mut out, &mut err);
     status
 }
 

@@ -69,15 +69,7 @@ fn is_told<R: Abort + AllocGlobal + Threads + Wait + Sync>(
     let mut out: Vec<u8> = Vec::new(rt.alloc());
     let mut err = of_room(rt, room);
     let make = |_: &str| Counted::new(of_room(rt, 1 << 20));
-    let (outcome, _sinks) = run_told(
-        rt,
-        rt.alloc(),
-        listeners.as_bytes(),
-        captures,
-        make,
-        &mut out,
-        &mut err,
-    );
+    let (outcome, _sinks) = run_told(rt, listeners.as_bytes(), captures, make, &mut out, &mut err);
     same(rt, err.taken.as_slice(), front(rt, reported, room));
     outcome.told.is_ok()
 }

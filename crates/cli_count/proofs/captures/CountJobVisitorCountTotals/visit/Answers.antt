@@ -6,9 +6,9 @@ use Rattle.cli_count.proofs.captures.CountJobVisitorCountTotals.visit.Goals as g
 
 pub returns-clause-visits : goal.returns-clause-visits
 returns-clause-visits g c =
-    let e = c.count_packets-source.result in (
+    let e = c.count_packets-end.result in (
       e,
-      c.count_packets-source.ensures.counts,
+      c.count_packets-end.ensures.counts,
       ap (visited e.source) c.goes_on-goes_on.ensures,
       c.show-printed.ensures,
       c.either-opened.ensures,
@@ -17,4 +17,4 @@ returns-clause-visits g c =
     )
 
 pub returns-clause-source_broke : goal.returns-clause-source_broke
-returns-clause-source_broke g c = broke-so c.count_packets-source.result.read c.show-printed.result c.goes_on-goes_on.result _ c.goes_on-goes_on.ensures c.count_packets-source.ensures.source_broke
+returns-clause-source_broke g c = broke-so c.count_packets-end.result.read c.show-printed.result c.goes_on-goes_on.result _ c.goes_on-goes_on.ensures c.count_packets-end.ensures.source_broke
