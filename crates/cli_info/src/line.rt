@@ -46,15 +46,9 @@ fn put_moments(line: &mut String, contents: &Contents) -> Result<(), AllocError>
 fn put_kinds(line: &mut String, kinds: KindCounts) -> Result<(), AllocError>
     ensures { OnOk result (string_bytes line.new ≡ string_bytes line.old ++ kinds_text kinds) }
 {
-    let KindCounts {
-        ipv4,
-        arp,
-        ipv6,
-        vlan,
-        other,
-    } = kinds;
-    write!(line, " ipv4 {ipv4} arp {arp} ipv6 {ipv6}")?;
-    write!(line, " vlan {vlan} other {other}")
+    write!(line, " ipv4 {} arp {}", kinds.ipv4, kinds.arp)?;
+    write!(line, " ipv6 {} vlan {}", kinds.ipv6, kinds.vlan)?;
+    write!(line, " other {}", kinds.other)
 }
 
 /// The word of a byte order.
