@@ -1,5 +1,7 @@
 -- The line of an answer, and why a packet was rejected.
 use Rattle.std.proofs.Common.{◌≡◌, ℕ, false, List, [], ◌∷◌, ◌++◌, refl, sym, ap, ◌∙◌, append_assoc, Result, Ok, Err, OnOk}
+use Rattle.std.specs.Prelude.{if◌then◌else◌}
+use Rattle.std.specs.Result.{is_ok}
 use Rattle.filter_tree.specs.Trees.{Tree}
 use Rattle.filter_meaning.specs.declared.verdict.Verdict.{Verdict}
 use Rattle.filter_meaning.specs.Meaning.{Packet, meaning}
@@ -13,10 +15,11 @@ use Rattle.tap_text.specs.Rejections.{decision_members, last_members, question_m
 use Rattle.tap_text.specs.Answers.{Cursor, answer_head, answer_end, answer_line, reason_in, first_line, next_line, first_arrived, arrived_line}
 
 -- the line of the next answer that a listener has left, which is seen as x
-pub next_told : (form : LineForm) (n l : ℕ) (inside x : Cursor) (a : Answered) (later : List Answered) (old new end : List ℕ) → end ≡ answer_end form → inside ≡ x → inside.answers ≡ a ∷ later →
+pub next_told : {A E : Type 0} (r : Result A E) (form : LineForm) (n l : ℕ) (inside x : Cursor) (a : Answered) (later : List Answered) (old new end : List ℕ) → end ≡ answer_end form → inside ≡ x → inside.answers ≡ a ∷ later →
     old ≡ answer_head form n l ++ reason_in form (state_before a x.held_since x.capacity) a.size a.answer →
-    new ≡ old ++ end → new ≡ next_line form n l x
-next_told form n l inside x a later old new end is seen cut first ends =
+    new ≡ (if is_ok r then old ++ end else old) → OnOk r (new ≡ next_line form n l x)
+next_told (Err e) form n l inside x a later old new end is seen cut first ends = tt
+next_told (Ok y) form n l inside x a later old new end is seen cut first ends =
     ends ∙ ap (λ (t : List ℕ). old ++ t) is ∙ ap (λ (t : List ℕ). t ++ answer_end form) first
     ∙ sym (ap (first_line form n l x.capacity x.held_since) (sym (ap (λ (y : Cursor). y.answers) seen) ∙ cut))
 
@@ -28,10 +31,11 @@ arrived form n l why behind old mid new first more ends =
     (more ∙ ap (λ (t : List ℕ). t ++ behind) first ∙ append_assoc (answer_head form n l) why behind)
 
 -- the same of what a listener has left, which is seen as x
-pub next_arrived : (form : LineForm) (n : ℕ) (p : PlacedPacket) (l : ℕ) (inside x : Cursor) (a : Answered) (later : List Answered) (old mid new end : List ℕ) → end ≡ answer_end form → inside ≡ x → inside.answers ≡ a ∷ later →
+pub next_arrived : {A E : Type 0} (r : Result A E) (form : LineForm) (n : ℕ) (p : PlacedPacket) (l : ℕ) (inside x : Cursor) (a : Answered) (later : List Answered) (old mid new end : List ℕ) → end ≡ answer_end form → inside ≡ x → inside.answers ≡ a ∷ later →
     old ≡ answer_head form n l ++ reason_in form (state_before a x.held_since x.capacity) a.size a.answer →
-    mid ≡ old ++ rejection_in form p inside.expr a.answer → new ≡ mid ++ end → new ≡ arrived_line form n p l x
-next_arrived form n p l inside x a later old mid new end is seen cut first more ends =
+    mid ≡ old ++ rejection_in form p inside.expr a.answer → new ≡ (if is_ok r then mid ++ end else mid) → OnOk r (new ≡ arrived_line form n p l x)
+next_arrived (Err e) form n p l inside x a later old mid new end is seen cut first more ends = tt
+next_arrived (Ok y) form n p l inside x a later old mid new end is seen cut first more ends =
     arrived form n l (reason_in form (state_before a x.held_since x.capacity) a.size a.answer) (rejection_in form p x.expr a.answer) old mid new first
     (more ∙ ap (λ (y : Cursor). old ++ rejection_in form p y.expr a.answer) seen) (ends ∙ ap (λ (t : List ℕ). mid ++ t) is)
     ∙ sym (ap (first_arrived form n p l x.expr x.capacity x.held_since) (sym (ap (λ (y : Cursor). y.answers) seen) ∙ cut))

@@ -23,7 +23,7 @@ use std::fmt::{Display, Formatter};
 use std::io::Write;
 use std::marker::Model;
 use std::{fmt, io};
-use tap_steps::{Answer, Answered, PlacedPacket, Spec, Step};
+use tap_steps::{Answer, Answered, PlacedPacket, Spec, Step, Trace};
 
 /// The bytes that a line has room for, beside what decides of a rejected packet.
 const LINE_ROOM: usize = 512;
@@ -139,7 +139,7 @@ fn fills_hold(answer: Answer) -> bool
 
 /// What is left of a listener's answers after some steps.
 #[derive(Drop)]
-pub struct AnswerCursor<'a> {
+struct AnswerCursor<'a> {
     expr: &'a Option<Expr>,
     capacity: usize,
     /// The step that made the store the hold last, from 1.
@@ -188,42 +188,35 @@ impl<'a> AnswerCursor<'a> {
         put_answer(head.form, before, answered.size, answered.answer, line)
     }
 
-    /// Writes the next answer, as the l-th listener's.
-    fn write_next<O: Write>(
-        &self,
-        head: StepHead,
-        l: usize,
-        line: &mut String,
-        out: &mut O,
-    ) -> io::Result<()>
-        ensures { Takes (O.contents out.old) (O.contents out.new) result (next_line head.form head.n l self.now) }
+    /// Puts the line of the next answer, as the l-th listener's, in place of what the line has.
+    fn put_next(&self, head: StepHead, l: usize, line: &mut String) -> Result<(), AllocError>
+        ensures { OnOk result (string_bytes line.new ≡ next_line head.form head.n l self.now) }
     {
         let Some((answered, _)) = self.answers.split_first() else {
+            line.clear();
             return Ok(());
         };
         self.put_reason(head, l, answered, line)?;
-        line.push_str(answer_end(head.form))?;
-        send(line.as_bytes(), out)
+        line.push_str(answer_end(head.form))
     }
 
-    /// Writes the next answer, as the l-th listener's to this packet.
-    fn write_arrived<O: Write>(
+    /// Puts the line of the next answer, as the l-th listener's to this packet.
+    fn put_arrived(
         &self,
         head: StepHead,
         l: usize,
         placed: &PlacedPacket,
         buffer: &mut LineBuffer,
-        out: &mut O,
-    ) -> io::Result<()>
-        ensures { Takes (O.contents out.old) (O.contents out.new) result (arrived_line head.form head.n placed.now l self.now) }
+    ) -> Result<(), AllocError>
+        ensures { OnOk result (string_bytes buffer.new.line ≡ arrived_line head.form head.n placed.now l self.now) }
     {
         let Some((answered, _)) = self.answers.split_first() else {
+            buffer.line.clear();
             return Ok(());
         };
         self.put_reason(head, l, answered, &mut buffer.line)?;
         put_rejection(head.form, buffer, placed, self.expr, answered.answer)?;
-        buffer.line.push_str(answer_end(head.form))?;
-        send(buffer.line.as_bytes(), out)
+        buffer.line.push_str(answer_end(head.form))
     }
 
     /// Goes past the next answer, which is that to the n-th step.
@@ -240,8 +233,8 @@ impl<'a> AnswerCursor<'a> {
     }
 }
 
-/// All answers of a trace of these listeners, to be printed by [`write_answers`].
-pub fn answer_cursors<'a>(
+/// All answers of a trace of these listeners.
+fn answer_cursors<'a>(
     alloc: Global,
     specs: &[Spec],
     expressions: &'a [Option<Expr>],
@@ -276,7 +269,7 @@ fn room_for(alloc: Global, all: &[AnswerCursor<'_>]) -> Result<String, AllocErro
 }
 
 /// A line with room for each answer of these listeners, and for what decides on a packet.
-pub fn line_for(alloc: Global, all: &[AnswerCursor<'_>]) -> Result<LineBuffer, AllocError> {
+fn line_for(alloc: Global, all: &[AnswerCursor<'_>]) -> Result<LineBuffer, AllocError> {
     Ok(LineBuffer {
         line: room_for(alloc, all)?,
         text: room_for(alloc, all)?,
@@ -294,7 +287,8 @@ fn write_all<O: Write>(
     ensures { Takes (O.contents out.old) (O.contents out.new) result (numbered (arrived_line head.form head.n placed.now) 0 all.now) }
 {
     for (l, one) in all.iter().enumerate() {
-        one.write_arrived(head, l, placed, buffer, out)?;
+        one.put_arrived(head, l, placed, buffer)?;
+        send(buffer.line.as_bytes(), out)?;
     }
     Ok(())
 }
@@ -318,10 +312,11 @@ fn write_one<O: Write>(
 ) -> io::Result<()>
     ensures { Takes (O.contents out.old) (O.contents out.new) result (line_at head.form head.n l all.now) }
 {
-    match all.get(l) {
-        Some(one) => one.write_next(head, l, line, out),
-        None => Ok(()),
-    }
+    let Some(one) = all.get(l) else {
+        return Ok(());
+    };
+    one.put_next(head, l, line)?;
+    send(line.as_bytes(), out)
 }
 
 /// Goes past the next answer of the l-th listener, which is that to the n-th step.
@@ -342,14 +337,12 @@ impl Display for Arriving<'_> {
     ghost output = { λ arriving. Some (placed_text arriving.0.now) };
 
     fn fmt<W: fmt::Write>(&self, f: &mut Formatter<W>) -> fmt::Result {
-        let PlacedPacket {
-            capture,
-            place,
-            packet,
-        } = self.0;
+        let packet = &self.0.packet;
         write!(
             f,
-            "capture {capture} place {place} time {}.{} len {}",
+            "capture {} place {} time {}.{} len {}",
+            self.0.capture,
+            self.0.place,
             packet.sec,
             NineDigits(packet.nanos),
             packet.len
@@ -365,15 +358,11 @@ impl Display for ArrivingMembers<'_> {
     ghost output = { λ arriving. Some (placed_members arriving.0.now) };
 
     fn fmt<W: fmt::Write>(&self, f: &mut Formatter<W>) -> fmt::Result {
-        let PlacedPacket {
-            capture,
-            place,
-            packet,
-        } = self.0;
+        let packet = &self.0.packet;
         write!(
             f,
-            "\"capture\":{capture},\"place\":{place},\"seconds\":{},\"nanoseconds\":{},\"length\":{}",
-            packet.sec, packet.nanos, packet.len
+            "\"capture\":{},\"place\":{},\"seconds\":{},\"nanoseconds\":{},\"length\":{}",
+            self.0.capture, self.0.place, packet.sec, packet.nanos, packet.len
         )
     }
 }
@@ -445,119 +434,103 @@ fn put_own(head: StepHead, word: &str, l: usize, line: &mut String) -> Result<()
     }
 }
 
-/// Writes a step, which names the l-th listener, and the answer to it.
-fn write_named<O: Write>(
-    head: StepHead,
-    word: &str,
-    l: usize,
-    all: &[AnswerCursor<'_>],
-    line: &mut String,
-    out: &mut O,
-) -> io::Result<()>
-    ensures { Takes (O.contents out.old) (O.contents out.new) result (own_line head.form head.n word.now l ++ line_at head.form head.n l all.now) }
-{
-    put_own(head, word, l, line)?;
-    send(line.as_bytes(), out)?;
-    write_one(head, all, l, line, out)
+/// What is left of a trace to be printed: each listener's answers, and the packets that arrive.
+#[derive(Drop)]
+pub struct AnswerPrinter<'a> {
+    cursors: Vec<AnswerCursor<'a>>,
+    packets: &'a [PlacedPacket],
+    buffer: LineBuffer,
 }
 
-/// Writes what [`write_named`] writes, and goes past the answer.
-fn write_own<O: Write>(
-    head: StepHead,
-    word: &str,
-    l: usize,
-    all: &mut Vec<AnswerCursor<'_>>,
-    line: &mut String,
-    out: &mut O,
-) -> io::Result<()>
-    ensures text { Takes (O.contents out.old) (O.contents out.new) result (own_line head.form head.n word.now l ++ line_at head.form head.n l all.old.items) }
-    ensures left { OnOk result (all.new.items ≡ one_advanced head.n l all.old.items) }
-{
-    write_named(head, word, l, all.as_slice(), line, out)?;
-    advance_one(all, head.n, l);
-    Ok(())
-}
-
-/// Writes a step, an arrival, and all answers to it, and goes past these. If no packet is left,
-/// there are none.
-fn write_arrive<O: Write>(
-    head: StepHead,
-    packets: &[PlacedPacket],
-    all: &mut Vec<AnswerCursor<'_>>,
-    buffer: &mut LineBuffer,
-    out: &mut O,
-) -> io::Result<()>
-    ensures text { Takes (O.contents out.old) (O.contents out.new) result (step_text head.form head.n Arrive packets.now all.old.items) }
-    ensures left { OnOk result (all.new.items ≡ cursors_after head.n Arrive packets.now all.old.items) }
-{
-    let Some((placed, _)) = packets.split_first() else {
-        return write_no_packet(head, &mut buffer.line, out);
-    };
-    write_arrival(head, placed, all.as_slice(), buffer, out)?;
-    advance_all(all, head.n);
-    Ok(())
-}
-
-/// Writes a step and the answers to it, and goes past these.
-fn write_step<O: Write>(
-    head: StepHead,
-    step: Step,
-    packets: &[PlacedPacket],
-    all: &mut Vec<AnswerCursor<'_>>,
-    buffer: &mut LineBuffer,
-    out: &mut O,
-) -> io::Result<()>
-    ensures text { Takes (O.contents out.old) (O.contents out.new) result (step_text head.form head.n step packets.now all.old.items) }
-    ensures left { OnOk result (all.new.items ≡ cursors_after head.n step packets.now all.old.items) }
-{
-    match step {
-        Step::Arrive => write_arrive(head, packets, all, buffer, out),
-        Step::Flush(l) => write_own(head, "flush", l as usize, all, &mut buffer.line, out),
-        Step::Read(l) => write_own(head, "read", l as usize, all, &mut buffer.line, out),
-        Step::Close(l) => write_own(head, "close", l as usize, all, &mut buffer.line, out),
+impl<'a> AnswerPrinter<'a> {
+    /// All answers of a trace of these listeners. It takes the room for their lines, which should
+    /// be enough for all of them: that printing takes no more memory is not proved.
+    pub fn new(
+        alloc: Global,
+        specs: &[Spec],
+        trace: &'a Trace,
+    ) -> Result<AnswerPrinter<'a>, AllocError>
+        ensures cursors { IfOk result (λ p. p.cursors.items ≡ cursors_of specs.now trace.now.expressions.items (map (λ a. a.items) trace.now.answers.items)) }
+        ensures packets { IfOk result (λ p. p.packets.now ≡ trace.now.playlist.items) }
+    {
+        let expressions = trace.expressions.as_slice();
+        let cursors = answer_cursors(alloc, specs, expressions, trace.answers.as_slice())?;
+        let buffer = line_for(alloc, cursors.as_slice())?;
+        Ok(AnswerPrinter {
+            cursors,
+            packets: trace.playlist.as_slice(),
+            buffer,
+        })
     }
-}
 
-/// The packets that are left after a step.
-fn packets_after(step: Step, packets: &[PlacedPacket]) -> &[PlacedPacket]
-    ensures { result.now ≡ packets_after step packets.now }
-{
-    match step {
-        Step::Arrive => match packets.split_first() {
-            Some((_, later)) => later,
-            None => packets,
-        },
-        Step::Flush(_) => packets,
-        Step::Read(_) => packets,
-        Step::Close(_) => packets,
+    /// Writes a step, which names the l-th listener, and the answer to it, and goes past this.
+    fn write_own<O: Write>(
+        &mut self,
+        head: StepHead,
+        word: &str,
+        l: usize,
+        out: &mut O,
+    ) -> io::Result<()>
+        ensures text { Takes (O.contents out.old) (O.contents out.new) result (own_line head.form head.n word.now l ++ line_at head.form head.n l self.old.cursors.items) }
+        ensures cursors { OnOk result (self.new.cursors.items ≡ one_advanced head.n l self.old.cursors.items) }
+        ensures packets { self.new.packets ≡ self.old.packets }
+    {
+        put_own(head, word, l, &mut self.buffer.line)?;
+        send(self.buffer.line.as_bytes(), out)?;
+        write_one(head, self.cursors.as_slice(), l, &mut self.buffer.line, out)?;
+        advance_one(&mut self.cursors, head.n, l);
+        Ok(())
     }
-}
 
-/// Writes a line for each step, and below it a line for each listener that it reaches: what it
-/// answered, and why. Steps are counted from 1, as the lines of SCRIPT. `all` are the answers of
-/// [`answer_cursors`], for a trace of these steps and this playlist. `buffer` is that of
-/// [`line_for`], which should have room for all of them: that it takes no more memory is not
-/// proved.
-///
-/// In JSON each line is an object that has its step's number; that for an answer to an arrival also
-/// has the packet's capture and place, and what decided if an expression rejects it.
-///
-/// If it fails, `out` took a prefix of the text and no more.
-pub fn write_answers<O: Write>(
-    form: LineForm,
-    steps: &[Step],
-    playlist: &[PlacedPacket],
-    all: &mut Vec<AnswerCursor<'_>>,
-    buffer: &mut LineBuffer,
-    out: &mut O,
-) -> io::Result<()>
-    ensures { Takes (O.contents out.old) (O.contents out.new) result (answers_from form 1 steps.now playlist.now all.old.items) }
-{
-    let mut packets = playlist;
-    for (i, step) in steps.iter().enumerate() {
-        let head = StepHead { form, n: i + 1 };
-        write_step(head, *step, packets, all, buffer, out)?;
-        packets = packets_after(*step, packets);
+    /// Writes a step, an arrival, and all answers to it, and goes past these. If no packet is left,
+    /// there are none.
+    fn write_arrive<O: Write>(&mut self, head: StepHead, out: &mut O) -> io::Result<()>
+        ensures text { Takes (O.contents out.old) (O.contents out.new) result (step_text head.form head.n Arrive self.old.packets.now self.old.cursors.items) }
+        ensures cursors { OnOk result (self.new.cursors.items ≡ cursors_after head.n Arrive self.old.packets.now self.old.cursors.items) }
+        ensures packets { OnOk result (self.new.packets.now ≡ packets_after Arrive self.old.packets.now) }
+    {
+        let Some((placed, later)) = self.packets.split_first() else {
+            return write_no_packet(head, &mut self.buffer.line, out);
+        };
+        write_arrival(head, placed, self.cursors.as_slice(), &mut self.buffer, out)?;
+        advance_all(&mut self.cursors, head.n);
+        self.packets = later;
+        Ok(())
     }
-    Ok(())
+
+    /// Writes a step and the answers to it, and goes past these.
+    fn write_step<O: Write>(&mut self, head: StepHead, step: Step, out: &mut O) -> io::Result<()>
+        ensures text { Takes (O.contents out.old) (O.contents out.new) result (step_text head.form head.n step self.old.packets.now self.old.cursors.items) }
+        ensures cursors { OnOk result (self.new.cursors.items ≡ cursors_after head.n step self.old.packets.now self.old.cursors.items) }
+        ensures packets { OnOk result (self.new.packets.now ≡ packets_after step self.old.packets.now) }
+    {
+        match step {
+            Step::Arrive => self.write_arrive(head, out),
+            Step::Flush(l) => self.write_own(head, "flush", l as usize, out),
+            Step::Read(l) => self.write_own(head, "read", l as usize, out),
+            Step::Close(l) => self.write_own(head, "close", l as usize, out),
+        }
+    }
+
+    /// Writes a line for each step, and below it a line for each listener that it reaches: what it
+    /// answered, and why. The steps are those of the trace, counted from 1, as the lines of SCRIPT.
+    ///
+    /// In JSON each line is an object that has its step's number; that for an answer to an arrival
+    /// also has the packet's capture and place, and what decided if an expression rejects it.
+    ///
+    /// If it fails, `out` took a prefix of the text and no more.
+    pub fn write_answers<O: Write>(
+        &mut self,
+        form: LineForm,
+        steps: &[Step],
+        out: &mut O,
+    ) -> io::Result<()>
+        ensures { Takes (O.contents out.old) (O.contents out.new) result (answers_from form 1 steps.now self.old.packets.now self.old.cursors.items) }
+    {
+        for (i, step) in steps.iter().enumerate() {
+            let head = StepHead { form, n: i + 1 };
+            self.write_step(head, *step, out)?;
+        }
+        Ok(())
+    }
 }

@@ -3,7 +3,7 @@
 //!
 //! [`read_plan`](plan::read_plan) reads the two files.
 //! [`print_reports_in`](report::print_reports_in) prints what each listener got, and
-//! [`write_answers`](answers::write_answers) a line for each step, with what each listener answered
+//! [`AnswerPrinter`](answers::AnswerPrinter) a line for each step, with what each listener answered
 //! and why.
 #![tactic(auto)]
 

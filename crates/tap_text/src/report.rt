@@ -15,6 +15,13 @@ use std::io;
 use std::io::Write;
 use tap::Report;
 
+/// The form of the lines of a report, and its listener's number, from 0.
+#[derive(Clone, Copy)]
+struct ReportHead {
+    form: LineForm,
+    l: usize,
+}
+
 /// Puts the text of a message in place of what the line has.
 #[tactic(auto, unfolding(crate::specs::Printed::message_line))]
 fn put_message_text(line: &mut Line, message: &Message) -> io::Result<()>
@@ -35,33 +42,31 @@ fn put_message_text(line: &mut Line, message: &Message) -> io::Result<()>
 
 /// Puts the line of a message in place of what the line has.
 fn put_message(
-    form: LineForm,
-    l: usize,
+    head: ReportHead,
     part: ReportPart,
     message: &Message,
     line: &mut Line,
 ) -> io::Result<()>
-    ensures { OnOk result (line.new ≡ message_in form l part message.now) }
+    ensures { OnOk result (line.new ≡ message_in head.form head.l part message.now) }
 {
-    match form {
+    match head.form {
         LineForm::Text => put_message_text(line, message),
-        LineForm::Json => put_message_object(line, l, part, message),
+        LineForm::Json => put_message_object(line, head.l, part, message),
     }
 }
 
 /// Writes messages, each on a line of its own.
 fn write_messages<O: Write>(
-    form: LineForm,
-    l: usize,
+    head: ReportHead,
     part: ReportPart,
     messages: &[Message],
     line: &mut Line,
     out: &mut O,
 ) -> io::Result<()>
-    ensures { Takes (O.contents out.old) (O.contents out.new) result (messages_in form l part messages.now) }
+    ensures { Takes (O.contents out.old) (O.contents out.new) result (messages_in head.form head.l part messages.now) }
 {
     for message in messages {
-        put_message(form, l, part, message, line)?;
+        put_message(head, part, message, line)?;
         send(line.as_bytes(), out)?;
     }
     Ok(())
@@ -79,43 +84,41 @@ fn put_part_text(line: &mut Line, part: ReportPart) -> io::Result<()>
 }
 
 /// Puts the line of a part in place of what the line has.
-fn put_part(form: LineForm, l: usize, part: ReportPart, line: &mut Line) -> io::Result<()>
-    ensures { OnOk result (line.new ≡ part_in form l part) }
+fn put_part(head: ReportHead, part: ReportPart, line: &mut Line) -> io::Result<()>
+    ensures { OnOk result (line.new ≡ part_in head.form head.l part) }
 {
-    match form {
+    match head.form {
         LineForm::Text => put_part_text(line, part),
-        LineForm::Json => put_part_object(line, l, part),
+        LineForm::Json => put_part_object(line, head.l, part),
     }
 }
 
 /// Writes a part: its line, and its messages.
 fn write_part<O: Write>(
-    form: LineForm,
-    l: usize,
+    head: ReportHead,
     part: ReportPart,
     messages: &[Message],
     line: &mut Line,
     out: &mut O,
 ) -> io::Result<()>
-    ensures { Takes (O.contents out.old) (O.contents out.new) result (part_lines form l part messages.now) }
+    ensures { Takes (O.contents out.old) (O.contents out.new) result (part_lines head.form head.l part messages.now) }
 {
-    put_part(form, l, part, line)?;
+    put_part(head, part, line)?;
     send(line.as_bytes(), out)?;
-    write_messages(form, l, part, messages, line, out)
+    write_messages(head, part, messages, line, out)
 }
 
 /// Writes the batches of the l-th listener, numbered from 0.
 fn write_batches<O: Write>(
-    form: LineForm,
-    l: usize,
+    head: ReportHead,
     batches: &[Vec<Message>],
     line: &mut Line,
     out: &mut O,
 ) -> io::Result<()>
-    ensures { Takes (O.contents out.old) (O.contents out.new) result (numbered (λ b batch. part_lines form l (Batch b) batch.items) 0 batches.now) }
+    ensures { Takes (O.contents out.old) (O.contents out.new) result (numbered (λ b batch. part_lines head.form head.l (Batch b) batch.items) 0 batches.now) }
 {
     for (b, batch) in batches.iter().enumerate() {
-        write_part(form, l, ReportPart::Batch(b), batch.as_slice(), line, out)?;
+        write_part(head, ReportPart::Batch(b), batch.as_slice(), line, out)?;
     }
     Ok(())
 }
@@ -133,42 +136,40 @@ fn put_listener_text(line: &mut Line, l: usize, report: &Report) -> io::Result<(
 }
 
 /// Puts the line of a listener's counts in place of what the line has.
-fn put_listener(form: LineForm, l: usize, report: &Report, line: &mut Line) -> io::Result<()>
-    ensures { OnOk result (line.new ≡ listener_in form l report.now) }
+fn put_listener(head: ReportHead, report: &Report, line: &mut Line) -> io::Result<()>
+    ensures { OnOk result (line.new ≡ listener_in head.form head.l report.now) }
 {
-    match form {
-        LineForm::Text => put_listener_text(line, l, report),
-        LineForm::Json => put_listener_object(line, l, report),
+    match head.form {
+        LineForm::Text => put_listener_text(line, head.l, report),
+        LineForm::Json => put_listener_object(line, head.l, report),
     }
 }
 
 /// Writes the l-th listener's counts and its batches.
 fn write_read<O: Write>(
-    form: LineForm,
-    l: usize,
+    head: ReportHead,
     report: &Report,
     line: &mut Line,
     out: &mut O,
 ) -> io::Result<()>
-    ensures { Takes (O.contents out.old) (O.contents out.new) result (listener_in form l report.now ++ batches_in form l report.now) }
+    ensures { Takes (O.contents out.old) (O.contents out.new) result (listener_in head.form head.l report.now ++ batches_in head.form head.l report.now) }
 {
-    put_listener(form, l, report, line)?;
+    put_listener(head, report, line)?;
     send(line.as_bytes(), out)?;
-    write_batches(form, l, report.batches.as_slice(), line, out)
+    write_batches(head, report.batches.as_slice(), line, out)
 }
 
 /// Writes the l-th listener's counts, its batches, and what it holds.
 fn write_report<O: Write>(
-    form: LineForm,
-    l: usize,
+    head: ReportHead,
     report: &Report,
     line: &mut Line,
     out: &mut O,
 ) -> io::Result<()>
-    ensures { Takes (O.contents out.old) (O.contents out.new) result (report_lines form l report.now) }
+    ensures { Takes (O.contents out.old) (O.contents out.new) result (report_lines head.form head.l report.now) }
 {
-    write_read(form, l, report, line, out)?;
-    write_part(form, l, ReportPart::Held, report.held.as_slice(), line, out)
+    write_read(head, report, line, out)?;
+    write_part(head, ReportPart::Held, report.held.as_slice(), line, out)
 }
 
 /// Writes the reports of all listeners, in order, numbered from 0: a listener's counts, its
@@ -182,7 +183,7 @@ pub fn write_reports<O: Write>(form: LineForm, reports: &[Report], out: &mut O) 
 {
     let mut line = Line::new();
     for (l, report) in reports.iter().enumerate() {
-        write_report(form, l, report, &mut line, out)?;
+        write_report(ReportHead { form, l }, report, &mut line, out)?;
     }
     Ok(())
 }
