@@ -193,27 +193,35 @@ fn write_asked<O: Write>(
     )
 }
 
-/// Writes the lane of the l-th listener.
-fn write_lane<O: Write>(
+/// The l-th listener of a replay, and what it answered.
+#[derive(Clone, Copy)]
+struct DrawnListener<'a> {
     l: u32,
-    spec: &Spec,
-    steps: &[Step],
-    trace: &Trace,
-    answers: &[Answered],
-    out: &mut O,
-) -> io::Result<()> {
-    let y = u64::from(l).saturating_mul(LANE).saturating_add(HEAD);
-    let pixels = step_width(steps.len());
-    let width = (steps.len() as u64).saturating_mul(pixels);
-    let columns = || Columns::new(l, trace, answers);
-    writeln!(out, "<g transform=\"translate(0,{y})\">")?;
-    let scale = Scale::new(spec.capacity, highest(columns(), steps));
-    write_asked(l, spec, scale.drawn, characters(width), out)?;
-    write_bars(columns(), steps, &scale, width, out)?;
-    if are_named(steps.len()) {
-        write_names(columns(), steps, pixels, out)?;
+    spec: &'a Spec,
+    trace: &'a Trace,
+    answers: &'a [Answered],
+}
+
+impl<'a> DrawnListener<'a> {
+    /// Its columns, before the first step.
+    fn columns(&self) -> Columns<'a> {
+        Columns::new(self.l, self.trace, self.answers)
     }
-    writeln!(out, "</g>")
+
+    /// Writes its lane.
+    fn write_lane<O: Write>(&self, steps: &[Step], out: &mut O) -> io::Result<()> {
+        let y = u64::from(self.l).saturating_mul(LANE).saturating_add(HEAD);
+        let pixels = step_width(steps.len());
+        let width = (steps.len() as u64).saturating_mul(pixels);
+        writeln!(out, "<g transform=\"translate(0,{y})\">")?;
+        let scale = Scale::new(self.spec.capacity, highest(self.columns(), steps));
+        write_asked(self.l, self.spec, scale.drawn, characters(width), out)?;
+        write_bars(self.columns(), steps, &scale, width, out)?;
+        if are_named(steps.len()) {
+            write_names(self.columns(), steps, pixels, out)?;
+        }
+        writeln!(out, "</g>")
+    }
 }
 
 /// Writes a picture of a replay as SVG: for each listener a lane over the steps, with what each
@@ -235,7 +243,13 @@ pub fn write_picture<O: Write>(
     write_head(width, steps.len(), specs.len(), out)?;
     let mut l: u32 = 0;
     for (spec, answers) in specs.iter().zip(&trace.answers) {
-        write_lane(l, spec, steps, trace, answers.as_slice(), out)?;
+        let listener = DrawnListener {
+            l,
+            spec,
+            trace,
+            answers: answers.as_slice(),
+        };
+        listener.write_lane(steps, out)?;
         l = l.wrapping_add(1);
     }
     writeln!(out, "</svg>")
