@@ -12,7 +12,7 @@ use line_text::LineForm;
 use std::alloc::{AllocError, Global};
 use tap::{replay, trace};
 use tap_picture::write_picture;
-use tap_text::answers::{answer_cursors, line_for, write_answers};
+use tap_text::answers::AnswerPrinter;
 use tap_text::plan::read_plan;
 use tap_text::report::print_reports_in;
 
@@ -72,12 +72,9 @@ pub(crate) fn answers_text(
     let plan = read_plan(alloc, listeners, script)?;
     let (specs, steps) = (plan.specs.as_slice(), plan.steps.as_slice());
     let trace = trace(alloc, captures.as_slice(), specs, steps)?;
-    let expressions = trace.expressions.as_slice();
-    let mut cursors = answer_cursors(alloc, specs, expressions, trace.answers.as_slice())?;
-    let mut line = line_for(alloc, cursors.as_slice())?;
-    let playlist = trace.playlist.as_slice();
+    let mut printer = AnswerPrinter::new(alloc, specs, &trace)?;
     let mut text = Vec::new(alloc);
-    match write_answers(form, steps, playlist, &mut cursors, &mut line, &mut text) {
+    match printer.write_answers(form, steps, &mut text) {
         Ok(()) => Ok(Played {
             text,
             record_fault: trace.record_fault,

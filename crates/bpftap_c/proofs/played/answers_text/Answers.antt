@@ -9,8 +9,8 @@ returns-in-Ok-clause-ok c =
     let tells = rw (c.as_slice.ensures.value, c.in_ok-captures.ensures, c.as_slice-specs.ensures.value, c.as_slice-steps.ensures.value) at told.tells in
     let answers = rw (c.as_slice.ensures.value, c.in_ok-captures.ensures, c.as_slice-specs.ensures.value, c.as_slice-steps.ensures.value) at told.answers in
     let expressions = rw c.as_slice-specs.ensures.value at told.expressions in
-    let cursors = rw (c.as_slice-specs.ensures.value, c.as_slice-expressions.ensures.value, c.as_slice-2.ensures.value) at c.in_ok-cursors.ensures in
-    let taken = rw (cursors, c.new-text.ensures.items, c.as_slice-playlist.ensures.value, c.as_slice-steps.ensures.value) at c.in-Ok.ensures in
+    let cursors = rw c.as_slice-specs.ensures.value at c.in_ok-printer.ensures.cursors in
+    let taken = rw (cursors, c.in_ok-printer.ensures.packets, c.new-text.ensures.items, c.as_slice-steps.ensures.value) at c.in-Ok.ensures in
     is_answered _ _ _ _ _ _ _ _ _ _ _ _ c.in_ok-plan.ensures.listeners c.in_ok-plan.ensures.script tells stands answers expressions taken
 
 pub returns-in_err-plan-clause-err : goal.returns-in_err-plan-clause-err
