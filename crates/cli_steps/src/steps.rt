@@ -19,9 +19,8 @@ use line_text::LineForm;
 use std::alloc::{AllocError, Global};
 use std::io;
 use std::io::Write;
-use tap::{Fault, Step, Trace, replay, trace};
-use tap_text::answers::{AnswerCursor, answer_cursors, line_for, write_answers};
-use tap_text::buffer::LineBuffer;
+use tap::{Fault, Report, Step, Trace, replay, trace};
+use tap_text::answers::AnswerPrinter;
 use tap_text::plan::{StepsPlan, read_plan};
 use tap_text::report::print_reports_in;
 
@@ -55,17 +54,16 @@ pub struct Replayed {
 /// Prints the answers, and then the reports.
 fn print_both<O: Write>(
     form: LineForm,
+    printer: &mut AnswerPrinter<'_>,
     steps: &[Step],
-    trace: &Trace,
-    cursors: &mut Vec<AnswerCursor<'_>>,
-    buffer: &mut LineBuffer,
+    reports: &[Report],
     out: &mut O,
 ) -> io::Result<()>
     ensures { Takes (O.contents out.old) (O.contents out.new) result
-        (answers_from form 1 steps.now trace.now.playlist.items cursors.old.items ++ reports_in form trace.now.reports.items) }
+        (answers_from form 1 steps.now printer.old.packets.now printer.old.cursors.items ++ reports_in form reports.now) }
 {
-    write_answers(form, steps, trace.playlist.as_slice(), cursors, buffer, out)?;
-    print_reports_in(form, trace.reports.as_slice(), out)
+    printer.write_answers(form, steps, out)?;
+    print_reports_in(form, reports, out)
 }
 
 /// Prints the answers of a trace, and then its reports. If memory is refused, nothing is printed.
@@ -80,15 +78,9 @@ fn print_explained<O: Write>(
         (trace_text form true plan.now.specs.items plan.now.steps.items trace.now ++ reports_in form trace.now.reports.items)) }
     ensures nothing { OnErr result (Keeps (O.contents out.old) (O.contents out.new)) }
 {
-    let mut cursors = answer_cursors(
-        alloc,
-        plan.specs.as_slice(),
-        trace.expressions.as_slice(),
-        trace.answers.as_slice(),
-    )?;
-    let mut buffer = line_for(alloc, cursors.as_slice())?;
-    let steps = plan.steps.as_slice();
-    Ok(print_both(form, steps, trace, &mut cursors, &mut buffer, out))
+    let mut printer = AnswerPrinter::new(alloc, plan.specs.as_slice(), trace)?;
+    let (steps, reports) = (plan.steps.as_slice(), trace.reports.as_slice());
+    Ok(print_both(form, &mut printer, steps, reports, out))
 }
 
 /// Prints a trace: its answers, if they are wanted, and then its reports. If memory is refused, nothing is printed.
@@ -204,7 +196,7 @@ impl StepsReplay<'_, '_, '_> {
     ///
     /// It prints, reports and returns what [`steps`] says, and also returns the result of the replay, or the fault that was
     /// reported. With [`Detail::Answers`] memory may also be refused after the replay; then only that is reported, and nothing is
-    /// printed, unless it is refused for a line ([`line_for`]).
+    /// printed, unless it is refused for a line ([`AnswerPrinter::new`]).
     pub fn play<O: Write, E: Write>(
         self,
         alloc: Global,
@@ -240,27 +232,33 @@ impl StepsReplay<'_, '_, '_> {
     }
 }
 
+/// The texts of the files that [`steps`] plays.
+#[derive(Clone, Copy)]
+pub struct StepsTexts<'c, 't> {
+    pub listeners: &'t [u8],
+    pub script: &'t [u8],
+    pub captures: &'c [&'t [u8]],
+}
+
 /// [`steps`], with whether standard error took what was reported.
 pub fn steps_told<O: Write, E: Write>(
     alloc: Global,
-    listeners: &[u8],
-    script: &[u8],
-    captures: &[&[u8]],
+    texts: StepsTexts<'_, '_>,
     out: &mut O,
     err: &mut E,
 ) -> Outcome
-    ensures { Steps Text listeners.now script.now (map (λ c. c.now) captures.now)
+    ensures { Steps Text texts.entry.listeners.now texts.entry.script.now (map (λ c. c.now) texts.entry.captures.now)
         (streams (O.contents out.old) (E.contents err.old)) (streams (O.contents out.new) (E.contents err.new)) result }
 {
     let printing = Printing {
         form: LineForm::Text,
         detail: Detail::Reports,
     };
-    match read_plan(alloc, listeners, script) {
+    match read_plan(alloc, texts.listeners, texts.script) {
         Ok(plan) => {
             let replay = StepsReplay {
                 plan: &plan,
-                captures,
+                captures: texts.captures,
             };
             replay.play(alloc, printing, out, err).0
         }
@@ -283,16 +281,12 @@ pub fn steps_told<O: Write, E: Write>(
 /// [`tap::replay`], whole for 0 and 2.
 pub fn steps<O: Write, E: Write>(
     alloc: Global,
-    listeners: &[u8],
-    script: &[u8],
-    captures: &[&[u8]],
+    texts: StepsTexts<'_, '_>,
     out: &mut O,
     err: &mut E,
 ) -> u8
-    ensures { StepsTo Text listeners.now script.now (map (λ c. c.now) captures.now)
+    ensures { StepsTo Text texts.entry.listeners.now texts.entry.script.now (map (λ c. c.now) texts.entry.captures.now)
         (streams (O.contents out.old) (E.contents err.old)) (streams (O.contents out.new) (E.contents err.new)) result }
 {
-    steps_told(alloc, listeners, script, captures, out, err)
-        .status
-        .code()
+    steps_told(alloc, texts, out, err).status.code()
 }

@@ -7,10 +7,10 @@ use Rattle.cli_steps.proofs.steps.print_both.Goals as goal
 pub returns-in_err-write_answers : goal.returns-in_err-write_answers
 returns-in_err-write_answers g c =
     let p = err_from_is_err_and c.from_residual.result c.from_residual.ensures.1 in
-    rw p.1 (TakesPart-more _ _ (answers_from c.args.form 1 c.args.steps.now c.args.trace.now.playlist.items c.args.cursors.now.items) (reports_in c.args.form c.args.trace.now.reports.items)
-    (rw c.as_slice.ensures.value at c.in_err-write_answers.ensures))
+    rw p.1 (TakesPart-more _ _ (answers_from c.args.form 1 c.args.steps.now c.args.printer.now.packets.now c.args.printer.now.cursors.items) (reports_in c.args.form c.args.reports.now)
+    c.in_err-write_answers.ensures)
 
 pub returns : goal.returns
 returns g c =
-    Takes-then _ _ _ (answers_from c.args.form 1 c.args.steps.now c.args.trace.now.playlist.items c.args.cursors.now.items) (reports_in c.args.form c.args.trace.now.reports.items) _
-    (rw c.as_slice.ensures.value at c.in_ok-write_answers.ensures) (rw c.as_slice-2.ensures.value at c.print_reports_in.ensures)
+    Takes-then _ _ _ (answers_from c.args.form 1 c.args.steps.now c.args.printer.now.packets.now c.args.printer.now.cursors.items) (reports_in c.args.form c.args.reports.now) _
+    c.in_ok-write_answers.ensures c.print_reports_in.ensures
