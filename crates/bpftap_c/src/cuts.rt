@@ -9,7 +9,7 @@ use crate::insns::{BpftapInsn, program_of};
 use crate::memory::put_bytes;
 use crate::outcome::{BpftapResult, Failure, failed};
 use pcap_cut::cut::{End, cut};
-use savefile::{Counted, Fault, header_of};
+use savefile::{Counted, Fault, Header, header_of};
 use std::alloc::Global;
 
 /// Whether all that a capture holds was written: it was read to its end, or to a torn or bad
@@ -66,15 +66,7 @@ pub extern "C" fn bpftap_cut(
         Err(fault) => return failed(Failure::Capture(fault)),
     };
     let sink = Counted::new(Vec::new(alloc));
-    let cut_end = cut(
-        alloc,
-        capture,
-        &program,
-        snap,
-        header.order,
-        header.unit,
-        sink,
-    );
+    let cut_end = cut(alloc, capture, &program, Header { snap, ..header }, sink);
     if !is_whole(cut_end.end) {
         return failed(Failure::NoMemory);
     }

@@ -12,8 +12,8 @@ use cli_args::cut::CutWords;
 use cli_files::paths::Opening;
 use cli_store::FileStore;
 use pcap_cut::cut::{CutEnd, End, cut};
-use savefile::Fault;
 use savefile::laws::packets_take_room;
+use savefile::{Fault, Header};
 use std::alloc::Global;
 
 /// Refuses an OUT that is IN or the listing's file, or that a standard stream comes from or goes
@@ -59,21 +59,18 @@ fn cut_opened<'p, F: FileStore<'p>>(
             return Err(Refusal::File(words.output, error));
         }
     };
+    let header = Header {
+        order: words.order,
+        unit: words.unit,
+        snap: words.snap,
+    };
     let CutEnd {
         source,
         sink,
         sent: _,
         tally,
         end,
-    } = cut(
-        alloc,
-        source,
-        program,
-        words.snap,
-        words.order,
-        words.unit,
-        sink,
-    );
+    } = cut(alloc, source, program, header, sink);
     let noted = files.done(source);
     match files.close(sink) {
         Ok(()) => Ok(CutReport {

@@ -25,7 +25,7 @@ use fault_report::reporting::report_output;
 use line_text::LineForm;
 use pcap_cut::cut::{CutEnd, End, cut};
 use pcap_parts::part::PartCut;
-use savefile::{Counted, Fault, Source};
+use savefile::{Counted, Fault, Header, Source};
 use std::alloc::Global;
 use std::fs::Files;
 use std::io;
@@ -70,35 +70,12 @@ fn cut_job<R: Source + Drop, W: Write + Drop>(
         input,
         output,
     } = job;
-    let end = cut(
-        alloc,
-        input,
-        &program,
-        words.snap,
-        words.order,
-        words.unit,
-        output,
-    );
-    flush(end)
-}
-
-/// Prints the line of a part of this range, whose cut ended so, if the part was read to its end or
-/// to a torn or bad record and all was written.
-fn print_end<R, W, O: Write>(
-    alloc: Global,
-    bytes: ByteRange,
-    size: u64,
-    output: &str,
-    end: &CutEnd<R, W>,
-    out: &mut O,
-) -> io::Result<()>
-    ensures line { PrintsPart bytes size output.now end.now (O.contents out.old) (O.contents out.new) result }
-    ensures none { (IsCounted end.now.end → ⊥) → out.new ≡ out.old }
-{
-    match PartCut::of(bytes.first, bytes.end, size, output, end) {
-        Some(part) => print_part(alloc, &part, out),
-        None => Ok(()),
-    }
+    let header = Header {
+        order: words.order,
+        unit: words.unit,
+        snap: words.snap,
+    };
+    flush(cut(alloc, input, &program, header, output))
 }
 
 /// Cuts a part, empties the buffer in front of OUT, and prints the line of the part, if it was read
@@ -115,7 +92,10 @@ pub fn cut_and_print<R: Source + Drop, W: Write + Drop, O: Write>(
 {
     let PartJob { bytes, size, job } = part;
     let end = cut_job(alloc, words, job);
-    let printed = print_end(alloc, bytes, size, words.output, &end, out);
+    let printed = match PartCut::of(bytes.first, bytes.end, size, words.output, &end) {
+        Some(part) => print_part(alloc, &part, out),
+        None => Ok(()),
+    };
     (end, printed)
 }
 
@@ -162,11 +142,13 @@ fn report_part<F: Files, E: HintSink>(
 fn cut_part<'r, R: Files + AllocGlobal + Screen, O: Write, E: HintSink>(
     rt: &'r R,
     words: &CutWords<'_>,
-    path: &str,
     bytes: ByteRange,
     out: &mut O,
     err: &mut E,
 ) -> Result<Status, Status> {
+    let Some(path) = words.inputs.first().copied() else {
+        return Err(Status::Refused);
+    };
     let watch = Watch::new(rt, &[], err.takes_hints());
     let program = read_filter(rt, words, &watch, err)?;
     let read = [words.listing.unwrap_or(path), path];
@@ -194,10 +176,7 @@ pub fn cut_part_command<R: Files + AllocGlobal + Screen, O: Write, E: HintSink>(
     out: &mut O,
     err: &mut E,
 ) -> Status {
-    let Some(path) = words.inputs.first() else {
-        return Status::Refused;
-    };
-    match cut_part(rt, words, *path, bytes, out, err) {
+    match cut_part(rt, words, bytes, out, err) {
         Ok(status) | Err(status) => status,
     }
 }

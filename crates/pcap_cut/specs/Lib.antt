@@ -1,3 +1,4 @@
 pub mod Cut
+pub mod Advancing
 pub mod Outcome
 pub mod Copying

@@ -2,12 +2,14 @@
 
 ghost use Rattle.std.specs.Prelude.{◌≡◌, ◌≢◌, ℕ, List, [], ◌∷◌, ◌++◌, Option, None, true, false, Err, IfErr, ◌↔◌, ◌+◌, ◌-◌, ◌<◌, ◌≤◌, ◌^◌};
 ghost use Rattle.std.specs.Io.KnownBytes.{Consumes};
-ghost use Rattle.savefile.specs.Savefile.{IsRecord, IsWritable};
-ghost use Rattle.savefile.specs.declared.header.Header.{Header};
+ghost use Rattle.savefile.specs.Savefile.{IsWritable};
+ghost use Rattle.savefile.specs.declared.header.Order.{Order};
+ghost use Rattle.savefile.specs.declared.header.Unit.{Unit};
 ghost use Rattle.savefile.specs.declared.packet.Packet.{Packet};
 ghost use Rattle.savefile.specs.declared.writing.Writer.{Writer};
-ghost use Rattle.savefile.specs.Reader.{GoesOn, HasEnded, HasFailed, HasGiven, HasRecord, IsCause, Leaves, WasBegun, WasRead};
+ghost use Rattle.savefile.specs.Reader.{HasGiven};
 ghost use Rattle.savefile.specs.Writer.{HasWritten};
+ghost use Rattle.pcap_cut.specs.Advancing.{Advances, IsAhead};
 ghost use Rattle.pcap_cut.specs.Copying.{Copied, Wrote};
 ghost use Rattle.pcap_cut.specs.Cut.{accepts, accepted};
 ghost use Rattle.savefile.specs.Snapshot.{effective_snaplen};
@@ -15,7 +17,7 @@ ghost use Rattle.pcap_cut.specs.Outcome.{tallied, Cuts};
 
 use bpfvm::Program;
 use savefile::laws::{given_so_far, growing_text};
-use savefile::{Fault, Order, PacketRef, Reader, Sink, Source, Unit, Writer, effective_snaplen};
+use savefile::{Fault, Header, PacketRef, Reader, Sink, Source, Writer, effective_snaplen};
 use std::alloc::Global;
 
 /// How a cut ended.
@@ -60,10 +62,10 @@ pub struct CutEnd<R, W> {
 /// Writes the packets of a capture that a program accepts, each cut, as a capture of its own.
 ///
 /// Of a packet it keeps as many bytes as the least of the snapshot length, the program's answer and
-/// the captured length; its time and its original length stay. The new header has the snapshot
-/// length, and 0 means 262,144. The capture is a savefile of pcap-savefile(5), in any byte order
-/// and unit; it is written in those given. Each packet is written before the next one is read, and
-/// the sink is flushed whenever the source has to be asked for the next one.
+/// the captured length; its time and its original length stay. The new capture has the header that
+/// is given, where the snapshot length 0 means 262,144. The capture that is read is a savefile of
+/// pcap-savefile(5), in any byte order and unit. Each packet is written before the next one is
+/// read, and the sink is flushed whenever the source has to be asked for the next one.
 ///
 /// The end is [`End::Clean`] if the whole capture was read and written. It is [`End::Input`]
 ///
@@ -82,13 +84,11 @@ pub fn cut<R: Source, W: Sink>(
     alloc: Global,
     from: R,
     program: &Program,
-    snap: u32,
-    order: Order,
-    unit: Unit,
+    header: Header,
     to: W,
 ) -> CutEnd<R, W>
     // What the source had, what it gave of that, what the sink took, and how that ended.
-    ensures cuts { Cuts R.left W.taken from to program.now snap order unit result }
+    ensures cuts { Cuts R.left W.taken from to program.now header.snap header.order header.unit result }
 
     // A device's fault is returned if and only if the device failed.
     ensures source_broke { (result.end ≡ End.Input Fault.Device) ↔ (R.failures result.source ≢ R.failures from) }
@@ -111,7 +111,7 @@ pub fn cut<R: Source, W: Sink>(
     };
     // What was sent of the text of some packets begins the text of all.
     growing_text();
-    let ended = write_accepted(&mut reader, program, snap, order, unit, to);
+    let ended = write_accepted(&mut reader, program, header, to);
     CutEnd {
         source: reader.close(),
         sink: ended.sink,
@@ -134,21 +134,19 @@ struct Ended<W> {
 fn write_accepted<R: Source, W: Sink>(
     reader: &mut Reader<R>,
     program: &Program,
-    snap: u32,
-    order: Order,
-    unit: Unit,
+    header: Header,
     to: W,
 ) -> Ended<W>
-    ensures writes { (from : Option (List ℕ)) (header : Header) → HasGiven R.left from header [] reader.old →
+    ensures writes { (from : Option (List ℕ)) (given : Header) → HasGiven R.left from given [] reader.old →
         (writer : Writer W) × (result.sink ≡ writer.sink) × (result.sent ≡ writer.sent)
-        × Copied W.taken from (R.left reader.new.source) header (W.taken to) order unit (effective_snaplen snap) program.now (effective_snaplen snap) result.tally result.end writer }
+        × Copied W.taken from (R.left reader.new.source) given (W.taken to) header.order header.unit (effective_snaplen header.snap) program.now (effective_snaplen header.snap) result.tally result.end writer }
     ensures taken { (bytes : List ℕ) × Consumes (R.left reader.old.source) (R.left reader.new.source) bytes }
     ensures source_broke { (result.end ≡ End.Input Fault.Device) ↔ (R.failures reader.new.source ≢ R.failures reader.old.source) }
     ensures sink_broke { (result.end ≡ End.Output Fault.Device) ↔ (W.failures result.sink ≢ W.failures to) }
     ensures named { W.name result.sink ≡ W.name to }
 {
-    let snap = effective_snaplen(snap);
-    let (mut writer, opened) = Writer::open(to, order, unit, snap);
+    let snap = effective_snaplen(header.snap);
+    let (mut writer, opened) = Writer::open(to, header.order, header.unit, snap);
     if let Err(fault) = opened {
         // No packet, too, begins what the capture holds.
         given_so_far(reader);
@@ -212,34 +210,16 @@ pub fn advance_flushed<R: Source, W: Sink>(
     reader: &mut Reader<R>,
     writer: &mut Writer<W>,
 ) -> Result<bool, Fault>
-    ensures packet { (start : Option (List ℕ)) (header : Header) (packets : List Packet) → HasGiven R.left start header packets reader.old →
-        result ≡ Ok true → HasGiven R.left start header (packets ++ reader.new.lent ∷ []) reader.new }
-    ensures end { (start : Option (List ℕ)) (header : Header) (packets : List Packet) → HasGiven R.left start header packets reader.old →
-        result ≡ Ok false → WasRead start header packets None }
-    ensures cause { (start : Option (List ℕ)) (header : Header) (packets : List Packet) → HasGiven R.left start header packets reader.old →
-        IfErr result (IsCause start (R.left reader.new.source) header packets) }
-    ensures so_far { (start : Option (List ℕ)) (header : Header) (packets : List Packet) → HasGiven R.left start header packets reader.old →
-        WasBegun start header packets }
-    ensures writable { result ≡ Ok true → IsWritable reader.new.lent }
-    ensures device { (result ≡ Err Fault.Device) ↔ (R.failures reader.new.source ≢ R.failures reader.old.source) }
-    ensures failed { (result ≡ Err Fault.Failed) ↔ HasFailed reader.old }
-    ensures count_full { (result ≡ Err Fault.CountFull) ↔ (GoesOn reader.old × (reader.old.given ≡ 2 ^ 64 - 1)) }
-    ensures ended { HasEnded reader.old → (result ≡ Ok false) × (reader.new ≡ reader.old) }
-    ensures leaves { Leaves reader.old reader.new result }
-    ensures header { reader.new.header ≡ reader.old.header }
     // The next bytes of the source are taken, and none while a whole record is ahead.
-    ensures taken { (bytes : List ℕ) × Consumes (R.left reader.old.source) (R.left reader.new.source) bytes }
-    ensures idle { (p : Packet) (after : List ℕ) →
-        IsRecord reader.old.header.order reader.old.header.unit reader.old.ahead p after →
-        reader.new.source ≡ reader.old.source }
+    ensures advances { Advances R.left R.failures reader.old reader.new result }
     // What was written stays, and while a whole record is ahead nothing is handed on.
     ensures written { (start : Option (List ℕ)) (order : Order) (unit : Unit) (head : ℕ) (packets : List Packet) →
         HasWritten W.taken start order unit head packets writer.old → HasWritten W.taken start order unit head packets writer.new }
     ensures sink_works { W.failures writer.new.sink ≡ W.failures writer.old.sink }
     ensures named { W.name writer.new.sink ≡ W.name writer.old.sink }
-    ensures ahead { GoesOn reader.old × (reader.old.given ≢ 2 ^ 64 - 1) × HasRecord reader.old.header reader.old.ahead → writer.new ≡ writer.old }
+    ensures ahead { IsAhead reader.old → writer.new ≡ writer.old }
     // If no whole record is ahead, nothing waits in the sink afterwards.
-    ensures handed_on { (GoesOn reader.old × (reader.old.given ≢ 2 ^ 64 - 1) × HasRecord reader.old.header reader.old.ahead → ⊥) → W.waits writer.new.sink ≡ false }
+    ensures handed_on { (IsAhead reader.old → ⊥) → W.waits writer.new.sink ≡ false }
 {
     given_so_far(reader);
     if reader.advance_ahead() {

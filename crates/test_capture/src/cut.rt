@@ -6,12 +6,19 @@ use bpfvm::Program;
 use cli_cut::report::tell;
 use cli_filter::filter;
 use pcap_cut::cut::{CutEnd, End, Tally, cut};
-use savefile::{Counted, Fault, Order, Unit};
+use savefile::{Counted, Fault, Header, Order, Unit};
 use std::alloc::Global;
 use std::process::Abort;
 use test_fixtures::captures::{ARP_RECORD, HEADER, IP_RECORD};
 use test_fixtures::devices::{BreakingWriter, PiecesReader};
 use test_fixtures::frames::capture;
+
+/// The header of what is written, in which packets are kept whole.
+pub(crate) const WHOLE: Header = Header {
+    order: Order::Little,
+    unit: Unit::Micro,
+    snap: 0,
+};
 
 const ALL: &[u8] = b"1\n6 0 0 262144\n";
 
@@ -85,7 +92,7 @@ fn cut_pieces<'a>(
     });
     let to = Counted::new(Vec::new(alloc));
     let program = program_of(rt, ALL);
-    cut(alloc, from, &program, 0, Order::Little, Unit::Micro, to)
+    cut(alloc, from, &program, WHOLE, to)
 }
 
 /// How many bytes a source gives a call, and in all before it breaks, and how many are written.
@@ -192,7 +199,7 @@ fn cut_into<'a>(
     let taken = Vec::new(alloc);
     let to = Counted::new(BreakingWriter { taken, room });
     let from = Counted::new(text);
-    cut(alloc, from, program, 0, Order::Little, Unit::Micro, to)
+    cut(alloc, from, program, WHOLE, to)
 }
 
 /// Checks that the sink took this many bytes, the first ones of those wanted, and that they were

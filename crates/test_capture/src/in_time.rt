@@ -1,5 +1,6 @@
 //! Each packet goes out before the source is asked for the next one.
 
+use crate::cut::WHOLE;
 use crate::printer::Printer;
 use crate::same::same;
 use bpfvm::Program;
@@ -148,15 +149,7 @@ fn cut_writes_each_packet_before_it_reads_on(rt: HostRuntime) {
     });
     let sink = Counted::new(writer_of(&rt, &calls));
     let program = accept_all(&rt);
-    let end = cut(
-        rt.alloc(),
-        source,
-        &program,
-        0,
-        Order::Little,
-        Unit::Micro,
-        sink,
-    );
+    let end = cut(rt.alloc(), source, &program, WHOLE, sink);
     same(&rt, end.sink.inner.seen.as_slice(), [1, 2, 3, 4].as_slice());
 }
 

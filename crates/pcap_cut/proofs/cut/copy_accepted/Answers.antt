@@ -32,7 +32,7 @@ loop-reader-preserved g c = record {
       let (packets, gives, wrote, counted) = c.loop-reader.invariant.copies from header to order unit head given written in
       let p = c.advance_flushed.new.reader.lent in (
         packets ++ p ∷ [],
-        c.in-Ok-true.ensures.packet from header packets gives (cc),
+        c.in-Ok-true.ensures.advances.packet from header packets gives (cc),
         subst (λ (ps : List Packet). HasWritten g.W.Sink.taken to order unit head ps c.put_accepted.new.writer)
             (ap (λ (q : Packet). accepted program c.args.snap packets ++ accepted program c.args.snap (q ∷ [])) c.packet.ensures ∙ sym (accepted-append program c.args.snap packets (p ∷ [])))
             (c.in-Ok.ensures.writes to order unit head (accepted program c.args.snap packets) (c.advance_flushed.ensures.written to order unit head (accepted program c.args.snap packets) wrote)),
@@ -43,9 +43,9 @@ loop-reader-preserved g c = record {
   written = search rules;
   taken =
       let (before, took) = c.loop-reader.invariant.taken in
-      let (more, goes) = c.in-Ok-true.ensures.taken in
+      let (more, goes) = c.in-Ok-true.ensures.advances.taken in
       (before ++ more, Consumes-trans _ _ _ before more took goes);
-  source_works = same-unless-different _ _ (λ different. let broke = c.in-Ok-true.ensures.device.1 different in cc) ∙ c.loop-reader.invariant.source_works;
+  source_works = same-unless-different _ _ (λ different. let broke = c.in-Ok-true.ensures.advances.device.1 different in cc) ∙ c.loop-reader.invariant.source_works;
   sink_works = same-unless-different _ _ (λ different. let broke = c.in-Ok.ensures.sink_broke.1 different in cc) ∙ c.advance_flushed.ensures.sink_works ∙ c.loop-reader.invariant.sink_works;
   named = c.in-Ok.ensures.named ∙ c.advance_flushed.ensures.named ∙ c.loop-reader.invariant.named;
 }
@@ -56,7 +56,7 @@ returns-in-Err-put_accepted-clause-copies g c = λ from header to order unit hea
     let (packets, gives, wrote, counted) = c.loop-reader.invariant.copies from header to order unit head given written in
     let p = c.advance_flushed.new.reader.lent in (
       packets ++ p ∷ [],
-      c.given_so_far.ensures from header (packets ++ p ∷ []) (c.in-Ok-true.ensures.packet from header packets gives (cc)),
+      c.given_so_far.ensures from header (packets ++ p ∷ []) (c.in-Ok-true.ensures.advances.packet from header packets gives (cc)),
       subst (λ (ps : List Packet). Wrote g.W.Sink.taken to order unit head ps (Err c.in-Err-put_accepted.fault) c.put_accepted.new.writer)
           (ap (λ (q : Packet). accepted program c.args.snap packets ++ accepted program c.args.snap (q ∷ [])) c.packet.ensures ∙ sym (accepted-append program c.args.snap packets (p ∷ [])))
           (c.in-Err-put_accepted.ensures.writes to order unit head (accepted program c.args.snap packets) (c.advance_flushed.ensures.written to order unit head (accepted program c.args.snap packets) wrote)),
@@ -66,13 +66,13 @@ pub returns-in-Ok-false-clause-copies : goal.returns-in-Ok-false-clause-copies
 returns-in-Ok-false-clause-copies g c = λ from header to order unit head given written.
     let program = c.args.program.now in
     let (packets, gives, wrote, counted) = c.loop-reader.invariant.copies from header to order unit head given written in
-    (packets, c.in-Ok-false.ensures.end from header packets gives (cc), c.advance_flushed.ensures.written to order unit head (accepted program c.args.snap packets) wrote, counted)
+    (packets, c.in-Ok-false.ensures.advances.end from header packets gives (cc), c.advance_flushed.ensures.written to order unit head (accepted program c.args.snap packets) wrote, counted)
 
 pub returns-in-Err-clause-copies : goal.returns-in-Err-clause-copies
 returns-in-Err-clause-copies g c = λ from header to order unit head given written.
     let program = c.args.program.now in
     let (packets, gives, wrote, counted) = c.loop-reader.invariant.copies from header to order unit head given written in
-    let told = c.in-Err.ensures in (
+    let told = c.in-Err.ensures.advances in (
       packets,
       c.advance_flushed.ensures.written to order unit head (accepted program c.args.snap packets) wrote,
       counted,
@@ -85,17 +85,17 @@ returns-in-Err-clause-copies g c = λ from header to order unit head given writt
 pub returns-in-Err-put_accepted-clause-taken : goal.returns-in-Err-put_accepted-clause-taken
 returns-in-Err-put_accepted-clause-taken g c =
     let (before, took) = c.loop-reader.invariant.taken in
-    let (more, goes) = c.in-Ok-true.ensures.taken in
+    let (more, goes) = c.in-Ok-true.ensures.advances.taken in
     (before ++ more, Consumes-trans _ _ _ before more took goes)
 
 pub returns-in-Ok-false-clause-taken : goal.returns-in-Ok-false-clause-taken
 returns-in-Ok-false-clause-taken g c =
     let (before, took) = c.loop-reader.invariant.taken in
-    let (more, goes) = c.in-Ok-false.ensures.taken in
+    let (more, goes) = c.in-Ok-false.ensures.advances.taken in
     (before ++ more, Consumes-trans _ _ _ before more took goes)
 
 pub returns-in-Err-clause-taken : goal.returns-in-Err-clause-taken
 returns-in-Err-clause-taken g c =
     let (before, took) = c.loop-reader.invariant.taken in
-    let (more, goes) = c.in-Err.ensures.taken in
+    let (more, goes) = c.in-Err.ensures.advances.taken in
     (before ++ more, Consumes-trans _ _ _ before more took goes)

@@ -16,8 +16,8 @@ returns-in-Err-clause-writes g c = λ from header given.
       (
         [],
         c.given_so_far.ensures from header [] given,
-        subst (λ (ps : List Packet). Wrote g.W.Sink.taken (g.W.Sink.taken c.args.to) c.args.order c.args.unit snap ps (Err c.in-Err.fault) c.open-writer.result.0) (sym (accepted-nil c.args.program.now snap))
-            (not-opened g.W.Sink.taken (g.W.Sink.taken c.args.to) c.args.order c.args.unit snap c.open-writer.result.1 c.in-Err.fault c.open-writer.result.0 c.in-Err.is c.open-writer.ensures.err c.open-writer.ensures.only),
+        subst (λ (ps : List Packet). Wrote g.W.Sink.taken (g.W.Sink.taken c.args.to) c.args.header.order c.args.header.unit snap ps (Err c.in-Err.fault) c.open-writer.result.0) (sym (accepted-nil c.args.program.now snap))
+            (not-opened g.W.Sink.taken (g.W.Sink.taken c.args.to) c.args.header.order c.args.header.unit snap c.open-writer.result.1 c.in-Err.fault c.open-writer.result.0 c.in-Err.is c.open-writer.ensures.err c.open-writer.ensures.only),
       ),
     )
 
@@ -28,7 +28,7 @@ returns-clause-writes g c = λ from header given.
       c.copy_accepted-end.new.writer,
       c.close-sink-2.ensures.sink,
       c.close-sink-2.ensures.sent,
-      c.copy_accepted-end.ensures.copies from header (g.W.Sink.taken c.args.to) c.args.order c.args.unit snap given
+      c.copy_accepted-end.ensures.copies from header (g.W.Sink.taken c.args.to) c.args.header.order c.args.header.unit snap given
           (opened c.open-writer.result.1 c.in_default.field-0 _ c.in_default.is c.open-writer.ensures.ok),
     )
 
