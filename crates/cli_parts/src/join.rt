@@ -3,7 +3,7 @@
 ghost use Rattle.std.specs.Prelude.{◌≡◌, ◌∷◌, None, false, true, IfOk, map};
 
 use crate::joining::{JoinFault, JoinFiles, join_files};
-use crate::report::{report_lines, report_other_file};
+use crate::report::{LinesFile, report_lines, report_other_file};
 use cli_args::join::JoinWords;
 use cli_files::late::LateFile;
 use cli_files::paths::{Opening, PathFault, STANDARD_OUTPUT, check_shared_files, report_path};
@@ -122,7 +122,10 @@ fn report_join<O: Write, E: HintSink>(
     err: &mut E,
 ) -> Status {
     match fault {
-        JoinFault::Lines(fault) => report_lines(alloc, fault, words.lines, text, out, err),
+        JoinFault::Lines(fault) => {
+            let path = words.lines;
+            report_lines(alloc, fault, LinesFile { path, text }, out, err)
+        }
         JoinFault::Paths(fault) => report_path(fault, err),
         JoinFault::Sizes(fault) | JoinFault::Writing(fault) => report_file(fault, words, err),
     }

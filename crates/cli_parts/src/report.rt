@@ -54,12 +54,18 @@ fn report_misfit<E: HintSink>(misfit: Misfit, path: &str, err: &mut E) -> Status
     status
 }
 
-/// Reports why LINES, at this path and of this text, has no parts that are joined, or prints what has to be cut again; returns the exit status.
+/// LINES: its path and its text.
+#[derive(Clone, Copy)]
+pub(crate) struct LinesFile<'l> {
+    pub path: &'l str,
+    pub text: &'l [u8],
+}
+
+/// Reports why LINES has no parts that are joined, or prints what has to be cut again; returns the exit status.
 pub(crate) fn report_lines<O: Write, E: HintSink>(
     alloc: Global,
     fault: &LinesFault,
-    path: &str,
-    text: &[u8],
+    lines: LinesFile<'_>,
     out: &mut O,
     err: &mut E,
 ) -> Status {
@@ -67,11 +73,11 @@ pub(crate) fn report_lines<O: Write, E: HintSink>(
         LinesFault::Line(number) => {
             let report = Report::placed("Lines", Word::count(*number));
             let status = report_fault(&report, Status::Refused, err);
-            hint_path(path, err);
-            hint_bad_line(text, *number, PART_LINE, err);
+            hint_path(lines.path, err);
+            hint_bad_line(lines.text, *number, PART_LINE, err);
             status
         }
-        LinesFault::Misfit(misfit) => report_misfit(*misfit, path, err),
+        LinesFault::Misfit(misfit) => report_misfit(*misfit, lines.path, err),
         LinesFault::Again(again) => {
             let printed = print_stretches(alloc, again.as_slice(), out);
             report_output(&printed, err).max(Status::Negative)
