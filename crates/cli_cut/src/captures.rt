@@ -26,8 +26,8 @@ use cli_split::opening::late_captures;
 use cli_split::outcome::{ClosedEnd, ClosedPart, Refusal as SplitRefusal};
 use cli_split::part::{Part, PartEnd};
 use cli_split::plan::SplitLine;
-use cli_split::report::{SplitFiles, report_faults, was_begun};
-use cli_split::split::{Room, SplitEnd, split_in};
+use cli_split::report::{EndedSplit, was_begun};
+use cli_split::split::{Room, SplitEnd};
 use cli_store::FileStore;
 use cli_text::Status;
 use fault_report::FaultSink;
@@ -142,7 +142,7 @@ fn cut_opened<'p, F: FileStore<'p>>(
         snap: words.snap,
         sink,
     });
-    let end = split_in(alloc, room, captures, parts, words.order, words.unit);
+    let end = room.split(captures, parts, words.order, words.unit);
     Ok(close_files(files, end, notes, closed))
 }
 
@@ -234,12 +234,13 @@ pub(crate) fn report_captures<E: HintSink>(
         output: words.output,
         expression: words.expr.unwrap_or(""),
     }];
-    let files = SplitFiles {
+    let split = EndedSplit {
         captures: words.inputs.as_slice(),
         lines: &lines,
+        end,
     };
-    let status = report_faults(files, end, err);
-    hint_ended(files.captures, &lines, end, err);
+    let status = split.report_faults(err);
+    hint_ended(split.captures, &lines, end, err);
     if words.counted {
         let _ = report_total(end, LineForm::asked(words.json), err);
     }

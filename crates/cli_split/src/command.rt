@@ -13,7 +13,7 @@ use crate::files::split_files;
 use crate::hints::{counts_frames, hint_ended};
 use crate::outcome::{Refusal, SplitOutcome, SplitReport};
 use crate::plan::{MAX_LINES, SplitLine, fault_text};
-use crate::report::{SplitFiles, report_split};
+use crate::report::EndedSplit;
 use cli_args::split::SplitWords;
 use cli_files::captures::{OUTPUT_BUFFER, output_buffer};
 use cli_files::paths::report_path;
@@ -35,10 +35,11 @@ use std::alloc::Global;
 use std::fs::Files;
 use std::io::Write;
 
-/// Where the text of LINES is kept.
+/// A call of `bpftap split`: its words, and where the text of LINES is kept.
 #[derive(Drop)]
-pub struct LinesText<'p> {
-    pub bytes: &'p mut Vec<u8>,
+pub struct SplitCall<'w, 'p> {
+    pub words: &'w SplitWords<'p>,
+    pub text: &'p mut Vec<u8>,
 }
 
 /// A call of `bpftap split` that was reported.
@@ -114,14 +115,13 @@ fn report_ended<'p, O: PrintSink, E: HintSink>(
         end,
         mut line,
     } = report;
-    let paths = words.inputs.as_slice();
-    let files = SplitFiles {
-        captures: paths,
+    let split = EndedSplit {
+        captures: words.inputs.as_slice(),
         lines: lines.as_slice(),
+        end: &end,
     };
-    let form = LineForm::asked(words.json);
-    let status = report_split(form, files, &end, &mut line, out, err);
-    hint_ended(paths, lines.as_slice(), &end, err);
+    let status = split.report(LineForm::asked(words.json), &mut line, out, err);
+    hint_ended(split.captures, split.lines, &end, err);
     Reported {
         status,
         text: Some(text),
@@ -133,22 +133,21 @@ fn report_ended<'p, O: PrintSink, E: HintSink>(
 pub fn split_and_report<'p, F: FileStore<'p>, O: PrintSink, E: HintSink>(
     alloc: Global,
     files: &mut F,
-    words: &SplitWords<'p>,
-    text: LinesText<'p>,
+    call: SplitCall<'_, 'p>,
     out: &mut O,
     err: &mut E,
 ) -> Reported<'p>
     requires none_open { F.opened files.old ≡ [] }
     ensures splits { F.known ≡ true → (outcome : SplitOutcome)
-        × SplitsFiles (F.place files.old) (F.text files.old) (F.text files.new) (F.printed files.old) (F.failed files.new) (F.denied files.new) words.now outcome
-        × ReportsOutcome words.now outcome (O.contents out.old) (O.contents out.new) result.status
-        × TellsOutcome E.takes_hints E.failed E.contents E.fault_form words.now outcome err.old err.new }
+        × SplitsFiles (F.place files.old) (F.text files.old) (F.text files.new) (F.printed files.old) (F.failed files.new) (F.denied files.new) call.entry.words.now outcome
+        × ReportsOutcome call.entry.words.now outcome (O.contents out.old) (O.contents out.new) result.status
+        × TellsOutcome E.takes_hints E.failed E.contents E.fault_form call.entry.words.now outcome err.old err.new }
     // Nothing that was printed waits, unless a file or a device failed.
     ensures handed_on { O.waits out.old ≡ false → (result.status ≡ Failed → ⊥) → O.waits out.new ≡ false }
     ensures closed { F.known ≡ true → F.pending files.new ≡ F.pending files.old }
 {
-    let LinesText { bytes } = text;
-    match split_files(alloc, files, words, bytes) {
+    let SplitCall { words, text } = call;
+    match split_files(alloc, files, words, text) {
         SplitOutcome::Refused(refusal) => report_refused(alloc, &refusal, err),
         SplitOutcome::Ended(report) => report_ended(words, report, out, err),
     }
@@ -158,7 +157,7 @@ pub fn split_and_report<'p, F: FileStore<'p>, O: PrintSink, E: HintSink>(
 fn split_on_disk<'w: 'p, 'p, R: Files + AllocGlobal + Screen, O: Write, E: HintSink>(
     rt: &R,
     words: &SplitWords<'w>,
-    text: LinesText<'p>,
+    text: &'p mut Vec<u8>,
     out: &mut O,
     err: &mut E,
 ) -> Result<Reported<'p>, Status> {
@@ -166,8 +165,8 @@ fn split_on_disk<'w: 'p, 'p, R: Files + AllocGlobal + Screen, O: Write, E: HintS
     let mut out = output_buffer(alloc, &mut *out, err)?;
     let watch = Watch::new(rt, words.inputs.as_slice(), err.takes_hints()).counting(true);
     let mut files = DiskFiles::new(rt, &watch).gathering(OUTPUT_BUFFER);
-    let asked: &SplitWords<'p> = words;
-    let reported = split_and_report(alloc, &mut files, asked, text, &mut out, err);
+    let call = SplitCall { words, text };
+    let reported = split_and_report(alloc, &mut files, call, &mut out, err);
     hint_printed(out.get_ref(), err);
     if reported.is_asked {
         let _ = report_unseen(watch.frames(), reported.status, err);
@@ -183,8 +182,7 @@ pub fn split_command<R: Files + AllocGlobal + Screen, O: Write, E: HintSink>(
     err: &mut E,
 ) -> Status {
     let mut text = Vec::new(rt.alloc());
-    let kept = LinesText { bytes: &mut text };
-    match split_on_disk(rt, words, kept, out, err) {
+    match split_on_disk(rt, words, &mut text, out, err) {
         Ok(reported) => {
             if let Some(text) = reported.text {
                 hint_returns("LINES", text, err);

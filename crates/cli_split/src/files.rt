@@ -14,7 +14,7 @@ use crate::outcome::{ClosedPart, Refusal, SplitOutcome, SplitReport};
 use crate::part::Part;
 use crate::paths::check_paths;
 use crate::plan::{SplitLine, read_plan};
-use crate::split::{Room, split_in};
+use crate::split::Room;
 use cli_args::split::SplitWords;
 use cli_filter::plan::Plan;
 use cli_report::probe::ProbedInput;
@@ -57,7 +57,6 @@ fn reserve<'p, R: Drop, W: Drop>(
 
 /// Splits captures into the OUTs of these lines.
 fn split_captures<'p, F: FileStore<'p>>(
-    alloc: Global,
     files: &mut F,
     words: &SplitWords<'p>,
     plan: Plan<SplitLine<'p>>,
@@ -92,7 +91,7 @@ fn split_captures<'p, F: FileStore<'p>>(
             return Err(refusal);
         }
     }
-    let split = split_in(alloc, room, captures, parts, words.order, words.unit);
+    let split = room.split(captures, parts, words.order, words.unit);
     let end = close_files(files, split, notes, closed);
     Ok(SplitReport {
         text,
@@ -124,7 +123,7 @@ fn split_planned<'p, F: FileStore<'p>>(
     let form = LineForm::asked(words.json);
     let captures = late_captures(alloc, files, words.inputs.as_slice())?;
     let space = reserve(alloc, form, captures.len(), plan.lines.as_slice(), text)?;
-    split_captures(alloc, files, words, plan, captures, space)
+    split_captures(files, words, plan, captures, space)
 }
 
 /// Accepts LINES, compares the paths, and splits, in this order.

@@ -53,7 +53,7 @@ pub(crate) fn put_count(
     }
 }
 
-/// A line with room for that of each OUT, whatever its counts are. So [`report_split`](crate::report::report_split) needs no more memory.
+/// A line with room for that of each OUT, whatever its counts are. So [`report`](crate::report::EndedSplit::report) needs no more memory.
 pub fn line_for(
     alloc: Global,
     form: LineForm,

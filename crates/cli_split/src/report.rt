@@ -30,11 +30,12 @@ use savefile::Fault;
 use std::io;
 use std::io::Write;
 
-/// The files of a split, in order: the captures that are read, and the lines whose OUT is written.
-#[derive(Clone, Copy)]
-pub struct SplitFiles<'c, 'p, 'l, 'a> {
-    pub captures: &'c [&'p str],
-    pub lines: &'l [SplitLine<'a>],
+/// A split that ended: its captures, the lines whose OUT was written, both in order, and how it ended.
+#[derive(Drop)]
+pub struct EndedSplit<'s, R, W> {
+    pub captures: &'s [&'s str],
+    pub lines: &'s [SplitLine<'s>],
+    pub end: &'s SplitEnd<R, W>,
 }
 
 /// The line of a part that was written whole; no line of another one.
@@ -167,44 +168,41 @@ fn report_stop<E: HintSink>(end: Result<(), Stop>, paths: &[&str], err: &mut E) 
     }
 }
 
-/// Reports the OUT of each part that was not written whole, and what ended the reading, and returns the greatest of their statuses, as
-/// [`report_split`] does.
-pub fn report_faults<R, W, E: HintSink>(
-    files: SplitFiles<'_, '_, '_, '_>,
-    end: &SplitEnd<R, W>,
-    err: &mut E,
-) -> Status
-    ensures status { result ≡ split_status end.now }
-    ensures told { TellsStop E.takes_hints E.failed E.contents E.fault_form files.entry.captures.now end.now.end err.old err.new }
-{
-    let parts = report_parts(files.lines, end.parts.as_slice(), err);
-    parts.max(report_stop(end.end, files.captures, err))
-}
+impl<R, W> EndedSplit<'_, R, W> {
+    /// Reports the OUT of each part that was not written whole, and what ended the reading, and returns the greatest of their statuses, as
+    /// [`report`](EndedSplit::report) does.
+    pub fn report_faults<E: HintSink>(&self, err: &mut E) -> Status
+        ensures status { result ≡ split_status self.now.end.now }
+        ensures told { TellsStop E.takes_hints E.failed E.contents E.fault_form self.now.captures.now self.now.end.now.end err.old err.new }
+    {
+        let parts = report_parts(self.lines, self.end.parts.as_slice(), err);
+        parts.max(report_stop(self.end.end, self.captures, err))
+    }
 
-/// Prints a line `OUT 67 of 253` for each part that was written whole, in the order of the lines: how many of how many packets; as JSON an
-/// object `{"file":"OUT","kept":67,"packets":253}`. If the header of the first capture was not read it prints nothing. Then it reports
-/// that standard output failed, if it did; the OUT of each part that was not written whole; and what ended the reading. It returns the
-/// greatest of the statuses of these.
-///
-/// `line` is that of [`line_for`](crate::line::line_for), so that no memory is needed: if more were, and it is refused, that counts as
-/// standard output that failed.
-///
-/// `out` took exactly these lines, or a prefix of them if it failed; then the status is [`Status::Failed`]. The status of a part is that of
-/// its fault, [`Status::Failed`] if its sink failed. So is that of a capture: [`Status::Failed`] if its source failed, and
-/// [`Status::Damaged`] for the fault of a record.
-pub fn report_split<R, W, O: PrintSink, E: HintSink>(
-    form: LineForm,
-    files: SplitFiles<'_, '_, '_, '_>,
-    end: &SplitEnd<R, W>,
-    line: &mut String,
-    out: &mut O,
-    err: &mut E,
-) -> Status
-    ensures prints { ReportsSplit form files.entry.lines.now end.now (O.contents out.old) (O.contents out.new) result }
-    ensures told { TellsStop E.takes_hints E.failed E.contents E.fault_form files.entry.captures.now end.now.end err.old err.new }
-    ensures handed_on { O.waits out.old ≡ false → (result ≡ Failed → ⊥) → O.waits out.new ≡ false }
-{
-    let printed = print_split(form, files.lines, end, line, out);
-    let status = report_output(&printed, err);
-    status.max(report_faults(files, end, err))
+    /// Prints a line `OUT 67 of 253` for each part that was written whole, in the order of the lines: how many of how many packets; as JSON an
+    /// object `{"file":"OUT","kept":67,"packets":253}`. If the header of the first capture was not read it prints nothing. Then it reports
+    /// that standard output failed, if it did; the OUT of each part that was not written whole; and what ended the reading. It returns the
+    /// greatest of the statuses of these.
+    ///
+    /// `line` is that of [`line_for`](crate::line::line_for), so that no memory is needed: if more were, and it is refused, that counts as
+    /// standard output that failed.
+    ///
+    /// `out` took exactly these lines, or a prefix of them if it failed; then the status is [`Status::Failed`]. The status of a part is that of
+    /// its fault, [`Status::Failed`] if its sink failed. So is that of a capture: [`Status::Failed`] if its source failed, and
+    /// [`Status::Damaged`] for the fault of a record.
+    pub fn report<O: PrintSink, E: HintSink>(
+        &self,
+        form: LineForm,
+        line: &mut String,
+        out: &mut O,
+        err: &mut E,
+    ) -> Status
+        ensures prints { ReportsSplit form self.now.lines.now self.now.end.now (O.contents out.old) (O.contents out.new) result }
+        ensures told { TellsStop E.takes_hints E.failed E.contents E.fault_form self.now.captures.now self.now.end.now.end err.old err.new }
+        ensures handed_on { O.waits out.old ≡ false → (result ≡ Failed → ⊥) → O.waits out.new ≡ false }
+    {
+        let printed = print_split(form, self.lines, self.end, line, out);
+        let status = report_output(&printed, err);
+        status.max(self.report_faults(err))
+    }
 }

@@ -7,11 +7,12 @@ ghost use Rattle.savefile.specs.declared.header.Header.{Header};
 ghost use Rattle.savefile.specs.declared.header.Order.{Order};
 ghost use Rattle.savefile.specs.declared.header.Unit.{Unit};
 ghost use Rattle.savefile.specs.declared.packet.Packet.{Packet};
-ghost use Rattle.savefile.specs.Reader.{GoesOn as HasMore, HasEnded, HasFailed, HasGiven, HasRecord, IsCause, Leaves, Lends, WasBegun, WasRead};
-ghost use Rattle.savefile.specs.Savefile.{IsRecord, IsWritable};
+ghost use Rattle.savefile.specs.Reader.{HasGiven, Lends};
+ghost use Rattle.pcap_cut.specs.Advancing.{Advances, IsAhead};
 ghost use Rattle.cli_split.specs.Reading.{GaveSo, HasOpened, ReadsOne, ReadsAll, ReadsSoFar, end_of};
 ghost use Rattle.cli_split.specs.Splitting.{HasRoom, Splits, passes_header};
-ghost use Rattle.cli_split.specs.Standing.{GoesOn, HasHandedOn, HasParts, HasSplit};
+ghost use Rattle.cli_split.specs.Standing.{GoesOn, HasHandedOn, HasParts, HasSplit, HasTaken};
+ghost use Rattle.cli_split.specs.Writing.{IsLeft};
 ghost use Rattle.cli_split.specs.declared.part.Part.{Part};
 
 use crate::part::{Outlet, Part, PartEnd, begin_all, close_all, give_all, hand_on_all, leave_all};
@@ -64,33 +65,16 @@ impl<W: Sink> Splitter<W> {
     /// shows that.
     #[inline(always)]
     fn advance_flushed<R: Source>(&mut self, reader: &mut Reader<R>) -> Result<bool, Fault>
-        ensures packet { (start : Option (List ℕ)) (header : Header) (packets : List Packet) → HasGiven R.left start header packets reader.old →
-            result ≡ Ok true → HasGiven R.left start header (packets ++ reader.new.lent ∷ []) reader.new }
-        ensures end { (start : Option (List ℕ)) (header : Header) (packets : List Packet) → HasGiven R.left start header packets reader.old →
-            result ≡ Ok false → WasRead start header packets None }
-        ensures cause { (start : Option (List ℕ)) (header : Header) (packets : List Packet) → HasGiven R.left start header packets reader.old →
-            IfErr result (IsCause start (R.left reader.new.source) header packets) }
-        ensures so_far { (start : Option (List ℕ)) (header : Header) (packets : List Packet) → HasGiven R.left start header packets reader.old →
-            WasBegun start header packets }
-        ensures writable { result ≡ Ok true → IsWritable reader.new.lent }
-        ensures lends { result ≡ Ok true → Lends reader.new }
-        ensures device { (result ≡ Err Fault.Device) ↔ (R.failures reader.new.source ≢ R.failures reader.old.source) }
-        ensures failed { (result ≡ Err Fault.Failed) ↔ HasFailed reader.old }
-        ensures count_full { (result ≡ Err Fault.CountFull) ↔ (HasMore reader.old × (reader.old.given ≡ 2 ^ 64 - 1)) }
-        ensures ended { HasEnded reader.old → (result ≡ Ok false) × (reader.new ≡ reader.old) }
-        ensures leaves { Leaves reader.old reader.new result }
-        ensures header { reader.new.header ≡ reader.old.header }
         // The next bytes of the source are taken, and none while a whole record is ahead.
-        ensures taken { (bytes : List ℕ) × Consumes (R.left reader.old.source) (R.left reader.new.source) bytes }
-        ensures idle { (p : Packet) (after : List ℕ) → IsRecord reader.old.header.order reader.old.header.unit reader.old.ahead p after →
-            reader.new.source ≡ reader.old.source }
+        ensures advances { Advances R.left R.failures reader.old reader.new result }
+        ensures lends { result ≡ Ok true → Lends reader.new }
         // What was written stays, and while a whole record is ahead nothing is handed on.
         ensures read { self.new.read ≡ self.old.read }
         ensures written { (order : Order) (unit : Unit) (packets : List Packet) (parts : List (Part W)) →
             HasSplit W.taken W.name W.failures order unit packets parts self.old → HasSplit W.taken W.name W.failures order unit packets parts self.new }
-        ensures ahead { HasMore reader.old × (reader.old.given ≢ 2 ^ 64 - 1) × HasRecord reader.old.header reader.old.ahead → self.new ≡ self.old }
+        ensures ahead { IsAhead reader.old → self.new ≡ self.old }
         // If no whole record is ahead, nothing waits in the sink of any part afterwards.
-        ensures handed_on { (HasMore reader.old × (reader.old.given ≢ 2 ^ 64 - 1) × HasRecord reader.old.header reader.old.ahead → ⊥) →
+        ensures handed_on { (IsAhead reader.old → ⊥) →
             (order : Order) (unit : Unit) (packets : List Packet) (parts : List (Part W)) → HasSplit W.taken W.name W.failures order unit packets parts self.old →
             AllZip (HasHandedOn W.taken W.name W.failures W.waits order unit packets) parts self.new.outlets.items }
     {
@@ -203,9 +187,10 @@ fn leave_captures<R: Drop>(captures: Vec<R>, mut sources: Vec<R>) -> Vec<R>
     sources
 }
 
-/// The room for what a split writes and returns.
+/// The room for what a split writes and returns, and what the memory for reading each capture is taken from.
 #[derive(Drop)]
 pub struct Room<R, W> {
+    alloc: Global,
     sources: Vec<R>,
     outlets: Vec<Outlet<W>>,
     ends: Vec<PartEnd<W>>,
@@ -217,6 +202,7 @@ impl<R: Drop, W: Drop> Room<R, W> {
         ensures { IfOk result (HasRoom captures parts) }
     {
         Ok(Room {
+            alloc,
             sources: Vec::with_capacity(alloc, captures)?,
             outlets: Vec::with_capacity(alloc, parts)?,
             ends: Vec::with_capacity(alloc, parts)?,
@@ -224,92 +210,81 @@ impl<R: Drop, W: Drop> Room<R, W> {
     }
 }
 
-/// Splits the first capture, whose header was read, and the others.
-fn split_opened<R: Source + Drop, W: Sink + Drop>(
-    alloc: Global,
-    reader: Reader<R>,
-    others: Vec<R>,
-    mut splitter: Splitter<W>,
-    mut sources: Vec<R>,
-    ends: Vec<PartEnd<W>>,
-) -> SplitEnd<R, W>
-    requires opened { (first : R) × HasOpened R.left R.failures first reader }
-    requires begun { (order : Order) × (unit : Unit) × (parts : List (Part W)) × HasSplit W.taken W.name W.failures order unit [] parts splitter
-        × (length parts ≤ vec_capacity ends) }
-    requires sources { (sources.items ≡ []) × (length others.items + 1 ≤ vec_capacity sources) }
-    requires ends { length ends.items ≡ 0 }
-    ensures { (first : R) (order : Order) (unit : Unit) (parts : List (Part W)) → HasOpened R.left R.failures first reader →
-        HasSplit W.taken W.name W.failures order unit [] parts splitter →
-        Splits R.left R.failures W.taken W.name W.failures (first ∷ others.items) parts order unit result }
-{
-    let (source, end) = splitter.give_opened(0, reader);
-    sources.push_reserved(source);
-    let (sources, end) = splitter.give_captures(alloc, others, sources, end);
-    SplitEnd {
-        sources,
-        parts: close_all(splitter.outlets, ends),
-        end,
-    }
-}
-
-/// Splits the first capture and the others.
-fn split_first<R: Source + Drop, W: Sink + Drop>(
-    alloc: Global,
-    first: R,
-    others: Vec<R>,
-    parts: Vec<Part<W>>,
-    order: Order,
-    unit: Unit,
-    room: Room<R, W>,
-) -> SplitEnd<R, W>
-    requires room { HasRoom (length others.items + 1) (length parts.items) room }
-    ensures { Splits R.left R.failures W.taken W.name W.failures (first ∷ others.items) parts.items order unit result }
-{
-    let Room {
-        mut sources,
-        mut outlets,
-        mut ends,
-    } = room;
-    match Reader::open(alloc, first) {
-        Ok(reader) => {
-            begin_all(parts, order, unit, &mut outlets);
-            let splitter = Splitter { outlets, read: 0 };
-            split_opened(alloc, reader, others, splitter, sources, ends)
+impl<R: Source + Drop, W: Sink + Drop> Room<R, W> {
+    /// Reads no further capture, and starts no part.
+    fn leave(
+        mut self,
+        captures: Vec<R>,
+        parts: Vec<Part<W>>,
+        end: Result<(), Stop>,
+    ) -> SplitEnd<R, W>
+        requires sources { length self.sources.items + length captures.items ≤ vec_capacity self.sources }
+        requires ends { (length self.ends.items ≡ 0) × (length parts.items ≤ vec_capacity self.ends) }
+        ensures sources { result.sources.items ≡ self.sources.items ++ captures.items }
+        ensures parts { AllZip IsLeft parts.items result.parts.items }
+        ensures end { result.end ≡ end }
+    {
+        leave_all(parts, &mut self.ends);
+        SplitEnd {
+            sources: leave_captures(captures, self.sources),
+            parts: self.ends,
+            end,
         }
-        Err((source, fault)) => {
-            sources.push_reserved(source);
-            leave_all(parts, &mut ends);
-            SplitEnd {
-                sources: leave_captures(others, sources),
-                parts: ends,
-                end: Err(Stop::AtHeader(0, fault)),
+    }
+
+    /// Splits the first capture, whose header was read, and the others. The parts were begun.
+    fn split_opened(self, reader: Reader<R>, others: Vec<R>) -> SplitEnd<R, W>
+        requires opened { (first : R) × HasOpened R.left R.failures first reader }
+        requires begun { (order : Order) × (unit : Unit) × (parts : List (Part W)) × AllZip (HasTaken W.taken W.name W.failures order unit []) parts self.outlets.items
+            × (length parts ≤ vec_capacity self.ends) }
+        requires sources { (self.sources.items ≡ []) × (length others.items + 1 ≤ vec_capacity self.sources) }
+        requires ends { length self.ends.items ≡ 0 }
+        ensures { (first : R) (order : Order) (unit : Unit) (parts : List (Part W)) → HasOpened R.left R.failures first reader →
+            AllZip (HasTaken W.taken W.name W.failures order unit []) parts self.outlets.items →
+            Splits R.left R.failures W.taken W.name W.failures (first ∷ others.items) parts order unit result }
+    {
+        let Room {
+            alloc,
+            mut sources,
+            outlets,
+            ends,
+        } = self;
+        let mut splitter = Splitter { outlets, read: 0 };
+        let (source, end) = splitter.give_opened(0, reader);
+        sources.push_reserved(source);
+        let (sources, end) = splitter.give_captures(alloc, others, sources, end);
+        SplitEnd {
+            sources,
+            parts: close_all(splitter.outlets, ends),
+            end,
+        }
+    }
+
+    /// Splits captures as [`split`] does, with this room for them: so it asks for no memory but that of each capture's reader.
+    pub fn split(
+        mut self,
+        mut captures: Vec<R>,
+        parts: Vec<Part<W>>,
+        order: Order,
+        unit: Unit,
+    ) -> SplitEnd<R, W>
+        requires room { HasRoom (length captures.items) (length parts.items) self }
+        ensures { Splits R.left R.failures W.taken W.name W.failures captures.items parts.items order unit result }
+    {
+        if captures.is_empty() {
+            return self.leave(captures, parts, Ok(()));
+        }
+        match Reader::open(self.alloc, captures.remove(0)) {
+            Ok(reader) => {
+                begin_all(parts, order, unit, &mut self.outlets);
+                self.split_opened(reader, captures)
+            }
+            Err((source, fault)) => {
+                self.sources.push_reserved(source);
+                self.leave(captures, parts, Err(Stop::AtHeader(0, fault)))
             }
         }
     }
-}
-
-/// Splits captures as [`split`] does, with room that was reserved for them: so it asks for no memory but that of each capture's reader.
-pub fn split_in<R: Source + Drop, W: Sink + Drop>(
-    alloc: Global,
-    mut room: Room<R, W>,
-    mut captures: Vec<R>,
-    parts: Vec<Part<W>>,
-    order: Order,
-    unit: Unit,
-) -> SplitEnd<R, W>
-    requires room { HasRoom (length captures.items) (length parts.items) room }
-    ensures { Splits R.left R.failures W.taken W.name W.failures captures.items parts.items order unit result }
-{
-    if captures.is_empty() {
-        leave_all(parts, &mut room.ends);
-        return SplitEnd {
-            sources: room.sources,
-            parts: room.ends,
-            end: Ok(()),
-        };
-    }
-    let first = captures.remove(0);
-    split_first(alloc, first, captures, parts, order, unit, room)
 }
 
 /// Writes captures of the packets of others, in one pass. Each part gets the packets that its program accepts, cut, as a capture of its
@@ -335,5 +310,5 @@ pub fn split<R: Source + Drop, W: Sink + Drop>(
     ensures { IfOk result (λ end. Splits R.left R.failures W.taken W.name W.failures captures.items parts.items order unit end) }
 {
     let room = Room::reserve(alloc, captures.len(), parts.len())?;
-    Ok(split_in(alloc, room, captures, parts, order, unit))
+    Ok(room.split(captures, parts, order, unit))
 }

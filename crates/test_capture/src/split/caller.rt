@@ -7,7 +7,7 @@ use cli_filter::plan::Plan;
 use cli_split::line::line_for;
 use cli_split::part::{Part, PartEnd};
 use cli_split::plan::{SplitLine, read_plan};
-use cli_split::report::{SplitFiles, report_split};
+use cli_split::report::EndedSplit;
 use cli_split::split::split;
 use cli_text::Status;
 use line_text::LineForm;
@@ -62,11 +62,12 @@ fn split_texts(
     let captures = Vec::from_slice(alloc, texts).expect(rt, "memory");
     let end = split(alloc, captures, parts, Order::Little, Unit::Micro).expect(rt, "memory");
     let (mut out, mut err) = (Vec::new(alloc), Vec::new(alloc));
-    let files = SplitFiles {
+    let split = EndedSplit {
         captures: &[],
         lines: lines.as_slice(),
+        end: &end,
     };
-    let status = report_split(LineForm::Text, files, &end, &mut line, &mut out, &mut err);
+    let status = split.report(LineForm::Text, &mut line, &mut out, &mut err);
     assert_eq!(rt; status, Status::Clean);
     (out, written_of(rt, end.parts))
 }

@@ -5,7 +5,7 @@ use crate::same::same;
 use cli_split::line::line_for;
 use cli_split::part::PartEnd;
 use cli_split::plan::read_plan;
-use cli_split::report::{SplitFiles, report_split};
+use cli_split::report::EndedSplit;
 use cli_split::split::{SplitEnd, Stop};
 use cli_text::Status;
 use cli_watch::output::PrintSink;
@@ -58,11 +58,12 @@ fn told<O: PrintSink>(
     let plan = read_plan(alloc, LINES).expect(rt, "each line has its form");
     let lines = plan.lines.as_slice();
     let mut line = line_for(alloc, form, lines).expect(rt, "memory");
-    let files = SplitFiles {
+    let split = EndedSplit {
         captures: &[],
         lines,
+        end: &end,
     };
-    let status = report_split(form, files, &end, &mut line, out, &mut err);
+    let status = split.report(form, &mut line, out, &mut err);
     (status, err)
 }
 

@@ -26,8 +26,8 @@ make_parts-requires g c κs =
 pub close_unused-requires : goal.close_unused-requires
 close_unused-requires g c κs = ((refl, tt), ((λ tells. omega (arith, c.in-Err.ensures.pending tells)), c.in-Err.ensures.empty))
 
-pub split_in-split-requires : goal.split_in-split-requires
-split_in-split-requires g c =
+pub split-split-requires : goal.split-split-requires
+split-split-requires g c =
     let room = c.requires.space.room in
     let count = c.in-Ok.ensures.count ∙ ap length c.as_slice.ensures.value in
     record {
@@ -43,10 +43,10 @@ split_in-split-requires g c =
 
 pub close_files-end-requires : goal.close_files-end-requires
 close_files-end-requires g c κs =
-    let s = c.split_in-split.ensures in
+    let s = c.split-split.ensures in
     let count = c.in-Ok.ensures.count ∙ ap length c.as_slice.ensures.value in
-    let many = as-many-parts g.F.Output.Sink.taken g.F.Output.Sink.name g.F.Output.Sink.failures c.args.words.now.order c.args.words.now.«unit» s.packets (is_begun c.args.captures.items c.split_in-split.result.end) c.make_parts.new.parts.items
-    c.split_in-split.result.parts.items s.writes in
+    let many = as-many-parts g.F.Output.Sink.taken g.F.Output.Sink.name g.F.Output.Sink.failures c.args.words.now.order c.args.words.now.«unit» s.packets (is_begun c.args.captures.items c.split-split.result.end) c.make_parts.new.parts.items
+    c.split-split.result.parts.items s.writes in
     ((refl, tt), ((c.requires.space.none_closed, omega (arith, c.requires.space.closed, many, count)), (λ tells. omega (arith, c.in-Ok.ensures.pending tells, many))))
 
 pub returns-in-Err-clause-closed : goal.returns-in-Err-clause-closed
@@ -70,18 +70,18 @@ returns-clause-split g c tells =
     let old = g.F.FileStore.text c.args.files.now in
     let new = g.F.FileStore.text c.close_files-end.new.files in
     let failed = g.F.FileStore.failed c.close_files-end.new.files in
-    let split = c.split_in-split.result in
+    let split = c.split-split.result in
     let parts = c.make_parts.new.parts.items in
     let same = c.as_slice.ensures.value in
     let programs = subst (λ ls. AllZip IsCompiled ls c.args.plan.programs.items) (sym same) c.requires.programs in
     let made = subst (λ ls. AllZip (IsMadeOf taken name failures place IsCompiled) ls parts) same (c.in-Ok.ensures.made tells programs) in
     let closes = subst (λ (was : Texts). ClosesAll taken name failures failed was new split.parts.items c.close_files-end.result.parts.items) c.in-Ok.ensures.texts (c.close_files-end.ensures.closes tells) in
     is-split g.F.Input.Source.left g.F.Input.Source.failures taken name failures place old new failed c.args.words.now c.args.plan.lines.items c.args.captures.items parts split c.close_files-end.result
-    c.split_in-split.ensures (c.requires.late tells) made (c.close_files-end.ensures.failed tells) closes c.close_files-end.ensures.end (c.requires.own tells) c.packets_take_room.ensures.written
+    c.split-split.ensures (c.requires.late tells) made (c.close_files-end.ensures.failed tells) closes c.close_files-end.ensures.end (c.requires.own tells) c.packets_take_room.ensures.written
 
 pub returns-clause-closed : goal.returns-clause-closed
 returns-clause-closed g c tells =
-    let s = c.split_in-split.ensures in
-    let many = as-many-parts g.F.Output.Sink.taken g.F.Output.Sink.name g.F.Output.Sink.failures c.args.words.now.order c.args.words.now.«unit» s.packets (is_begun c.args.captures.items c.split_in-split.result.end) c.make_parts.new.parts.items
-    c.split_in-split.result.parts.items s.writes in
+    let s = c.split-split.ensures in
+    let many = as-many-parts g.F.Output.Sink.taken g.F.Output.Sink.name g.F.Output.Sink.failures c.args.words.now.order c.args.words.now.«unit» s.packets (is_begun c.args.captures.items c.split-split.result.end) c.make_parts.new.parts.items
+    c.split-split.result.parts.items s.writes in
     omega (arith, c.in-Ok.ensures.pending tells, c.close_files-end.ensures.pending tells, many)

@@ -36,7 +36,7 @@ loop-self-preserved g c =
       gives = λ start header h.
           let (packets, given, goes) = c.loop-self.invariant.gives start header h in (
             packets ++ p ∷ [],
-            c.advance_flushed.ensures.packet start header packets given is,
+            c.advance_flushed.ensures.advances.packet start header packets given is,
             λ order unit before parts has.
                 let now = c.advance_flushed.ensures.written order unit (before ++ packets) parts (goes order unit before parts has) in (
                   omega (arith, now.0, length-append before packets, length-append before (packets ++ p ∷ []), length-append packets (p ∷ [])),
@@ -46,9 +46,9 @@ loop-self-preserved g c =
                       (c.give_all.ensures order unit (before ++ packets) parts now.2),
                 ),
           );
-      taken = takes-more _ _ _ c.loop-self.invariant.taken c.advance_flushed.ensures.taken;
+      taken = takes-more _ _ _ c.loop-self.invariant.taken c.advance_flushed.ensures.advances.taken;
       works = same-unless-different (g.R.Source.failures c.advance_flushed.new.reader.source) (g.R.Source.failures c.loop-self.reader.source)
-          (λ differs. let bad = sym is ∙ c.advance_flushed.ensures.device.1 differs in cc)
+          (λ differs. let bad = sym is ∙ c.advance_flushed.ensures.advances.device.1 differs in cc)
           ∙ c.loop-self.invariant.works;
     }
 
@@ -60,7 +60,7 @@ returns-then-self-clause-gives g c = λ start header h.
 pub returns-in-Ok-false-clause-gives : goal.returns-in-Ok-false-clause-gives
 returns-in-Ok-false-clause-gives g c = λ start header h.
     let (packets, given, goes) = c.loop-self.invariant.gives start header h in
-    (packets, c.advance_flushed.ensures.end start header packets given (c.in-Ok-false.is ∙ ap Ok c.in-Ok-false.field-0-test), λ order unit before parts has. c.advance_flushed.ensures.written order unit (before ++ packets) parts (goes order unit before parts has))
+    (packets, c.advance_flushed.ensures.advances.end start header packets given (c.in-Ok-false.is ∙ ap Ok c.in-Ok-false.field-0-test), λ order unit before parts has. c.advance_flushed.ensures.written order unit (before ++ packets) parts (goes order unit before parts has))
 
 pub returns-in-Err-clause-gives : goal.returns-in-Err-clause-gives
 returns-in-Err-clause-gives g c = λ start header h.
@@ -68,9 +68,9 @@ returns-in-Err-clause-gives g c = λ start header h.
     let (order, unit, before, parts, has) = c.requires.so_far in
     let now = goes order unit before parts has in (
       packets,
-      elim (c.in-Err.ensures.cause start header packets given) [
+      elim (c.in-Err.ensures.advances.cause start header packets given) [
         | inl read ↦ inl read
-        | inr (inl device) ↦ inr (c.advance_flushed.ensures.so_far start header packets given, inl device)
+        | inr (inl device) ↦ inr (c.advance_flushed.ensures.advances.so_far start header packets given, inl device)
         | inr (inr full) ↦ absurd (omega (arith, now.0, now.1, full.1, length-append before packets, c.if-self.false))
       ],
       λ order unit before parts has. c.advance_flushed.ensures.written order unit (before ++ packets) parts (goes order unit before parts has),
@@ -80,10 +80,10 @@ pub returns-then-self-clause-taken : goal.returns-then-self-clause-taken
 returns-then-self-clause-taken g c = c.loop-self.invariant.taken
 
 pub returns-in-Ok-false-clause-taken : goal.returns-in-Ok-false-clause-taken
-returns-in-Ok-false-clause-taken g c = takes-more _ _ _ c.loop-self.invariant.taken c.advance_flushed.ensures.taken
+returns-in-Ok-false-clause-taken g c = takes-more _ _ _ c.loop-self.invariant.taken c.advance_flushed.ensures.advances.taken
 
 pub returns-in-Err-clause-taken : goal.returns-in-Err-clause-taken
-returns-in-Err-clause-taken g c = takes-more _ _ _ c.loop-self.invariant.taken c.advance_flushed.ensures.taken
+returns-in-Err-clause-taken g c = takes-more _ _ _ c.loop-self.invariant.taken c.advance_flushed.ensures.advances.taken
 
 pub returns-then-self-clause-broke : goal.returns-then-self-clause-broke
 returns-then-self-clause-broke g c = (λ e. absurd (cc), λ differs. absurd (differs c.loop-self.invariant.works))
@@ -92,15 +92,15 @@ pub returns-in-Ok-false-clause-broke : goal.returns-in-Ok-false-clause-broke
 returns-in-Ok-false-clause-broke g c = (
   λ e. absurd (cc),
   λ differs.
-      let bad = sym (c.in-Ok-false.is ∙ ap Ok c.in-Ok-false.field-0-test) ∙ c.advance_flushed.ensures.device.1 (λ same. differs (same ∙ c.loop-self.invariant.works)) in absurd (cc),
+      let bad = sym (c.in-Ok-false.is ∙ ap Ok c.in-Ok-false.field-0-test) ∙ c.advance_flushed.ensures.advances.device.1 (λ same. differs (same ∙ c.loop-self.invariant.works)) in absurd (cc),
 )
 
 pub returns-in-Err-clause-broke : goal.returns-in-Err-clause-broke
 returns-in-Err-clause-broke g c = (
   λ e.
       let same : c.in-Err.fault ≡ Device = cc in
-      let differs = c.advance_flushed.ensures.device.0 (c.in-Err.is ∙ ap Err same) in (λ kept. differs (kept ∙ sym c.loop-self.invariant.works)),
+      let differs = c.advance_flushed.ensures.advances.device.0 (c.in-Err.is ∙ ap Err same) in (λ kept. differs (kept ∙ sym c.loop-self.invariant.works)),
   λ differs.
-      let told = sym c.in-Err.is ∙ c.advance_flushed.ensures.device.1 (λ kept. differs (kept ∙ c.loop-self.invariant.works)) in
+      let told = sym c.in-Err.is ∙ c.advance_flushed.ensures.advances.device.1 (λ kept. differs (kept ∙ c.loop-self.invariant.works)) in
       let same : c.in-Err.fault ≡ Device = cc in ap Err same,
 )
