@@ -281,12 +281,19 @@ pub fn steps_told<O: Write, E: Write>(
 /// [`tap::replay`], whole for 0 and 2.
 pub fn steps<O: Write, E: Write>(
     alloc: Global,
-    texts: StepsTexts<'_, '_>,
+    listeners: &[u8],
+    script: &[u8],
+    captures: &[&[u8]],
     out: &mut O,
     err: &mut E,
 ) -> u8
-    ensures { StepsTo Text texts.entry.listeners.now texts.entry.script.now (map (λ c. c.now) texts.entry.captures.now)
+    ensures { StepsTo Text listeners.now script.now (map (λ c. c.now) captures.now)
         (streams (O.contents out.old) (E.contents err.old)) (streams (O.contents out.new) (E.contents err.new)) result }
 {
+    let texts = StepsTexts {
+        listeners,
+        script,
+        captures,
+    };
     steps_told(alloc, texts, out, err).status.code()
 }

@@ -1,7 +1,7 @@
 //! The outcome of `steps_told` says that reporting failed if standard error fails, and only then.
 
 use crate::same::same;
-use cli_steps::steps::steps_told;
+use cli_steps::steps::{StepsTexts, steps_told};
 use std::process::Abort;
 use test_fixtures::captures::{HEADER, TCP, concat};
 use test_fixtures::devices::BreakingWriter;
@@ -21,13 +21,16 @@ static PLAYED: [Played; 5] = [
 /// for.
 fn is_told(rt: &(impl Abort + AllocGlobal), played: Played, room: usize) -> bool {
     let (listeners, script, packets, reported) = played;
-    let (listeners, script) = (listeners.as_bytes(), script.as_bytes());
     let capture = concat(rt.alloc(), &[HEADER, packets]).expect(rt, "memory");
     let mut out: Vec<u8> = Vec::new(rt.alloc());
     let taken = Vec::new(rt.alloc());
     let mut err = BreakingWriter { taken, room };
-    let captures = [capture.as_slice()];
-    let outcome = steps_told(rt.alloc(), listeners, script, &captures, &mut out, &mut err);
+    let texts = StepsTexts {
+        listeners: listeners.as_bytes(),
+        script: script.as_bytes(),
+        captures: &[capture.as_slice()],
+    };
+    let outcome = steps_told(rt.alloc(), texts, &mut out, &mut err);
     let front = reported.as_bytes().get(..room).expect(rt, "enough bytes");
     same(rt, err.taken.as_slice(), front);
     outcome.told.is_ok()
