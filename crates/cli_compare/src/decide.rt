@@ -11,9 +11,8 @@ ghost use Rattle.cli_compare.specs.Telling.{TellsWith};
 use crate::asked::accept_pair;
 use crate::notice::Notice;
 use crate::outcome::OutFault;
-use crate::pair::FilterPair;
 use crate::report::{report_answer, report_out, report_uncompared};
-use crate::sameness::{BUDGET, decide_pair, print_sameness, witness_of};
+use crate::sameness::{BUDGET, Decider, decide_pair, print_sameness, witness_of};
 use crate::witness::write_witness;
 use cli_answers::printing::Unprinted;
 use cli_args::compare::CompareWords;
@@ -25,7 +24,6 @@ use cli_watch::output::PrintSink;
 use filter_same::{Sameness, Witness};
 use line_text::LineForm;
 use savefile::Fault;
-use std::alloc::Global;
 use std::io;
 
 /// What writing OUT came to, by how it was closed and how its savefile was written.
@@ -63,23 +61,21 @@ fn write_out<'p, F: FileStore<'p>>(
 /// Decides both filters, and prints the answer unless it is not wanted.
 #[inline(never)]
 fn answer<R: Screen, O: PrintSink>(
-    alloc: Global,
-    notice: &Notice<'_, R>,
+    decider: &Decider<'_, '_, R>,
     words: &CompareWords<'_>,
-    pair: &FilterPair,
     out: &mut O,
 ) -> Result<Sameness, Unprinted>
-    ensures holds { IfOk result (HoldsOfPair pair.now) }
+    ensures holds { IfOk result (HoldsOfPair decider.now.pair.now) }
     ensures silent { words.now.quiet ≡ true → O.contents out.new ≡ O.contents out.old }
-    ensures printed { words.now.quiet ≡ false → IfOk result (λ s. PrintsAnswer (form_of words.now.json) pair.now 2000000 s (O.contents out.old) (O.contents out.new)) }
-    ensures fault { words.now.quiet ≡ false → IfErr result (IsUnanswered (form_of words.now.json) pair.now 2000000 (O.contents out.old) (O.contents out.new)) }
+    ensures printed { words.now.quiet ≡ false → IfOk result (λ s. PrintsAnswer (form_of words.now.json) decider.now.pair.now 2000000 s (O.contents out.old) (O.contents out.new)) }
+    ensures fault { words.now.quiet ≡ false → IfErr result (IsUnanswered (form_of words.now.json) decider.now.pair.now 2000000 (O.contents out.old) (O.contents out.new)) }
     ensures handed_on { O.waits out.old ≡ false → OnOk result (O.waits out.new ≡ false) }
 {
     if words.quiet {
-        Ok(decide_pair(alloc, notice, pair, BUDGET)?)
+        Ok(decide_pair(decider, BUDGET)?)
     } else {
         let form = LineForm::asked(words.json);
-        print_sameness(alloc, notice, form, pair, BUDGET, out)
+        print_sameness(decider, form, BUDGET, out)
     }
 }
 
@@ -114,23 +110,21 @@ fn report_and_write<'p, F: FileStore<'p>, E: HintSink>(
 /// Decides both filters, writes the packet that shows a difference to OUT, and reports how that
 /// ended.
 #[inline(never)]
-fn decide_and_report<'p, R: AllocGlobal + Screen, F: FileStore<'p>, O: PrintSink, E: HintSink>(
-    rt: &R,
+fn decide_and_report<'p, R: Screen, F: FileStore<'p>, O: PrintSink, E: HintSink>(
+    decider: &Decider<'_, '_, R>,
     files: &mut F,
     words: &CompareWords<'p>,
-    pair: &FilterPair,
     out: &mut O,
     err: &mut E,
 ) -> Status
     requires none_open { F.opened files.old ≡ [] }
-    ensures pair { AnswersPair words.now.quiet words.now.json words.now.output pair.now (O.contents out.old) (O.contents out.new) result }
-    ensures decides { F.known ≡ true → DecidesPair (F.place files.old) (F.text files.old) (F.text files.new) (F.failed files.new) words.now pair.now (λ says. TellsAmong E.takes_hints E.failed E.contents E.fault_form says err.old err.new) (O.contents out.old) (O.contents out.new) result }
+    ensures pair { AnswersPair words.now.quiet words.now.json words.now.output decider.now.pair.now (O.contents out.old) (O.contents out.new) result }
+    ensures decides { F.known ≡ true → DecidesPair (F.place files.old) (F.text files.old) (F.text files.new) (F.failed files.new) words.now decider.now.pair.now (λ says. TellsAmong E.takes_hints E.failed E.contents E.fault_form says err.old err.new) (O.contents out.old) (O.contents out.new) result }
     ensures others { F.known ≡ true → KeepsOthers (F.place files.old) (F.text files.old) (F.text files.new) words.now.output }
     ensures closed { F.known ≡ true → F.pending files.new ≡ F.pending files.old }
     ensures handed_on { O.waits out.old ≡ false → result ≡ Clean → O.waits out.new ≡ false }
 {
-    let notice = Notice::new(rt, err.takes_hints());
-    let answer = answer(rt.alloc(), &notice, words, pair, out);
+    let answer = answer(decider, words, out);
     report_and_write(files, words, &answer, err)
 }
 
@@ -151,7 +145,14 @@ pub(crate) fn decide_files<
     ensures handed_on { O.waits out.old ≡ false → result ≡ Clean → O.waits out.new ≡ false }
 {
     match accept_pair(rt.alloc(), files, words) {
-        Ok(pair) => decide_and_report(rt, files, words, &pair, out, err),
+        Ok(pair) => {
+            let decider = Decider {
+                alloc: rt.alloc(),
+                pair: &pair,
+                notice: Notice::new(rt, err.takes_hints()),
+            };
+            decide_and_report(&decider, files, words, out, err)
+        }
         Err(reason) => report_uncompared(rt.alloc(), &reason, words, err),
     }
 }

@@ -170,24 +170,31 @@ fn text_of(
     }
 }
 
+/// What decides two filters for every packet.
+#[derive(Drop)]
+pub struct Decider<'p, 'r, R> {
+    pub alloc: Global,
+    pub pair: &'p FilterPair,
+    /// It is shown meanwhile.
+    pub notice: Notice<'r, R>,
+}
+
 /// Decides whether two filters accept the same packets, as [`decide_filters`] does, and meanwhile shows that it does.
 #[inline(never)]
 pub fn decide_pair<R: Screen>(
-    alloc: Global,
-    notice: &Notice<'_, R>,
-    pair: &FilterPair,
+    decider: &Decider<'_, '_, R>,
     budget: usize,
 ) -> Result<Sameness, NoMemory>
-    ensures { IfOk result (HoldsOfPair pair.now) }
+    ensures { IfOk result (HoldsOfPair decider.now.pair.now) }
 {
-    notice.put();
+    decider.notice.put();
     let decided = decide_filters(
-        alloc,
-        filter_of(&pair.first),
-        filter_of(&pair.second),
+        decider.alloc,
+        filter_of(&decider.pair.first),
+        filter_of(&decider.pair.second),
         budget,
     );
-    notice.erase();
+    decider.notice.erase();
     decided
 }
 
@@ -199,20 +206,18 @@ pub fn decide_pair<R: Screen>(
 /// `Unprinted::NoMemory`: nothing was printed. `Unprinted::Output`: the writer failed, and took a prefix of the text.
 #[tactic(auto, using(crate::proofs::Witnesses::unanswered))]
 pub fn print_sameness<R: Screen, O: PrintSink>(
-    alloc: Global,
-    notice: &Notice<'_, R>,
+    decider: &Decider<'_, '_, R>,
     form: LineForm,
-    pair: &FilterPair,
     budget: usize,
     out: &mut O,
 ) -> Result<Sameness, Unprinted>
-    ensures holds { IfOk result (HoldsOfPair pair.now) }
-    ensures printed { IfOk result (λ s. PrintsAnswer form pair.now budget s (O.contents out.old) (O.contents out.new)) }
-    ensures fault { IfErr result (λ e. IsUnanswered form pair.now budget (O.contents out.old) (O.contents out.new) e) }
+    ensures holds { IfOk result (HoldsOfPair decider.now.pair.now) }
+    ensures printed { IfOk result (λ s. PrintsAnswer form decider.now.pair.now budget s (O.contents out.old) (O.contents out.new)) }
+    ensures fault { IfErr result (λ e. IsUnanswered form decider.now.pair.now budget (O.contents out.old) (O.contents out.new) e) }
     ensures handed_on { OnOk result (O.waits out.new ≡ false) }
 {
-    let sameness = decide_pair(alloc, notice, pair, budget)?;
-    let text = text_of(alloc, form, pair, budget, &sameness)?;
+    let sameness = decide_pair(decider, budget)?;
+    let text = text_of(decider.alloc, form, decider.pair, budget, &sameness)?;
     send_last(text.as_bytes(), out)?;
     Ok(sameness)
 }

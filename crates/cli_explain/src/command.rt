@@ -9,7 +9,7 @@ ghost use Rattle.cli_answers.specs.Telling.{TellsEnd, printed_status, stop_statu
 ghost use Rattle.cli_explain.specs.Explaining.{Answers, LinesAnswer, StatusAnswers};
 
 use crate::files::{explain_files, seek_files};
-use crate::full::explain_places;
+use crate::full::{PlacesWords, explain_places};
 use crate::report::report_sought;
 use cli_answers::captures::{LinesEnd, read_of};
 use cli_answers::counts::VerdictCounts;
@@ -108,7 +108,10 @@ pub fn explain_and_report<'p, F: FileStore<'p>, O: PrintSink, E: HintSink>(
 {
     match (words.quiet, words.places) {
         (true, _) => ask_quietly(alloc, files, words, out, err),
-        (false, Some(places)) => explain_places(alloc, files, words, places, out, err),
+        (false, Some(places)) => {
+            let asked = PlacesWords { words, places };
+            explain_places(alloc, files, &asked, out, err)
+        }
         (false, None) => explain_all(alloc, files, words, out, err),
     }
 }

@@ -12,9 +12,9 @@ pub mod line;
 mod object;
 pub mod one;
 pub mod outcome;
-pub mod program;
+pub mod printer;
 pub mod range;
 pub mod report;
 mod whole;
 
-pub use program::FilterWithProgram;
+pub use printer::FullPrinter;

@@ -5,7 +5,7 @@ ghost use Rattle.cli_answers.specs.Dumps.{hex_text};
 ghost use Rattle.cli_answers.specs.declared.form.PacketForm.TheVariants.{Json};
 ghost use Rattle.cli_explain.specs.Explained.{IsOfWhole};
 
-use crate::program::FilterWithProgram;
+use crate::printer::FullPrinter;
 use crate::whole::{join_verdicts, number_at};
 use bpfvm::{Brief, Executed, NoMemory, Program, Traced, trace};
 use cli_answers::dump::put_hex;
@@ -273,14 +273,11 @@ fn put_run(
 }
 
 /// What follows the bytes of a packet in its object.
-fn more_members(
-    alloc: Global,
-    filter: &FilterWithProgram<'_, '_>,
-    packet: &PacketRef<'_>,
-) -> Result<String, NoMemory> {
+fn more_members(printer: &FullPrinter<'_, '_>, packet: &PacketRef<'_>) -> Result<String, NoMemory> {
+    let alloc = printer.alloc;
     let mut text = String::new(alloc);
     let mut name = String::new(alloc);
-    match filter.filter {
+    match printer.filter {
         AskedFilter::Expression(expr) => {
             put_expression(alloc, &mut text, &mut name, expr, packet)?;
         }
@@ -288,7 +285,7 @@ fn more_members(
             text.push_str("\"expression\":null,\"asked\":[],\"unasked\":[]")?;
         }
     }
-    put_run(alloc, &mut text, &mut name, filter.program, packet)?;
+    put_run(alloc, &mut text, &mut name, printer.program, packet)?;
     Ok(text)
 }
 
@@ -303,19 +300,18 @@ fn put_captured(line: &mut String, bytes: &[u8]) -> Result<(), AllocError>
 
 /// The object of a packet of the capture of this number, with everything about it, and the end of its line.
 pub(crate) fn whole_object(
-    alloc: Global,
-    filter: &FilterWithProgram<'_, '_>,
+    printer: &FullPrinter<'_, '_>,
     capture: usize,
     place: u64,
     packet: &PacketRef<'_>,
 ) -> Result<String, NoMemory>
-    ensures { IfOk result (λ line. IsOfWhole (Json capture) filter.now.filter.now place packet.now (λ text. string_bytes line ≡ text)) }
+    ensures { IfOk result (λ line. IsOfWhole (Json capture) printer.now.filter.now place packet.now (λ text. string_bytes line ≡ text)) }
 {
-    let more = more_members(alloc, filter, packet)?;
-    let mut line = String::new(alloc);
-    let mut text = String::new(alloc);
+    let more = more_members(printer, packet)?;
+    let mut line = String::new(printer.alloc);
+    let mut text = String::new(printer.alloc);
     json::put_packet(&mut line, capture, place, packet)?;
-    json::put_answer(&mut line, &mut text, filter.filter, packet)?;
+    json::put_answer(&mut line, &mut text, printer.filter, packet)?;
     put_captured(&mut line, packet.bytes)?;
     line.push_str(more.as_str())?;
     line.push_str("}\n")?;

@@ -10,7 +10,7 @@ ghost use Rattle.cli_explain.specs.Explained.{Finds, GoesTo, PrintsFound, Prints
 use crate::each::print_line;
 use crate::form::Asking;
 use crate::object::whole_object;
-use crate::program::FilterWithProgram;
+use crate::printer::FullPrinter;
 use crate::whole::whole_text;
 use cli_answers::PacketForm;
 use cli_answers::form::PacketLine;
@@ -18,7 +18,6 @@ use cli_answers::printing::Unprinted;
 use cli_watch::output::{PrintSink, send_last};
 use savefile::laws::given_so_far;
 use savefile::{Fault, PacketRef, Reader, Source};
-use std::alloc::Global;
 
 /// What explaining one packet came to.
 #[derive(Debug, Drop)]
@@ -40,20 +39,19 @@ pub struct Found<R> {
 /// took only that line or nothing, and if it is `Output` a prefix of the line, or the line and what comes after it. Of an object it took
 /// nothing, and a prefix.
 pub fn explain_one<R: Source, O: PrintSink>(
-    alloc: Global,
     from: R,
-    filter: &FilterWithProgram<'_, '_>,
+    printer: &FullPrinter<'_, '_>,
     place: u64,
     out: &mut O,
 ) -> Found<R>
     // Whether there is such a packet, and what was printed of it.
-    ensures finds { Finds R.left from filter.now.form filter.now.filter.now place (O.contents out.old) (O.contents out.new) result }
+    ensures finds { Finds R.left from printer.now.form printer.now.filter.now place (O.contents out.old) (O.contents out.new) result }
 
     // The next bytes of the source are taken, and its fault is returned if and only if it failed.
     ensures gave { (given : List ℕ) × Consumes (R.left from) (R.left result.source) given }
     ensures source_broke { (result.read ≡ Err Fault.Device) ↔ (R.failures result.source ≢ R.failures from) }
 {
-    let mut reader = match Reader::open(alloc, from) {
+    let mut reader = match Reader::open(printer.alloc, from) {
         Ok(reader) => reader,
         Err((source, fault)) => {
             return Found {
@@ -66,7 +64,7 @@ pub fn explain_one<R: Source, O: PrintSink>(
     let read = go_to(&mut reader, place);
     // What was read so far begins what the capture holds.
     given_so_far(&reader);
-    let printed = print_found(alloc, filter, place, read, &reader, out);
+    let printed = print_found(printer, place, read, &reader, out);
     Found {
         source: reader.close(),
         read,
@@ -95,18 +93,17 @@ pub(crate) fn go_to<R: Source>(reader: &mut Reader<R>, place: u64) -> Result<boo
 
 /// Prints the packet that a reader went on to, where it did.
 fn print_found<R: Source, O: PrintSink>(
-    alloc: Global,
-    filter: &FilterWithProgram<'_, '_>,
+    printer: &FullPrinter<'_, '_>,
     place: u64,
     read: Result<bool, Fault>,
     reader: &Reader<R>,
     out: &mut O,
 ) -> Result<(), Unprinted>
     requires { read ≡ Ok true → Lends reader.now }
-    ensures { PrintsFound filter.now.form filter.now.filter.now place reader.now.lent (O.contents out.old) (O.contents out.new) read result }
+    ensures { PrintsFound printer.now.form printer.now.filter.now place reader.now.lent (O.contents out.old) (O.contents out.new) read result }
 {
     match read {
-        Ok(true) => print_whole(alloc, filter, place, &reader.packet(), out),
+        Ok(true) => print_whole(printer, place, &reader.packet(), out),
         Ok(false) => Ok(()),
         Err(_) => Ok(()),
     }
@@ -114,45 +111,42 @@ fn print_found<R: Source, O: PrintSink>(
 
 /// Prints a packet in full, in the form that is asked for.
 pub(crate) fn print_whole<O: PrintSink>(
-    alloc: Global,
-    filter: &FilterWithProgram<'_, '_>,
+    printer: &FullPrinter<'_, '_>,
     place: u64,
     packet: &PacketRef<'_>,
     out: &mut O,
 ) -> Result<(), Unprinted>
-    ensures prints { PrintsWhole filter.now.form filter.now.filter.now place packet.now (O.contents out.old) (O.contents out.new) result }
+    ensures prints { PrintsWhole printer.now.form printer.now.filter.now place packet.now (O.contents out.old) (O.contents out.new) result }
     ensures handed_on { OnOk result (O.waits out.new ≡ false) }
 {
-    match filter.form {
-        PacketForm::Text => print_text(alloc, filter, place, packet, out),
-        PacketForm::Json(capture) => print_object(alloc, filter, capture, place, packet, out),
+    match printer.form {
+        PacketForm::Text => print_text(printer, place, packet, out),
+        PacketForm::Json(capture) => print_object(printer, capture, place, packet, out),
     }
 }
 
 /// Prints a packet's line, and then everything else about it.
 fn print_text<O: PrintSink>(
-    alloc: Global,
-    filter: &FilterWithProgram<'_, '_>,
+    printer: &FullPrinter<'_, '_>,
     place: u64,
     packet: &PacketRef<'_>,
     out: &mut O,
 ) -> Result<(), Unprinted>
-    ensures prints { PrintsWhole Text filter.now.filter.now place packet.now (O.contents out.old) (O.contents out.new) result }
+    ensures prints { PrintsWhole Text printer.now.filter.now place packet.now (O.contents out.old) (O.contents out.new) result }
     ensures handed_on { OnOk result (O.waits out.new ≡ false) }
 {
-    let mut buffer = PacketLine::new(alloc);
+    let mut buffer = PacketLine::new(printer.alloc);
     let asking = Asking {
-        filter: filter.filter,
+        filter: printer.filter,
         form: PacketForm::Text,
     };
     print_line(&asking, place, packet, &mut buffer, out)?;
-    print_rest(alloc, filter, place, packet, out)
+    print_rest(printer, place, packet, out)
 }
 
 /// Prints what follows a packet's line.
 fn print_rest<O: PrintSink>(
-    alloc: Global,
-    filter: &FilterWithProgram<'_, '_>,
+    printer: &FullPrinter<'_, '_>,
     place: u64,
     packet: &PacketRef<'_>,
     out: &mut O,
@@ -160,24 +154,23 @@ fn print_rest<O: PrintSink>(
     ensures prints { PrintsMore (O.contents out.old) (O.contents out.new) result }
     ensures handed_on { OnOk result (O.waits out.new ≡ false) }
 {
-    let text = whole_text(alloc, filter, place, packet)?;
+    let text = whole_text(printer, place, packet)?;
     send_last(text.as_bytes(), out)?;
     Ok(())
 }
 
 /// Prints the object of a packet of the capture of this number, with everything about it.
 fn print_object<O: PrintSink>(
-    alloc: Global,
-    filter: &FilterWithProgram<'_, '_>,
+    printer: &FullPrinter<'_, '_>,
     capture: usize,
     place: u64,
     packet: &PacketRef<'_>,
     out: &mut O,
 ) -> Result<(), Unprinted>
-    ensures prints { PrintsWhole (Json capture) filter.now.filter.now place packet.now (O.contents out.old) (O.contents out.new) result }
+    ensures prints { PrintsWhole (Json capture) printer.now.filter.now place packet.now (O.contents out.old) (O.contents out.new) result }
     ensures handed_on { OnOk result (O.waits out.new ≡ false) }
 {
-    let object = whole_object(alloc, filter, capture, place, packet)?;
+    let object = whole_object(printer, capture, place, packet)?;
     send_last(object.as_bytes(), out)?;
     Ok(())
 }

@@ -8,13 +8,12 @@ ghost use Rattle.savefile.specs.Reader.{HasGiven, Lends};
 ghost use Rattle.cli_explain.specs.Range.{FindsRange, PrintsRange, ShowsRange};
 
 use crate::one::{Found, go_to, print_whole};
-use crate::program::FilterWithProgram;
+use crate::printer::FullPrinter;
 use cli_answers::printing::Unprinted;
 use cli_args::places::PlaceRange;
 use cli_watch::output::PrintSink;
 use savefile::laws::given_so_far;
 use savefile::{Fault, Reader, Source};
-use std::alloc::Global;
 
 /// Prints all of the packets from one place of a capture to another, one after the other, each as [`explain_one`](crate::one::explain_one)
 /// does; if the last place is below the first, only that at the first. If the capture ends between these places, that is no fault.
@@ -23,14 +22,13 @@ use std::alloc::Global;
 /// did, after the packets before it. With [`Fault::NoMemory`] of the header the source is as it was. If `printed` has a fault, the packets
 /// before it are printed, and of the one that it came at what [`explain_one`](crate::one::explain_one) says.
 pub fn explain_range<R: Source, O: PrintSink>(
-    alloc: Global,
     from: R,
-    filter: &FilterWithProgram<'_, '_>,
+    printer: &FullPrinter<'_, '_>,
     places: PlaceRange,
     out: &mut O,
 ) -> Found<R>
     // Which packets there are, and what was printed of them.
-    ensures finds { FindsRange R.left from filter.now.form filter.now.filter.now places.first places.last (O.contents out.old) (O.contents out.new) result }
+    ensures finds { FindsRange R.left from printer.now.form printer.now.filter.now places.first places.last (O.contents out.old) (O.contents out.new) result }
 
     // The next bytes of the source are taken, and its fault is returned if and only if it failed.
     ensures gave { (given : List ℕ) × Consumes (R.left from) (R.left result.source) given }
@@ -39,7 +37,7 @@ pub fn explain_range<R: Source, O: PrintSink>(
     // If nothing waited and all was printed, nothing waits.
     ensures handed_on { O.waits out.old ≡ false → IsOk result.printed → O.waits out.new ≡ false }
 {
-    let mut reader = match Reader::open(alloc, from) {
+    let mut reader = match Reader::open(printer.alloc, from) {
         Ok(reader) => reader,
         Err((source, fault)) => {
             return Found {
@@ -49,7 +47,7 @@ pub fn explain_range<R: Source, O: PrintSink>(
             };
         }
     };
-    let ended = show_range(alloc, filter, places, &mut reader, out);
+    let ended = show_range(printer, places, &mut reader, out);
     Found {
         source: reader.close(),
         read: ended.read,
@@ -59,20 +57,19 @@ pub fn explain_range<R: Source, O: PrintSink>(
 
 /// Goes on to the first place, and prints the packets from there.
 fn show_range<R: Source, O: PrintSink>(
-    alloc: Global,
-    filter: &FilterWithProgram<'_, '_>,
+    printer: &FullPrinter<'_, '_>,
     places: PlaceRange,
     reader: &mut Reader<R>,
     out: &mut O,
 ) -> Found<()>
     ensures shows { (from : Option (List ℕ)) (header : Header) → HasGiven R.left from header [] reader.old →
-        ShowsRange from (R.left reader.new.source) header filter.now.form filter.now.filter.now places.first places.last (O.contents out.old) (O.contents out.new) result.read result.printed }
+        ShowsRange from (R.left reader.new.source) header printer.now.form printer.now.filter.now places.first places.last (O.contents out.old) (O.contents out.new) result.read result.printed }
     ensures taken { (bytes : List ℕ) × Consumes (R.left reader.old.source) (R.left reader.new.source) bytes }
     ensures source_broke { (result.read ≡ Err Fault.Device) ↔ (R.failures reader.new.source ≢ R.failures reader.old.source) }
     ensures handed_on { O.waits out.old ≡ false → IsOk result.printed → O.waits out.new ≡ false }
 {
     match go_to(reader, places.first) {
-        Ok(true) => print_range(alloc, filter, places, reader, out),
+        Ok(true) => print_range(printer, places, reader, out),
         Ok(false) => outcome(Ok(false), Ok(())),
         Err(fault) => outcome(Err(fault), Ok(())),
     }
@@ -92,8 +89,7 @@ fn outcome(read: Result<bool, Fault>, printed: Result<(), Unprinted>) -> Found<(
 
 /// Prints the packet that a reader lends, which is the first, and those after it, up to the last place.
 fn print_range<R: Source, O: PrintSink>(
-    alloc: Global,
-    filter: &FilterWithProgram<'_, '_>,
+    printer: &FullPrinter<'_, '_>,
     places: PlaceRange,
     reader: &mut Reader<R>,
     out: &mut O,
@@ -101,7 +97,7 @@ fn print_range<R: Source, O: PrintSink>(
     requires { Lends reader.old }
     ensures prints { (from : Option (List ℕ)) (header : Header) (before : List Packet) → length before ≡ places.first →
         HasGiven R.left from header (before ++ reader.old.lent ∷ []) reader.old →
-        PrintsRange from (R.left reader.new.source) header filter.now.form filter.now.filter.now places.first places.last before (O.contents out.old) (O.contents out.new) result.read result.printed }
+        PrintsRange from (R.left reader.new.source) header printer.now.form printer.now.filter.now places.first places.last before (O.contents out.old) (O.contents out.new) result.read result.printed }
     ensures taken { (bytes : List ℕ) × Consumes (R.left reader.old.source) (R.left reader.new.source) bytes }
     ensures source_broke { (result.read ≡ Err Fault.Device) ↔ (R.failures reader.new.source ≢ R.failures reader.old.source) }
     ensures handed_on { IsOk result.printed → O.waits out.new ≡ false }
@@ -110,7 +106,7 @@ fn print_range<R: Source, O: PrintSink>(
     loop {
         // Where the printing breaks off, what was read so far begins what the capture holds.
         given_so_far(reader);
-        let printed = print_whole(alloc, filter, place, &reader.packet(), out);
+        let printed = print_whole(printer, place, &reader.packet(), out);
         if printed.is_err() {
             return outcome(Ok(true), printed);
         }

@@ -1,6 +1,6 @@
 //! One packet in full.
 
-use crate::program::FilterWithProgram;
+use crate::printer::FullPrinter;
 use bpfvm::{Executed, Insn, NoMemory, PlacedInsn, Program, Traced, code, trace};
 use cli_answers::AskedFilter;
 use cli_answers::dump::{put_blanks, put_dump};
@@ -166,7 +166,7 @@ impl WholeText {
     /// Appends what follows a packet's line.
     fn put_whole(
         &mut self,
-        filter: &FilterWithProgram<'_, '_>,
+        printer: &FullPrinter<'_, '_>,
         place: u64,
         packet: &PacketRef<'_>,
     ) -> Result<(), NoMemory> {
@@ -175,7 +175,7 @@ impl WholeText {
             self.text,
             "places count from 0; tcpdump and Wireshark count packets from 1, and this is packet {shown} there\n"
         )?;
-        match filter.filter {
+        match printer.filter {
             AskedFilter::Expression(expr) => {
                 self.put_expression(expr, packet)?;
                 self.text.push_str("\nbytes, with those marked that the expression looked at:\n")?;
@@ -183,7 +183,7 @@ impl WholeText {
             AskedFilter::Program(_) => self.text.push_str("\nbytes:\n")?,
         }
         put_dump(&mut self.text, self.noted.as_slice(), packet.bytes)?;
-        put_program(self.alloc, &mut self.text, filter.program, packet)
+        put_program(self.alloc, &mut self.text, printer.program, packet)
     }
 }
 
@@ -299,16 +299,16 @@ fn put_program(
 
 /// What follows a packet's line.
 pub(crate) fn whole_text(
-    alloc: Global,
-    filter: &FilterWithProgram<'_, '_>,
+    printer: &FullPrinter<'_, '_>,
     place: u64,
     packet: &PacketRef<'_>,
 ) -> Result<String, NoMemory> {
+    let alloc = printer.alloc;
     let mut whole = WholeText {
         alloc,
         text: String::new(alloc),
         noted: Vec::new(alloc),
     };
-    whole.put_whole(filter, place, packet)?;
+    whole.put_whole(printer, place, packet)?;
     Ok(whole.text)
 }

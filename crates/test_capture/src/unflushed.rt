@@ -5,7 +5,7 @@ use crate::same::same;
 use cli_answers::filter::of_expression;
 use cli_answers::printing::Unprinted;
 use cli_answers::{AskedFilter, PacketForm};
-use cli_explain::FilterWithProgram;
+use cli_explain::FullPrinter;
 use cli_explain::each::explain_each;
 use cli_explain::one::explain_one;
 use filtergen::Refusal;
@@ -49,12 +49,13 @@ fn a_packet_that_is_not_sent_on_is_a_fault(rt: HostRuntime) {
     let (capture, filter) = asked(&rt);
     let taken = Vec::new(rt.alloc());
     let mut out = Printer(UnflushedWriter { taken });
-    let filter = FilterWithProgram {
+    let printer = FullPrinter {
+        alloc: rt.alloc(),
         filter: &filter,
         program: Err(Refusal::TooLong),
         form: PacketForm::Text,
     };
-    let found = explain_one(rt.alloc(), capture.as_slice(), &filter, 0, &mut out);
+    let found = explain_one(capture.as_slice(), &printer, 0, &mut out);
     same(&rt, is_output(&found.printed), true);
     assert!(rt; out.0.taken.starts_with(b"place 0 time 1.000000000 "));
 }

@@ -17,6 +17,6 @@ invariant-loop-capture g l =
     × TellsMore g.E.FaultSink.takes_hints g.E.FaultSink.failed g.E.Write.contents g.E.FaultSink.fault_form l.fn.err l.err
     × (F.known ≡ true → AllByRecursion works l.fn.captures.items → AllByRecursion works l.capture-iterator.rest.items)
     × (F.known ≡ true → AllByRecursion works l.fn.captures.items
-    → Leads g.F.Input.Source.left g.O.Write.contents g.E.FaultSink.takes_hints g.E.FaultSink.failed g.E.Write.contents g.E.FaultSink.fault_form l.asked.paths.now l.asked.filter.form l.asked.filter.filter.now l.asked.places.first l.asked.places.last l.fn.captures.items l.fn.out l.fn.err (F.failed l.files)
+    → Leads g.F.Input.Source.left g.O.Write.contents g.E.FaultSink.takes_hints g.E.FaultSink.failed g.E.Write.contents g.E.FaultSink.fault_form l.asked.paths.now l.asked.printer.form l.asked.printer.filter.now l.asked.places.first l.asked.places.last l.fn.captures.items l.fn.out l.fn.err (F.failed l.files)
     l.err l.number l.goes_on l.status l.capture-iterator.rest.items l.out)
     × (g.O.PrintSink.waits l.fn.out ≡ false → l.status ≡ Clean → g.O.PrintSink.waits l.out ≡ false)

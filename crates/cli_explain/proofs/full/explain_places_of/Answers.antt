@@ -14,7 +14,7 @@ returns-in-Ok-true-clause-finds g c tells works =
     let asked = c.args.asked.now in
     let call = c.explain_range-source in (
       call.result,
-      subst (λ form. FindsRange g.F.Input.Source.left c.args.capture form asked.filter.filter.now asked.places.first asked.places.last (g.O.Write.contents c.args.out.now) (g.O.Write.contents call.new.out) call.result)
+      subst (λ form. FindsRange g.F.Input.Source.left c.args.capture.source form asked.printer.filter.now asked.places.first asked.places.last (g.O.Write.contents c.args.out.now) (g.O.Write.contents call.new.out) call.result)
           c.of_capture-form.ensures call.ensures.finds,
       c.report_one-status.ensures.status,
       c.goes_on_after-goes_on.ensures,
@@ -27,12 +27,12 @@ returns-in-Ok-false-clause-finds g c tells works =
     let asked = c.args.asked.now in
     let call = c.explain_range-source in (
       call.result,
-      subst (λ form. FindsRange g.F.Input.Source.left c.args.capture form asked.filter.filter.now asked.places.first asked.places.last (g.O.Write.contents c.args.out.now) (g.O.Write.contents call.new.out) call.result)
+      subst (λ form. FindsRange g.F.Input.Source.left c.args.capture.source form asked.printer.filter.now asked.places.first asked.places.last (g.O.Write.contents c.args.out.now) (g.O.Write.contents call.new.out) call.result)
           c.of_capture-form.ensures call.ensures.finds,
       c.report_one-status.ensures.status,
       c.goes_on_after-goes_on.ensures,
       (λ device. c.done-noted.ensures.failed tells (λ none. call.ensures.source_broke.0 device (none ∙ sym works))),
-      found-later (λ says. TellsAmong g.E.FaultSink.takes_hints g.E.FaultSink.failed g.E.Write.contents g.E.FaultSink.fault_form says c.args.err.now c.report_one-status.new.err) (λ says. TellsAmong g.E.FaultSink.takes_hints g.E.FaultSink.failed g.E.Write.contents g.E.FaultSink.fault_form says c.args.err.now c.hint_place.new.err) asked.paths.now c.args.number asked.places.first call.result.read call.result.printed
+      found-later (λ says. TellsAmong g.E.FaultSink.takes_hints g.E.FaultSink.failed g.E.Write.contents g.E.FaultSink.fault_form says c.args.err.now c.report_one-status.new.err) (λ says. TellsAmong g.E.FaultSink.takes_hints g.E.FaultSink.failed g.E.Write.contents g.E.FaultSink.fault_form says c.args.err.now c.hint_place.new.err) asked.paths.now c.args.capture.number asked.places.first call.result.read call.result.printed
           (λ says told. among-quiet g.E.FaultSink.takes_hints g.E.FaultSink.failed g.E.Write.contents g.E.FaultSink.fault_form says c.args.err.now c.report_one-status.new.err c.hint_place.new.err told c.hint_place.ensures.quiet) c.report_one-status.ensures.told,
     )
 
@@ -41,12 +41,12 @@ returns-in-Err-clause-finds g c tells works =
     let asked = c.args.asked.now in
     let call = c.explain_range-source in (
       call.result,
-      subst (λ form. FindsRange g.F.Input.Source.left c.args.capture form asked.filter.filter.now asked.places.first asked.places.last (g.O.Write.contents c.args.out.now) (g.O.Write.contents call.new.out) call.result)
+      subst (λ form. FindsRange g.F.Input.Source.left c.args.capture.source form asked.printer.filter.now asked.places.first asked.places.last (g.O.Write.contents c.args.out.now) (g.O.Write.contents call.new.out) call.result)
           c.of_capture-form.ensures call.ensures.finds,
       c.report_one-status.ensures.status,
       c.goes_on_after-goes_on.ensures,
       (λ device. c.done-noted.ensures.failed tells (λ none. call.ensures.source_broke.0 device (none ∙ sym works))),
-      found-later (λ says. TellsAmong g.E.FaultSink.takes_hints g.E.FaultSink.failed g.E.Write.contents g.E.FaultSink.fault_form says c.args.err.now c.report_one-status.new.err) (λ says. TellsAmong g.E.FaultSink.takes_hints g.E.FaultSink.failed g.E.Write.contents g.E.FaultSink.fault_form says c.args.err.now c.hint_capture.new.err) asked.paths.now c.args.number asked.places.first call.result.read call.result.printed
+      found-later (λ says. TellsAmong g.E.FaultSink.takes_hints g.E.FaultSink.failed g.E.Write.contents g.E.FaultSink.fault_form says c.args.err.now c.report_one-status.new.err) (λ says. TellsAmong g.E.FaultSink.takes_hints g.E.FaultSink.failed g.E.Write.contents g.E.FaultSink.fault_form says c.args.err.now c.hint_capture.new.err) asked.paths.now c.args.capture.number asked.places.first call.result.read call.result.printed
           (λ says told. among-quiet g.E.FaultSink.takes_hints g.E.FaultSink.failed g.E.Write.contents g.E.FaultSink.fault_form says c.args.err.now c.report_one-status.new.err c.hint_capture.new.err told c.hint_capture.ensures.quiet) c.report_one-status.ensures.told,
     )
 

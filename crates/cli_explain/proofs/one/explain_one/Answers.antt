@@ -12,7 +12,7 @@ pub returns-clause-finds : goal.returns-clause-finds
 returns-clause-finds g c =
     let left = g.R.Source.left in
     let header = c.in-Ok.reader.header in
-    finds-it left c.args.from c.args.filter.now.form c.args.filter.now.filter.now c.args.place _ _ header c.go_to-read.new.reader _ c.go_to-read.result
+    finds-it left c.args.from c.args.printer.now.form c.args.printer.now.filter.now c.args.place _ _ header c.go_to-read.new.reader _ c.go_to-read.result
     (λ packets given. c.given_so_far.ensures (left c.args.from) header packets given)
     c.close.ensures refl (c.go_to-read.ensures.goes (left c.args.from) header c.in-Ok.ensures.ok) c.print_found-printed.ensures
 

@@ -18,10 +18,10 @@ returns-in-Ok-true-clause-taken g c =
 
 pub returns-in-Ok-false-clause-shows : goal.returns-in-Ok-false-clause-shows
 returns-in-Ok-false-clause-shows g c = λ from header given.
-    shows-none g.R.Source.left from header c.args.filter.now.form c.args.filter.now.filter.now c.args.places.first c.args.places.last c.go_to.new.reader c.go_to.result _ _ _ _
+    shows-none g.R.Source.left from header c.args.printer.now.form c.args.printer.now.filter.now c.args.places.first c.args.places.last c.go_to.new.reader c.go_to.result _ _ _ _
     (c.in-Ok-false.is ∙ ap Ok c.in-Ok-false.field-0-test) c.outcome.ensures.read c.outcome.ensures.printed (c.go_to.ensures.goes from header given)
 
 pub returns-in-Err-clause-shows : goal.returns-in-Err-clause-shows
 returns-in-Err-clause-shows g c = λ from header given.
-    shows-stopped g.R.Source.left from header c.args.filter.now.form c.args.filter.now.filter.now c.args.places.first c.args.places.last c.go_to.new.reader c.go_to.result _ _ c.in-Err.fault _ _
+    shows-stopped g.R.Source.left from header c.args.printer.now.form c.args.printer.now.filter.now c.args.places.first c.args.places.last c.go_to.new.reader c.go_to.result _ _ c.in-Err.fault _ _
     c.in-Err.is c.outcome-in-Err.ensures.read c.outcome-in-Err.ensures.printed (c.go_to.ensures.goes from header given)
