@@ -8,3 +8,4 @@ pub mod Closing
 pub mod Telling
 pub mod Statuses
 pub mod Headers
+pub mod Totals

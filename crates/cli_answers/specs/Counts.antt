@@ -72,6 +72,9 @@ abbrev pub counts_in : PacketForm → (packets accepted rejected aborted : ℕ) 
 counts_in Text packets accepted rejected aborted = counts_text packets accepted rejected aborted
 counts_in (Json capture) packets accepted rejected aborted = counts_json packets accepted rejected aborted
 
+abbrev pub line_of : PacketForm → VerdictCounts → List ℕ
+line_of form counts = counts_in form counts.packets counts.yes counts.no counts.abort
+
 -- the form that is asked for, of capture 0
 abbrev pub asked_form : Bool → PacketForm
 asked_form true = Json 0

@@ -8,5 +8,6 @@ pub mod Counts
 pub mod Reading
 pub mod Seeking
 pub mod Captures
+pub mod Lines
 pub mod Dumps
 pub mod Telling

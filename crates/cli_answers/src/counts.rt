@@ -1,8 +1,9 @@
 //! How many packets a filter answered so.
 
-ghost use Rattle.std.specs.Prelude.{◌≡◌, ◌<◌, ◌≤◌, ◌+◌, ◌^◌, false, OnOk, string_bytes};
+ghost use Rattle.std.specs.Prelude.{◌≡◌, ◌<◌, ◌≤◌, ◌+◌, ◌^◌, ℕ, List, false, OnOk, string_bytes};
 ghost use Rattle.line_text.specs.Sending.{Takes};
-ghost use Rattle.cli_answers.specs.Counts.{counted, counts_in, counts_json, counts_text, plus};
+ghost use Rattle.cli_answers.specs.declared.form.PacketForm.{PacketForm};
+ghost use Rattle.cli_answers.specs.Counts.{counted, counts_json, counts_text, line_of, no_counts, plus};
 
 use crate::form::PacketForm;
 use crate::printing::Unprinted;
@@ -10,6 +11,29 @@ use bpfvm::NoMemory;
 use cli_watch::frames::FrameCounts;
 use cli_watch::output::{PrintSink, send_last};
 use filter_meaning::Verdict;
+
+/// What is counted of the packets of captures, and printed after their lines.
+pub trait Counts: Copy {
+    /// The counts of no packets.
+    ghost none: { Self };
+
+    /// Those of the packets of both.
+    ghost sum: { Self → Self → Self };
+
+    /// Their line in a form.
+    ghost line_in: { PacketForm → Self → List ℕ };
+
+    fn none() -> Self
+        ensures { result ≡ none };
+
+    /// The counts of the packets of both, each up to 2^64 - 1.
+    fn plus(self, other: Self) -> Self
+        ensures { result ≡ sum self other };
+
+    /// Puts their line in place of what the line has.
+    fn put(self, form: PacketForm, line: &mut String) -> Result<(), NoMemory>
+        ensures { OnOk result (string_bytes line.new ≡ line_in form self) };
+}
 
 /// How many packets a filter was asked, and how many of these it answered Yes, No and Abort; and
 /// into how many frames no filter looks.
@@ -78,30 +102,43 @@ impl VerdictCounts {
     }
 }
 
+impl Counts for VerdictCounts {
+    ghost none = { no_counts };
+
+    ghost sum = { plus };
+
+    ghost line_in = { line_of };
+
+    fn none() -> VerdictCounts {
+        VerdictCounts::NONE
+    }
+
+    fn plus(self, other: VerdictCounts) -> VerdictCounts {
+        VerdictCounts::plus(self, other)
+    }
+
+    fn put(self, form: PacketForm, line: &mut String) -> Result<(), NoMemory> {
+        match form {
+            PacketForm::Text => put_counts_text(line, self),
+            PacketForm::Json(_) => put_counts_object(line, self),
+        }
+    }
+}
+
 /// Prints the counts, and all that the writer has gathered; the line that it is put together in may
 /// have any text.
-pub fn print_counts<O: PrintSink>(
-    counts: VerdictCounts,
+pub fn print_counts<C: Counts, O: PrintSink>(
+    counts: C,
     form: PacketForm,
     line: &mut String,
     out: &mut O,
 ) -> Result<(), Unprinted>
-    ensures taken { Takes (O.contents out.old) (O.contents out.new) result (counts_in form counts.packets counts.yes counts.no counts.abort) }
+    ensures taken { Takes (O.contents out.old) (O.contents out.new) result (C.line_in form counts) }
     ensures handed_on { OnOk result (O.waits out.new ≡ false) }
 {
-    put_counts(line, form, counts)?;
+    counts.put(form, line)?;
     send_last(line.as_bytes(), out)?;
     Ok(())
-}
-
-/// Puts the line of the counts in place of what the line has.
-fn put_counts(line: &mut String, form: PacketForm, counts: VerdictCounts) -> Result<(), NoMemory>
-    ensures { OnOk result (string_bytes line.new ≡ counts_in form counts.packets counts.yes counts.no counts.abort) }
-{
-    match form {
-        PacketForm::Text => put_counts_text(line, counts),
-        PacketForm::Json(_) => put_counts_object(line, counts),
-    }
 }
 
 #[tactic(auto, unfolding(crate::specs::Counts::counts_text))]

@@ -11,6 +11,7 @@ pub mod form;
 pub mod hints;
 pub mod json;
 pub mod line;
+pub mod lines;
 pub mod opened;
 pub mod printing;
 pub mod report;

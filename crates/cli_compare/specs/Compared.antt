@@ -6,13 +6,13 @@ use Rattle.savefile.specs.declared.header.Header.{Header}
 use Rattle.savefile.specs.declared.packet.Packet.{Packet}
 use Rattle.savefile.specs.Reader.{WasBegun}
 use Rattle.line_text.specs.Sending.{TakesPart}
+use Rattle.cli_answers.specs.declared.lines.Printed.{Printed}
 use Rattle.cli_answers.specs.declared.printing.Unprinted.{Unprinted}
 use Rattle.cli_answers.specs.declared.printing.Unprinted.TheVariants as unprinted
 use Rattle.cli_answers.specs.declared.form.PacketForm.{PacketForm}
 use Rattle.cli_answers.specs.Answers.{Answer}
 use Rattle.cli_answers.specs.Objects.{IsAnswerIn, IsJsonAnswer}
 use Rattle.cli_answers.specs.Reading.{IsUnopened, ReadsTo}
-use Rattle.cli_compare.specs.declared.each.Compared.{Compared}
 use Rattle.cli_compare.specs.declared.each.DifferenceCounts.{DifferenceCounts}
 use Rattle.cli_compare.specs.declared.pair.FilterPair.{FilterPair}
 use Rattle.cli_compare.specs.Pairs.{AreCounts, AreDifferences, Difference, differs}
@@ -32,7 +32,7 @@ PrintsDifferences form pair from left header old new counts read done =
     × IsOk done × Appends old new (difference_lines form differences) × AreCounts pair counts packets)
 
 -- The header was not read, and nothing was printed; or the packets up to some end were compared.
-abbrev pub Compares : {R : Type 0} → (R → Option (List ℕ)) → R → PacketForm → FilterPair → Option (List ℕ) → Option (List ℕ) → Compared R → Type 0
+abbrev pub Compares : {R : Type 0} → (R → Option (List ℕ)) → R → PacketForm → FilterPair → Option (List ℕ) → Option (List ℕ) → Printed R DifferenceCounts → Type 0
 Compares left from form pair old new c =
     ((fault : Fault) × IsUnopened left from c.source fault × IsErrOf c.read fault × IsOk c.printed × Keeps old new × AreCounts pair c.counts []
     × (c.opened ≡ false))

@@ -4,7 +4,6 @@ use Rattle.std.specs.Prelude.{◌≡◌, ◌≢◌, ◌⊎◌, ◌+◌, ◌^◌,
 use Rattle.std.specs.Borrow.{Bor}
 use Rattle.std.specs.List.{AllZip}
 use Rattle.std.specs.declared.io.Error.{Error}
-use Rattle.line_text.specs.Sending.{Takes}
 use Rattle.savefile.specs.Savefile.{encoded}
 use Rattle.savefile.specs.Writer.{IsBeginning}
 use Rattle.savefile.specs.declared.fault.Fault.{Fault}
@@ -26,17 +25,17 @@ use Rattle.cli_answers.specs.declared.asked.Unasked.TheVariants as unasked
 use Rattle.cli_answers.specs.declared.captures.LinesEnd.{LinesEnd}
 use Rattle.cli_answers.specs.declared.captures.SoughtCaptures.{SoughtCaptures}
 use Rattle.cli_answers.specs.declared.captures.SoughtEnd.{SoughtEnd}
+use Rattle.cli_answers.specs.declared.lines.PrintedCaptures.{PrintedCaptures}
 use Rattle.cli_answers.specs.declared.printing.Unprinted.{Unprinted}
 use Rattle.cli_answers.specs.declared.form.PacketForm.{PacketForm}
 use Rattle.cli_answers.specs.Asked.{IsAskedFor, IsCaptureAt, IsFileStatus, IsUnaskedStatus, IsUngiven, IsUnopened}
 use Rattle.cli_answers.specs.Captures.{SeeksIn}
 use Rattle.cli_answers.specs.Counts.{asked_form}
+use Rattle.cli_answers.specs.Lines.{PrintsTotals}
 use Rattle.cli_answers.specs.Telling.{TellsEnd, TellsStop, TellsUnprinted, printed_status, stop_status}
 use Rattle.cli_compare.specs.declared.asked.PairAsked.{PairAsked}
 use Rattle.cli_compare.specs.declared.asked.Uncompared.{Uncompared}
 use Rattle.cli_compare.specs.declared.asked.Uncompared.TheVariants.{First, Second, Files}
-use Rattle.cli_compare.specs.declared.captures.ComparedCaptures.{ComparedCaptures}
-use Rattle.cli_compare.specs.declared.captures.ComparedTotals.{ComparedTotals}
 use Rattle.cli_compare.specs.declared.each.DifferenceCounts.{DifferenceCounts}
 use Rattle.cli_compare.specs.declared.outcome.OutFault.{OutFault}
 use Rattle.cli_compare.specs.declared.outcome.OutFault.TheVariants.{Unmade, Unwritten}
@@ -44,7 +43,7 @@ use Rattle.cli_compare.specs.declared.pair.FilterPair.{FilterPair}
 use Rattle.cli_compare.specs.Captures.{ComparesIn}
 use Rattle.cli_compare.specs.Deciding.{HoldsOfPair, Prints, answer_status, packet_of, packet_of_witness}
 use Rattle.cli_compare.specs.Pairs.{differs}
-use Rattle.cli_compare.specs.Printed.{counts_in}
+use Rattle.cli_compare.specs.Printed.{line_of}
 use Rattle.cli_compare.specs.Telling.{IsRefusedReport, TellsOut, line_of_refusal, sameness_status}
 
 -- ---- What is asked
@@ -111,13 +110,6 @@ Refuses place text printed failed words one old new ended =
 
 -- ---- A line for each packet that is treated differently
 
--- the counts of all captures were printed, if a header was read and all lines were printed
-pub record PrintsTotals {O : Type 0} (contents : O → Option (List ℕ)) (form : PacketForm) (totals : ComparedTotals) (old new : O) (printed : Result (Unit {0}) Unprinted) : Type 0 where
-  pub unopened : totals.opened ≡ false → (printed ≡ totals.printed) × (new ≡ old)
-  pub broken : IsErr totals.printed → (printed ≡ totals.printed) × (new ≡ old)
-  pub counted : totals.opened ≡ true → IsOk totals.printed →
-      Takes (contents old) (contents new) printed (counts_in form totals.counts.packets (totals.counts.first + totals.counts.second) totals.counts.first totals.counts.second)
-
 -- The lines of the packets that the filters treat differently were printed, capture by capture up
 -- to the first fault, in the form that is asked for; and then the counts of all. A device's fault
 -- comes only if one failed.
@@ -125,9 +117,9 @@ pub record PrintsLines {R O : Type 0} (left : R → Option (List ℕ)) (failures
   pub asked : PairAsked R
   pub asks : Asks left failures place text printed words asked
   pub mid : O
-  pub compared : ComparedCaptures R
+  pub compared : PrintedCaptures R DifferenceCounts
   pub lines : ComparesIn left failures contents (asked_form words.json) asked.pair asked.captures.items old mid compared
-  pub sums : PrintsTotals contents (asked_form words.json) compared.totals mid new end.printed
+  pub sums : PrintsTotals contents (line_of (asked_form words.json)) compared.totals mid new end.printed
   pub counts : end.counts ≡ compared.totals.counts
   pub read : end.read ≡ compared.read
   pub broke : (n : ℕ) → end.read ≡ Err (stop n Device) → failed ≡ true

@@ -6,7 +6,7 @@ use Rattle.cli_answers.specs.declared.form.PacketForm.{PacketForm}
 use Rattle.cli_answers.specs.Answers.{Answer}
 use Rattle.cli_answers.specs.Objects.{IsAnswerIn}
 use Rattle.cli_watch.specs.Frames.{is_unseen}
-use Rattle.cli_answers.specs.Counts.{more_if}
+use Rattle.cli_answers.specs.Counts.{more_if, sum_of}
 use Rattle.cli_answers.specs.Seeking.{accepts}
 use Rattle.cli_compare.specs.declared.each.DifferenceCounts.{DifferenceCounts}
 use Rattle.cli_compare.specs.declared.pair.Agreement.{Agreement}
@@ -58,6 +58,19 @@ abbrev pub counted : Agreement → Bool → DifferenceCounts → DifferenceCount
 counted FirstOnly unseen c = record { packets = c.packets + 1; first = c.first + 1; second = c.second; unseen = more_if unseen c.unseen }
 counted SecondOnly unseen c = record { packets = c.packets + 1; first = c.first; second = c.second + 1; unseen = more_if unseen c.unseen }
 counted Same unseen c = record { packets = c.packets + 1; first = c.first; second = c.second; unseen = more_if unseen c.unseen }
+
+-- the counts of no packets
+abbrev pub no_counts : DifferenceCounts
+no_counts = record { packets = 0; first = 0; second = 0; unseen = 0 }
+
+-- those of the packets of both
+abbrev pub plus : DifferenceCounts → DifferenceCounts → DifferenceCounts
+plus a b = record {
+  packets = sum_of a.packets b.packets;
+  first = sum_of a.first b.first;
+  second = sum_of a.second b.second;
+  unseen = sum_of a.unseen b.unseen;
+}
 
 -- ---- The packets that are treated differently
 

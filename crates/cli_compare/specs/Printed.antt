@@ -1,5 +1,5 @@
 -- What is printed of the packets that two filters treat differently.
-use Rattle.std.specs.Prelude.{ℕ, List, ◌++◌, codes}
+use Rattle.std.specs.Prelude.{ℕ, ◌+◌, List, ◌++◌, codes}
 use Rattle.std.specs.Fmt.{decimal}
 use Rattle.std.specs.List.{flat_map}
 use Rattle.filter_explain.specs.Deciding.{verdict_text}
@@ -9,6 +9,7 @@ use Rattle.cli_answers.specs.declared.form.PacketForm.TheVariants.{Text, Json}
 use Rattle.cli_answers.specs.Answers.{Answer}
 use Rattle.cli_answers.specs.Objects.{packet_json, verdict_json}
 use Rattle.cli_answers.specs.Printed.{packet_text}
+use Rattle.cli_compare.specs.declared.each.DifferenceCounts.{DifferenceCounts}
 use Rattle.cli_compare.specs.Pairs.{Difference}
 
 -- `place P time S.NNNNNNNNN len W captured C first Yes REASON second No REASON`
@@ -51,3 +52,6 @@ counts_json packets differ first second =
 abbrev pub counts_in : PacketForm → (packets differ first second : ℕ) → List ℕ
 counts_in Text packets differ first second = counts_text packets differ first second
 counts_in (Json capture) packets differ first second = counts_json packets differ first second
+
+abbrev pub line_of : PacketForm → DifferenceCounts → List ℕ
+line_of form counts = counts_in form counts.packets (counts.first + counts.second) counts.first counts.second

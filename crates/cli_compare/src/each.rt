@@ -1,22 +1,23 @@
 //! The packets of a capture that two filters treat differently: the function under `bpftap compare`.
 
-ghost use Rattle.std.specs.Prelude.{◌≡◌, ◌≢◌, ◌↔◌, ◌<◌, ◌≤◌, ◌+◌, ◌-◌, ◌^◌, ℕ, min, List, Option, [], Err, IfErr, IfOk, OnOk, false};
+ghost use Rattle.std.specs.Prelude.{◌≡◌, ◌≢◌, ◌↔◌, ◌<◌, ◌≤◌, ◌+◌, ◌^◌, ℕ, List, Option, [], Err, IfErr, IfOk};
 ghost use Rattle.std.specs.Io.KnownBytes.{Consumes};
 ghost use Rattle.savefile.specs.declared.header.Header.{Header};
 ghost use Rattle.savefile.specs.Reader.{HasGiven};
-ghost use Rattle.line_text.specs.Sending.{Takes};
 ghost use Rattle.cli_compare.specs.Compared.{Compares, PrintsDifferences, PrintsOne, IsOneBroken};
-ghost use Rattle.cli_compare.specs.Pairs.{agreement, counted};
-ghost use Rattle.cli_compare.specs.Printed.{counts_in};
+ghost use Rattle.cli_compare.specs.Pairs.{agreement, counted, no_counts, plus};
+ghost use Rattle.cli_compare.specs.Printed.{line_of};
 
 use crate::line::{Comparing, put_counts, put_difference};
 use crate::pair::{Agreement, FilterPair};
+use bpfvm::NoMemory;
 use cli_answers::PacketForm;
 use cli_answers::ahead::advance_flushed;
+use cli_answers::counts::Counts;
 use cli_answers::form::PacketLine;
+use cli_answers::lines::Printed;
 use cli_answers::printing::Unprinted;
 use cli_watch::frames::{FrameCounts, is_unseen};
-use cli_watch::output::{PrintSink, send_last};
 use line_text::sending::send;
 use savefile::laws::given_so_far;
 use savefile::{Fault, PacketRef, Reader, Source};
@@ -35,20 +36,6 @@ pub struct DifferenceCounts {
     pub unseen: u64,
 }
 
-/// What comparing two filters by a capture came to.
-#[derive(Debug, Drop)]
-pub struct Compared<R> {
-    pub source: R,
-    /// Whether the header was read.
-    pub opened: bool,
-    /// Of all packets that were read, if all was printed.
-    pub counts: DifferenceCounts,
-    /// The fault that ended the capture, if one did.
-    pub read: Result<(), Fault>,
-    /// Whether all was printed.
-    pub printed: Result<(), Unprinted>,
-}
-
 impl DifferenceCounts {
     /// Of no packets.
     pub const NONE: DifferenceCounts = DifferenceCounts {
@@ -63,21 +50,6 @@ impl DifferenceCounts {
         ensures { result ≡ self.first + self.second }
     {
         u128::from(self.first) + u128::from(self.second)
-    }
-
-    /// The counts of the packets of both, each up to 2^64 - 1.
-    pub fn plus(self, other: DifferenceCounts) -> DifferenceCounts
-        ensures packets { result.packets ≡ min (self.packets + other.packets) (2 ^ 64 - 1) }
-        ensures first { result.first ≡ min (self.first + other.first) (2 ^ 64 - 1) }
-        ensures second { result.second ≡ min (self.second + other.second) (2 ^ 64 - 1) }
-        ensures unseen { result.unseen ≡ min (self.unseen + other.unseen) (2 ^ 64 - 1) }
-    {
-        DifferenceCounts {
-            packets: self.packets.saturating_add(other.packets),
-            first: self.first.saturating_add(other.first),
-            second: self.second.saturating_add(other.second),
-            unseen: self.unseen.saturating_add(other.unseen),
-        }
     }
 
     /// The frames, and into how many of them no filter looks.
@@ -111,12 +83,38 @@ impl DifferenceCounts {
     }
 }
 
+impl Counts for DifferenceCounts {
+    ghost none = { no_counts };
+
+    ghost sum = { plus };
+
+    ghost line_in = { line_of };
+
+    fn none() -> DifferenceCounts {
+        DifferenceCounts::NONE
+    }
+
+    fn plus(self, other: DifferenceCounts) -> DifferenceCounts {
+        DifferenceCounts {
+            packets: self.packets.saturating_add(other.packets),
+            first: self.first.saturating_add(other.first),
+            second: self.second.saturating_add(other.second),
+            unseen: self.unseen.saturating_add(other.unseen),
+        }
+    }
+
+    /// `253 packets: 3 differ, 2 accepted by the first alone, 1 by the second`, or an object with these.
+    fn put(self, form: PacketForm, line: &mut String) -> Result<(), NoMemory> {
+        put_counts(line, form, self)
+    }
+}
+
 /// Prints a line for each packet of a capture that one of two filters accepts and the other does not.
 ///
 /// `place 2 time 1600000000.000000000 len 98 captured 98 first Yes tcp port 8080 second No 0 at 3: ret #0`: the packet's place in the
 /// capture, from 0, when it was captured, its length on the wire and how many bytes of it were captured; and what each filter answers and
 /// why, as `bpftap explain` prints it; or an object of JSON with the same. No and Abort are the same here, since both reject the packet.
-/// `counts` are of all packets; [`print_counts`] prints them.
+/// `counts` are of all packets.
 ///
 /// Each line is sent before the next packet is read, and the writer is flushed whenever the source has to be asked for that. `read` has the header's fault, and then nothing is printed; with
 /// [`Fault::NoMemory`] the source is as it was too. It has the fault of the first torn or bad record, after the lines of the packets before
@@ -128,7 +126,7 @@ pub fn compare_each<R: Source, O: Write>(
     pair: &FilterPair,
     form: PacketForm,
     out: &mut O,
-) -> Compared<R>
+) -> Printed<R, DifferenceCounts>
     // Which packets differ, with which answers, what was printed, and how that ended.
     ensures compares { Compares R.left from form pair.now (O.contents out.old) (O.contents out.new) result }
 
@@ -139,7 +137,7 @@ pub fn compare_each<R: Source, O: Write>(
     let mut reader = match Reader::open(alloc, from) {
         Ok(reader) => reader,
         Err((source, fault)) => {
-            return Compared {
+            return Printed {
                 source,
                 opened: false,
                 counts: DifferenceCounts::NONE,
@@ -149,31 +147,12 @@ pub fn compare_each<R: Source, O: Write>(
         }
     };
     let ended = print_differences(alloc, &mut reader, &Comparing { pair, form }, out);
-    Compared {
+    Printed {
         source: reader.close(),
         opened: true,
         counts: ended.counts,
         read: ended.read,
         printed: ended.printed,
-    }
-}
-
-/// What comparing came to, of a reader that its caller has.
-fn outcome(
-    counts: DifferenceCounts,
-    read: Result<(), Fault>,
-    printed: Result<(), Unprinted>,
-) -> Compared<()>
-    ensures counts { result.counts ≡ counts }
-    ensures read { result.read ≡ read }
-    ensures printed { result.printed ≡ printed }
-{
-    Compared {
-        source: (),
-        opened: true,
-        counts,
-        read,
-        printed,
     }
 }
 
@@ -183,7 +162,7 @@ fn print_differences<R: Source, O: Write>(
     reader: &mut Reader<R>,
     comparing: &Comparing<'_>,
     out: &mut O,
-) -> Compared<()>
+) -> Printed<(), DifferenceCounts>
     ensures prints { (from : Option (List ℕ)) (header : Header) → HasGiven R.left from header [] reader.old →
         PrintsDifferences comparing.now.form comparing.now.pair.now from (R.left reader.new.source) header (O.contents out.old) (O.contents out.new) result.counts result.read result.printed }
     ensures taken { (bytes : List ℕ) × Consumes (R.left reader.old.source) (R.left reader.new.source) bytes }
@@ -199,11 +178,11 @@ fn print_differences<R: Source, O: Write>(
                 let packet = reader.packet();
                 match print_one(comparing, counts.packets, &packet, &mut buffer, out) {
                     Ok(agreement) => counts.count(agreement, is_unseen(packet.bytes)),
-                    Err(unprinted) => return outcome(counts, Ok(()), Err(unprinted)),
+                    Err(unprinted) => return Printed::of_reader(counts, Ok(()), Err(unprinted)),
                 }
             }
-            Ok(false) => return outcome(counts, Ok(()), Ok(())),
-            Err(fault) => return outcome(counts, Err(fault), Ok(())),
+            Ok(false) => return Printed::of_reader(counts, Ok(()), Ok(())),
+            Err(fault) => return Printed::of_reader(counts, Err(fault), Ok(())),
         }
     }
 }
@@ -227,20 +206,4 @@ fn print_one<O: Write>(
     put_difference(buffer, comparing, place, packet)?;
     send(buffer.line.as_bytes(), out)?;
     Ok(found)
-}
-
-/// Prints the counts, and all that the writer has gathered: `253 packets: 3 differ, 2 accepted by the first alone, 1 by the second`.
-pub fn print_counts<O: PrintSink>(
-    alloc: Global,
-    counts: DifferenceCounts,
-    form: PacketForm,
-    out: &mut O,
-) -> Result<(), Unprinted>
-    ensures taken { Takes (O.contents out.old) (O.contents out.new) result (counts_in form counts.packets (counts.first + counts.second) counts.first counts.second) }
-    ensures handed_on { OnOk result (O.waits out.new ≡ false) }
-{
-    let mut line = String::new(alloc);
-    put_counts(&mut line, form, counts)?;
-    send_last(line.as_bytes(), out)?;
-    Ok(())
 }

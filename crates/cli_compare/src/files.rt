@@ -6,10 +6,11 @@ ghost use Rattle.cli_store.specs.Files.{Keeps};
 ghost use Rattle.cli_compare.specs.Comparing.{IsRefused, PrintsLines, Seeks};
 
 use crate::asked::{PairAsked, Uncompared, ask_pair};
-use crate::captures::{ComparedCaptures, compare_captures, print_totals};
+use crate::captures::compare_captures;
 use crate::each::DifferenceCounts;
 use cli_answers::PacketForm;
 use cli_answers::captures::{LinesEnd, SoughtCaptures, SoughtEnd, find_in_captures, read_of};
+use cli_answers::lines::{PrintedCaptures, print_totals};
 use cli_answers::opened::close_captures;
 use cli_args::compare::CompareWords;
 use cli_store::FileStore;
@@ -33,7 +34,7 @@ pub fn compare_files<'p, F: FileStore<'p>, O: PrintSink>(
 {
     let PairAsked { pair, captures } = ask_pair(alloc, files, words)?;
     let form = PacketForm::asked(words.json);
-    let ComparedCaptures {
+    let PrintedCaptures {
         sources,
         totals,
         read,

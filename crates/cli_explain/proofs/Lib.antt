@@ -1,7 +1,5 @@
 pub mod Answered
 pub mod Printing
 pub mod Ranging
-pub mod Visits
-pub mod Stopping
 pub mod InFull
 pub mod Handing

@@ -17,7 +17,7 @@ use Rattle.cli_answers.specs.declared.counts.VerdictCounts.{VerdictCounts}
 use Rattle.cli_answers.specs.declared.printing.Unprinted.{Unprinted}
 use Rattle.cli_answers.specs.declared.printing.Unprinted.TheVariants as unprinted
 use Rattle.cli_answers.specs.declared.filter.AskedFilter.{AskedFilter}
-use Rattle.cli_explain.specs.declared.each.Explained.{Explained}
+use Rattle.cli_answers.specs.declared.lines.Printed.{Printed}
 use Rattle.cli_explain.specs.declared.one.Found.{Found}
 use Rattle.cli_answers.specs.declared.form.PacketForm.{PacketForm}
 use Rattle.cli_answers.specs.declared.form.PacketForm.TheVariants.{Text, Json}
@@ -84,7 +84,7 @@ all-of form f from left header old mid new c read (Err u) told lines failed prin
     let (same, stays) = failed refl in rw (same, stays) (lines-alone form f from left header old mid c read (Err u) refl lines)
 
 -- the same of a capture whose header may not be read
-pub each-of : {R : Type 0} (left : R → Option (List ℕ)) (from : R) (form : PacketForm) (f : AskedFilter) (old mid new : Option (List ℕ)) (e : Explained R) (told : Result (Unit {0}) Unprinted) →
+pub each-of : {R : Type 0} (left : R → Option (List ℕ)) (from : R) (form : PacketForm) (f : AskedFilter) (old mid new : Option (List ℕ)) (e : Printed R VerdictCounts) (told : Result (Unit {0}) Unprinted) →
     ExplainsLines left from form f old mid e → (e.opened ≡ false → (told ≡ e.printed) × (new ≡ mid)) → (IsErr e.printed → (told ≡ e.printed) × (new ≡ mid)) →
     (e.opened ≡ true → IsOk e.printed → Takes mid new told (counts_in form e.counts.packets e.counts.yes e.counts.no e.counts.abort)) →
     Explains left from form f old new (record { source = e.source; opened = e.opened; counts = e.counts; read = e.read; printed = told })

@@ -12,7 +12,7 @@ use Rattle.filter_meaning.specs.declared.verdict.Verdict.TheVariants.{Yes, No, A
 use Rattle.line_text.specs.Sending.{TakesPart}
 use Rattle.line_text.specs.Texts.{numbered}
 use Rattle.cli_answers.specs.declared.counts.VerdictCounts.{VerdictCounts}
-use Rattle.cli_explain.specs.declared.each.Explained.{Explained}
+use Rattle.cli_answers.specs.declared.lines.Printed.{Printed}
 use Rattle.cli_answers.specs.declared.printing.Unprinted.{Unprinted}
 use Rattle.cli_answers.specs.declared.printing.Unprinted.TheVariants as unprinted
 use Rattle.cli_explain.specs.declared.one.Found.{Found}
@@ -75,14 +75,14 @@ PrintsAll form filter from left header old new counts read done =
     × Prints form old new answers counts done)
 
 -- The header was not read, and nothing was printed; or the packets up to some end were answered, and that was printed.
-abbrev pub Explains : {R : Type 0} → (R → Option (List ℕ)) → R → PacketForm → AskedFilter → Option (List ℕ) → Option (List ℕ) → Explained R → Type 0
+abbrev pub Explains : {R : Type 0} → (R → Option (List ℕ)) → R → PacketForm → AskedFilter → Option (List ℕ) → Option (List ℕ) → Printed R VerdictCounts → Type 0
 Explains left from form filter old new e =
     ((fault : Fault) × IsUnopened left from e.source fault × IsErrOf e.read fault × IsOk e.printed × Keeps old new × AreCounts e.counts []
     × (e.opened ≡ false))
     ⊎ ((e.opened ≡ true) × (header : Header) × PrintsAll form filter (left from) (left e.source) header old new e.counts e.read e.printed)
 
 -- the same without the line of the counts
-abbrev pub ExplainsLines : {R : Type 0} → (R → Option (List ℕ)) → R → PacketForm → AskedFilter → Option (List ℕ) → Option (List ℕ) → Explained R → Type 0
+abbrev pub ExplainsLines : {R : Type 0} → (R → Option (List ℕ)) → R → PacketForm → AskedFilter → Option (List ℕ) → Option (List ℕ) → Printed R VerdictCounts → Type 0
 ExplainsLines left from form filter old new e =
     ((fault : Fault) × IsUnopened left from e.source fault × IsErrOf e.read fault × IsOk e.printed × Keeps old new × AreCounts e.counts []
     × (e.opened ≡ false))

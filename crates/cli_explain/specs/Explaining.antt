@@ -1,7 +1,6 @@
 -- What `bpftap explain` prints of files and reports, and its exit status. Read it from the last definition up.
-use Rattle.std.specs.Prelude.{◌≡◌, ◌⊎◌, ℕ, ◌+◌, Bool, true, false, List, [], ◌∷◌, Option, Some, None, Result, Ok, Err, IsErr, IsOk, option_copied}
+use Rattle.std.specs.Prelude.{◌≡◌, ◌⊎◌, ℕ, ◌+◌, Bool, true, false, List, [], ◌∷◌, Option, Some, None, Result, Ok, Err, option_copied}
 use Rattle.std.specs.Borrow.{Bor}
-use Rattle.line_text.specs.Sending.{Takes}
 use Rattle.savefile.specs.declared.fault.Fault.{Fault}
 use Rattle.savefile.specs.declared.fault.Fault.TheVariants.{Device}
 use Rattle.fault_report.specs.declared.report.Report.{Report}
@@ -20,14 +19,14 @@ use Rattle.cli_answers.specs.declared.captures.SoughtEnd.{SoughtEnd}
 use Rattle.cli_answers.specs.declared.counts.VerdictCounts.{VerdictCounts}
 use Rattle.cli_answers.specs.declared.filter.AskedFilter.{AskedFilter}
 use Rattle.cli_answers.specs.declared.form.PacketForm.{PacketForm}
+use Rattle.cli_answers.specs.declared.lines.PrintedCaptures.{PrintedCaptures}
 use Rattle.cli_answers.specs.declared.printing.Unprinted.{Unprinted}
 use Rattle.cli_answers.specs.Asked.{IsAsked, IsUnasked, IsUnaskedReport, IsUnaskedStatus}
 use Rattle.cli_answers.specs.Captures.{SeeksIn}
-use Rattle.cli_answers.specs.Counts.{asked_form, counts_in, of_capture}
+use Rattle.cli_answers.specs.Counts.{asked_form, line_of, of_capture}
+use Rattle.cli_answers.specs.Lines.{PrintsTotals}
 use Rattle.cli_answers.specs.Seeking.{accepts}
 use Rattle.cli_answers.specs.Telling.{TellsEnd, TellsStop, printed_status, stop_status}
-use Rattle.cli_explain.specs.declared.captures.ExplainedCaptures.{ExplainedCaptures}
-use Rattle.cli_explain.specs.declared.captures.ExplainedTotals.{ExplainedTotals}
 use Rattle.cli_explain.specs.declared.one.Found.{Found}
 use Rattle.cli_explain.specs.declared.outcome.FullEnd.{FullEnd}
 use Rattle.cli_explain.specs.Captures.{ExplainsIn}
@@ -53,22 +52,15 @@ Refuses place text printed failed words one old new ended =
 
 -- ---- A line for each packet
 
--- the counts of all captures were printed, if a header was read and all lines were printed
-pub record PrintsTotals {O : Type 0} (contents : O → Option (List ℕ)) (form : PacketForm) (totals : ExplainedTotals) (old new : O) (printed : Result (Unit {0}) Unprinted) : Type 0 where
-  pub unopened : totals.opened ≡ false → (printed ≡ totals.printed) × (new ≡ old)
-  pub broken : IsErr totals.printed → (printed ≡ totals.printed) × (new ≡ old)
-  pub counted : totals.opened ≡ true → IsOk totals.printed →
-      Takes (contents old) (contents new) printed (counts_in form totals.counts.packets totals.counts.yes totals.counts.no totals.counts.abort)
-
 -- The lines of the packets of the captures were printed, in order up to the first fault, in the form that is asked for; and then the counts of
 -- all. A device's fault comes only if one failed.
 pub record PrintsLines {R O : Type 0} (left : R → Option (List ℕ)) (failures : R → ℕ) (contents : O → Option (List ℕ)) (place : Places) (text : Texts) (printed : Option (List ℕ)) (failed : Bool) (words : ExplainWords) (old new : O) (end : LinesEnd VerdictCounts) : Type 0 where
   pub asked : Asked R
   pub asks : Asks left failures place text printed words asked
   pub mid : O
-  pub explained : ExplainedCaptures R
+  pub explained : PrintedCaptures R VerdictCounts
   pub lines : ExplainsIn left failures contents (asked_form words.json) asked.filter asked.captures.items old mid explained
-  pub sums : PrintsTotals contents (asked_form words.json) explained.totals mid new end.printed
+  pub sums : PrintsTotals contents (line_of (asked_form words.json)) explained.totals mid new end.printed
   pub counts : end.counts ≡ explained.totals.counts
   pub read : end.read ≡ explained.read
   pub broke : (n : ℕ) → end.read ≡ Err (stop n Device) → failed ≡ true

@@ -6,12 +6,12 @@ ghost use Rattle.savefile.specs.declared.header.Header.{Header};
 ghost use Rattle.savefile.specs.Reader.{HasGiven};
 ghost use Rattle.cli_explain.specs.Explained.{Explains, ExplainsLines, PrintsLines, PrintsLine, IsLineBroken};
 
-use crate::captures::{ExplainedTotals, print_totals};
 use crate::form::Asking;
 use crate::line::put_line;
 use cli_answers::ahead::advance_flushed;
 use cli_answers::counts::VerdictCounts;
 use cli_answers::form::PacketLine;
+use cli_answers::lines::{Printed, PrintedTotals, print_totals};
 use cli_answers::printing::Unprinted;
 use cli_answers::{AskedFilter, PacketForm};
 use cli_watch::frames::is_unseen;
@@ -22,20 +22,6 @@ use savefile::laws::given_so_far;
 use savefile::{Fault, PacketRef, Reader, Source};
 use std::alloc::Global;
 use std::io::Write;
-
-/// What explaining a capture came to.
-#[derive(Debug, Drop)]
-pub struct Explained<R> {
-    pub source: R,
-    /// Whether the header was read.
-    pub opened: bool,
-    /// Of the packets whose lines were printed, where all was printed.
-    pub counts: VerdictCounts,
-    /// The fault that ended the capture, if one did.
-    pub read: Result<(), Fault>,
-    /// Whether all was printed.
-    pub printed: Result<(), Unprinted>,
-}
 
 /// Prints a line for each packet of a capture, and then one with the counts.
 ///
@@ -57,7 +43,7 @@ pub fn explain_each<R: Source, O: PrintSink>(
     filter: &AskedFilter,
     form: PacketForm,
     out: &mut O,
-) -> Explained<R>
+) -> Printed<R, VerdictCounts>
     // What was answered, what was printed, and how that ended.
     ensures explains { Explains R.left from form filter.now (O.contents out.old) (O.contents out.new) result }
 
@@ -65,20 +51,20 @@ pub fn explain_each<R: Source, O: PrintSink>(
     ensures gave { (given : List ℕ) × Consumes (R.left from) (R.left result.source) given }
     ensures source_broke { (result.read ≡ Err Fault.Device) ↔ (R.failures result.source ≢ R.failures from) }
 {
-    let Explained {
+    let Printed {
         source,
         opened,
         counts,
         read,
         printed,
     } = explain_lines(alloc, from, filter, form, out);
-    let totals = ExplainedTotals {
+    let totals = PrintedTotals {
         opened,
         counts,
         printed,
     };
     let printed = print_totals(alloc, totals, form, out);
-    Explained {
+    Printed {
         source,
         opened,
         counts,
@@ -94,7 +80,7 @@ pub fn explain_lines<R: Source, O: Write>(
     filter: &AskedFilter,
     form: PacketForm,
     out: &mut O,
-) -> Explained<R>
+) -> Printed<R, VerdictCounts>
     // What was answered, what was printed, and how that ended.
     ensures explains { ExplainsLines R.left from form filter.now (O.contents out.old) (O.contents out.new) result }
 
@@ -105,7 +91,7 @@ pub fn explain_lines<R: Source, O: Write>(
     let mut reader = match Reader::open(alloc, from) {
         Ok(reader) => reader,
         Err((source, fault)) => {
-            return Explained {
+            return Printed {
                 source,
                 opened: false,
                 counts: VerdictCounts::NONE,
@@ -116,31 +102,12 @@ pub fn explain_lines<R: Source, O: Write>(
     };
     let mut buffer = PacketLine::new(alloc);
     let ended = print_lines(&mut reader, &Asking { filter, form }, &mut buffer, out);
-    Explained {
+    Printed {
         source: reader.close(),
         opened: true,
         counts: ended.counts,
         read: ended.read,
         printed: ended.printed,
-    }
-}
-
-/// What printing came to, of a reader that its caller has.
-fn outcome(
-    counts: VerdictCounts,
-    read: Result<(), Fault>,
-    printed: Result<(), Unprinted>,
-) -> Explained<()>
-    ensures counts { result.counts ≡ counts }
-    ensures read { result.read ≡ read }
-    ensures printed { result.printed ≡ printed }
-{
-    Explained {
-        source: (),
-        opened: true,
-        counts,
-        read,
-        printed,
     }
 }
 
@@ -150,7 +117,7 @@ fn print_lines<R: Source, O: Write>(
     asking: &Asking<'_>,
     buffer: &mut PacketLine,
     out: &mut O,
-) -> Explained<()>
+) -> Printed<(), VerdictCounts>
     ensures prints { (from : Option (List ℕ)) (header : Header) → HasGiven R.left from header [] reader.old →
         PrintsLines asking.now.form asking.now.filter.now from (R.left reader.new.source) header (O.contents out.old) (O.contents out.new) result.counts result.read result.printed }
     ensures taken { (bytes : List ℕ) × Consumes (R.left reader.old.source) (R.left reader.new.source) bytes }
@@ -165,11 +132,11 @@ fn print_lines<R: Source, O: Write>(
                 let packet = reader.packet();
                 match print_line(asking, counts.packets, &packet, buffer, out) {
                     Ok(verdict) => counts.count(verdict, is_unseen(packet.bytes)),
-                    Err(unprinted) => return outcome(counts, Ok(()), Err(unprinted)),
+                    Err(unprinted) => return Printed::of_reader(counts, Ok(()), Err(unprinted)),
                 }
             }
-            Ok(false) => return outcome(counts, Ok(()), Ok(())),
-            Err(fault) => return outcome(counts, Err(fault), Ok(())),
+            Ok(false) => return Printed::of_reader(counts, Ok(()), Ok(())),
+            Err(fault) => return Printed::of_reader(counts, Err(fault), Ok(())),
         }
     }
 }

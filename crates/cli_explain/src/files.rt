@@ -4,11 +4,12 @@ ghost use Rattle.std.specs.Prelude.{◌≡◌, false, true, IfErr, IfOk, IsOk, O
 ghost use Rattle.cli_store.specs.Files.{Keeps};
 ghost use Rattle.cli_explain.specs.Explaining.{IsRefused, PrintsLines, Seeks};
 
-use crate::captures::{ExplainedCaptures, explain_captures, print_totals};
+use crate::captures::explain_captures;
 use cli_answers::PacketForm;
 use cli_answers::asked::{Asked, Unasked, ask};
 use cli_answers::captures::{LinesEnd, SoughtCaptures, SoughtEnd, find_in_captures, read_of};
 use cli_answers::counts::VerdictCounts;
+use cli_answers::lines::{PrintedCaptures, print_totals};
 use cli_answers::opened::close_captures;
 use cli_args::explain::ExplainWords;
 use cli_store::FileStore;
@@ -32,7 +33,7 @@ pub fn explain_files<'p, F: FileStore<'p>, O: PrintSink>(
     let inputs = words.inputs.as_slice();
     let Asked { filter, captures } = ask(alloc, files, words.listing, words.expr, inputs)?;
     let form = PacketForm::asked(words.json);
-    let ExplainedCaptures {
+    let PrintedCaptures {
         sources,
         totals,
         read,

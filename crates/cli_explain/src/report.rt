@@ -8,8 +8,9 @@ ghost use Rattle.fault_report.specs.declared.report.Subject.TheVariants.{Capture
 ghost use Rattle.cli_answers.specs.Telling.{TellsStop, printed_status};
 ghost use Rattle.cli_explain.specs.Telling.{IsNoPacketReport, TellsFound, TellsRead, found_status, read_status, sought_status};
 
-use crate::each::Explained;
 use crate::one::Found;
+use cli_answers::counts::VerdictCounts;
+use cli_answers::lines::Printed;
 use cli_answers::report::{report_capture, report_printed};
 use cli_report::HintSink;
 use cli_report::failures::name_source;
@@ -21,7 +22,7 @@ use savefile::Fault;
 
 /// Reports what was not printed and then the capture's fault, if there are these, and answers the greatest exit status that applies.
 pub fn report_each<R: Drop, E: FaultSink>(
-    explained: Explained<R>,
+    explained: Printed<R, VerdictCounts>,
     path: &str,
     err: &mut E,
 ) -> Status

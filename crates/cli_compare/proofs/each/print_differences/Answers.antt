@@ -55,7 +55,7 @@ count-requires-clause-room g c =
 
 pub returns-in-Err-print_one-clause-source_broke : goal.returns-in-Err-print_one-clause-source_broke
 returns-in-Err-print_one-clause-source_broke g c =
-    works-on _ _ _ _ c.outcome.ensures.read
+    works-on _ _ _ _ c.of_reader.ensures.read
     (still-works _ _ _ c.advance_flushed.result c.advance_flushed.ensures.device.1 (c.in-Ok-true.is ∙ ap Ok c.in-Ok-true.field-0-test) c.loop-reader.invariant.source_works)
 
 pub returns-in-Err-print_one-clause-taken : goal.returns-in-Err-print_one-clause-taken
@@ -85,7 +85,7 @@ returns-in-Err-print_one-clause-prints g c = λ from header given.
     let begun = c.in-Ok-true.ensures.so_far from header packets gives in
     let further = c.given_so_far.ensures from header (packets ++ c.advance_flushed.new.reader.lent ∷ []) (c.in-Ok-true.ensures.packet from header packets gives (ap Ok c.in-Ok-true.field-0-test)) in
     let (told, more, every, which, part) = breaks-off c.args.comparing.now.form pair _ _ _ packets differences c.loop-reader.counts p c.in-Err-print_one.unprinted are lines counts c.in-Err-print_one.ensures.fault in
-    broken-off c.args.comparing.now.form pair from _ header _ _ _ _ _ _ _ told more c.outcome.ensures.read c.outcome.ensures.printed every
+    broken-off c.args.comparing.now.form pair from _ header _ _ _ _ _ _ _ told more c.of_reader.ensures.read c.of_reader.ensures.printed every
     (elim which [
       | inl same ↦ subst (WasBegun from header) (sym same) begun
       | inr one ↦ subst (WasBegun from header) (sym (one ∙ ap (λ (q : Packet). packets ++ q ∷ []) c.packet-packet.ensures)) further
@@ -96,7 +96,7 @@ pub returns-in-Ok-false-clause-prints : goal.returns-in-Ok-false-clause-prints
 returns-in-Ok-false-clause-prints g c = λ from header given.
     let (packets, differences, gives, are, before, counts) = c.loop-reader.invariant.prints from header given in
     let lines = Appends-kept _ _ _ _ before c.advance_flushed.ensures.printed in
-    let told = c.outcome-in-Ok-false.ensures in
+    let told = c.of_reader-in-Ok-false.ensures in
     read-whole c.args.comparing.now.form c.args.comparing.now.pair.now from _ header _ _ _ _ _ _ _ packets differences told.read told.printed are
     (c.in-Ok-false.ensures.end from header packets gives (ap Ok c.in-Ok-false.field-0-test)) lines
     (subst (λ (k : DifferenceCounts). AreCounts c.args.comparing.now.pair.now k packets) (sym told.counts) counts)
@@ -105,7 +105,7 @@ pub returns-in-Err-clause-prints : goal.returns-in-Err-clause-prints
 returns-in-Err-clause-prints g c = λ from header given.
     let (packets, differences, gives, are, before, counts) = c.loop-reader.invariant.prints from header given in
     let lines = Appends-kept _ _ _ _ before c.advance_flushed.ensures.printed in
-    let told = c.outcome-in-Err.ensures in
+    let told = c.of_reader-in-Err.ensures in
     read-part c.args.comparing.now.form c.args.comparing.now.pair.now from _ header _ _ _ _ _ _ _ packets differences told.read told.printed are lines
     (subst (λ (k : DifferenceCounts). AreCounts c.args.comparing.now.pair.now k packets) (sym told.counts) counts)
     (c.in-Err.ensures.so_far from header packets gives) (c.in-Err.ensures.cause from header packets gives)

@@ -1,10 +1,13 @@
 use Rattle.std.proofs.Common.{◌≡◌, ℕ, List, Option, Bor, refl, sym, subst}
 use Rattle.cli_answers.specs.declared.form.PacketForm.{PacketForm}
 use Rattle.cli_answers.proofs.Closing.{fresh}
-use Rattle.cli_compare.specs.Captures.{ComparesIn}
-use Rattle.cli_compare.specs.Comparing.{PrintsLines, PrintsTotals}
-use Rattle.cli_compare.proofs.Handing.{lines-handed}
-use Rattle.cli_compare.proofs.Stopping.{compares-broke}
+use Rattle.cli_answers.proofs.Totals.{lines-handed, prints-broke}
+use Rattle.cli_answers.specs.Lines.{PrintsTotals}
+use Rattle.cli_compare.specs.Captures.{ComparesIn, ComparesNth}
+use Rattle.cli_compare.specs.Comparing.{PrintsLines}
+use Rattle.cli_compare.specs.Pairs.{no_counts, plus}
+use Rattle.cli_compare.specs.Printed.{line_of}
+use Rattle.cli_compare.proofs.Handing.{has-opened}
 use Rattle.cli_compare.proofs.files.compare_files.Goals as goal
 
 pub returns-clause-prints : goal.returns-clause-prints
@@ -20,7 +23,7 @@ returns-clause-prints g c tells =
     let end = c.print_totals in
     let form = c.asked-form.result in
     let asks = c.in_ok-pair.ensures.asks tells in
-    let sums : PrintsTotals contents form call.result.totals call.new.out end.new.out end.result =
+    let sums : PrintsTotals contents (line_of form) call.result.totals call.new.out end.new.out end.result =
     record { unopened = end.ensures.none; broken = end.ensures.failed; counted = end.ensures.prints } in
     record {
       asked = asked;
@@ -28,10 +31,10 @@ returns-clause-prints g c tells =
       mid = call.new.out;
       compared = call.result;
       lines = subst (λ (f : PacketForm). ComparesIn left failures contents f asked.pair asked.captures.items c.args.out.now call.new.out call.result) c.asked-form.ensures call.ensures;
-      sums = subst (λ (f : PacketForm). PrintsTotals contents f call.result.totals call.new.out end.new.out end.result) c.asked-form.ensures sums;
+      sums = subst (λ (f : PacketForm). PrintsTotals contents (line_of f) call.result.totals call.new.out end.new.out end.result) c.asked-form.ensures sums;
       counts = refl;
       read = refl;
-      broke = λ n device. c.close_captures-noted.ensures.failed tells (compares-broke left failures contents form asked.pair asked.captures.items c.args.out.now call.new.out call.result n
+      broke = λ n device. c.close_captures-noted.ensures.failed tells (prints-broke left failures no_counts plus (ComparesNth left contents form asked.pair) asked.captures.items c.args.out.now call.new.out call.result n
           (fresh left failures (F.place old) (F.text old) words.inputs.items asked.captures.items asks.captures) call.ensures device);
     }
 
@@ -40,5 +43,9 @@ returns-clause-handed_on g c none read printed =
     let asked = c.in_ok-pair.field-0 in
     let call = c.compare_captures-sources in
     let end = c.print_totals in
-    lines-handed g.F.Input.Source.left g.F.Input.Source.failures g.O.Write.contents c.asked-form.result asked.pair g.O.PrintSink.waits asked.captures.items c.args.out.now call.new.out end.new.out call.result end.result
+    let left = g.F.Input.Source.left in
+    let contents = g.O.Write.contents in
+    let form = c.asked-form.result in
+    lines-handed left g.F.Input.Source.failures no_counts plus (ComparesNth left contents form asked.pair) (has-opened left contents form asked.pair)
+    contents (line_of form) g.O.PrintSink.waits asked.captures.items c.args.out.now call.new.out end.new.out call.result end.result
     call.ensures (record { unopened = end.ensures.none; broken = end.ensures.failed; counted = end.ensures.prints }) end.ensures.handed_on none read printed

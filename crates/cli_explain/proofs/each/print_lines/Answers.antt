@@ -59,7 +59,7 @@ count-requires-clause-room g c =
 
 pub returns-in-Err-print_line-clause-source_broke : goal.returns-in-Err-print_line-clause-source_broke
 returns-in-Err-print_line-clause-source_broke g c =
-    works-on _ _ _ _ c.outcome.ensures.read
+    works-on _ _ _ _ c.of_reader.ensures.read
     (still-works _ _ _ c.advance_flushed.result c.advance_flushed.ensures.device.1 (c.in-Ok-true.is ∙ ap Ok c.in-Ok-true.field-0-test) c.loop-reader.invariant.source_works)
 
 pub returns-in-Err-print_line-clause-taken : goal.returns-in-Err-print_line-clause-taken
@@ -90,7 +90,7 @@ returns-in-Err-print_line-clause-prints g c = λ from header given.
     let begun = c.in-Ok-true.ensures.so_far from header (packets_of answers) gives in
     let further = c.given_so_far.ensures from header (packets_of answers ++ p ∷ []) (c.in-Ok-true.ensures.packet from header (packets_of answers) gives (ap Ok c.in-Ok-true.field-0-test)) in
     let (told, every, which, part) = breaks-off form f _ _ _ answers c.loop-reader.counts c.packet-packet.result c.in-Err-print_line.unprinted all lines are c.in-Err-print_line.ensures.fault in
-    broken-off form f from _ header _ _ _ _ _ _ _ told c.outcome.ensures.read c.outcome.ensures.printed every
+    broken-off form f from _ header _ _ _ _ _ _ _ told c.of_reader.ensures.read c.of_reader.ensures.printed every
     (elim which [
       | inl same ↦ subst (WasBegun from header) (sym same) begun
       | inr more ↦ subst (WasBegun from header) (sym (more ∙ ap (λ (q : Packet). packets_of answers ++ q ∷ []) c.packet-packet.ensures)) further
@@ -101,7 +101,7 @@ pub returns-in-Ok-false-clause-prints : goal.returns-in-Ok-false-clause-prints
 returns-in-Ok-false-clause-prints g c = λ from header given.
     let (answers, gives, all, before, are) = c.loop-reader.invariant.prints from header given in
     let lines = Appends-kept _ _ _ _ before c.advance_flushed.ensures.printed in
-    let told = c.outcome-in-Ok-false.ensures in
+    let told = c.of_reader-in-Ok-false.ensures in
     read-whole c.args.asking.now.form c.args.asking.now.filter.now from _ header _ _ _ _ _ _ _ answers told.read told.printed all
     (c.in-Ok-false.ensures.end from header (packets_of answers) gives (ap Ok c.in-Ok-false.field-0-test)) lines
     (subst (λ (k : VerdictCounts). AreCounts k answers) (sym told.counts) are)
@@ -110,7 +110,7 @@ pub returns-in-Err-clause-prints : goal.returns-in-Err-clause-prints
 returns-in-Err-clause-prints g c = λ from header given.
     let (answers, gives, all, before, are) = c.loop-reader.invariant.prints from header given in
     let lines = Appends-kept _ _ _ _ before c.advance_flushed.ensures.printed in
-    let told = c.outcome-in-Err.ensures in
+    let told = c.of_reader-in-Err.ensures in
     read-part c.args.asking.now.form c.args.asking.now.filter.now from _ header _ _ _ _ _ _ _ answers told.read told.printed all lines
     (subst (λ (k : VerdictCounts). AreCounts k answers) (sym told.counts) are)
     (c.in-Err.ensures.so_far from header (packets_of answers) gives) (c.in-Err.ensures.cause from header (packets_of answers) gives)
