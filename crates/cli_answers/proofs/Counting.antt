@@ -8,7 +8,7 @@ use Rattle.cli_answers.specs.declared.counts.VerdictCounts.{VerdictCounts}
 use Rattle.cli_answers.specs.Answers.{Answer, answer}
 use Rattle.cli_answers.specs.Verdicts.{is_yes, is_no, is_abort}
 use Rattle.cli_watch.specs.Frames.{is_unseen}
-use Rattle.cli_answers.specs.Counts.{count_of, counted, more_if, unseen_of, AreCounts}
+use Rattle.cli_answers.specs.Counts.{Fit, count_of, counted, more_if, unseen_of, AreCounts}
 
 -- of a kind, or not
 pub one-more : {X : Type 0} (f : X → Bool) (xs : List X) (x : X) (is : Bool) → f x ≡ is → length (filter f (xs ++ x ∷ [])) ≡ more_if is (length (filter f xs))
@@ -78,3 +78,12 @@ pub counted-unseen : (v : Verdict) (u : Bool) (c : VerdictCounts) → c.unseen �
 counted-unseen Yes u c few = more-if u c.unseen c.packets few
 counted-unseen No u c few = more-if u c.unseen c.packets few
 counted-unseen Abort u c few = more-if u c.unseen c.packets few
+
+pub fit-more : (v : Verdict) (u : Bool) (c : VerdictCounts) (n : ℕ) → Fit c n → Fit (counted v u c) (n + 1)
+fit-more v u c n fit = record {
+  packets = counted-packets v u c n (n + 1) fit.packets refl;
+  yes = counted-yes v u c fit.yes;
+  no = counted-no v u c fit.no;
+  abort = counted-abort v u c fit.abort;
+  unseen = counted-unseen v u c fit.unseen;
+}

@@ -1,5 +1,5 @@
 -- How many packets a filter answered so, and how that is printed.
-use Rattle.std.specs.Prelude.{◌≡◌, ℕ, ◌+◌, ◌-◌, ◌^◌, min, Bool, true, false, List, ◌++◌, length, filter, codes}
+use Rattle.std.specs.Prelude.{◌≡◌, ℕ, ◌+◌, ◌-◌, ◌^◌, ◌≤◌, min, Bool, true, false, List, ◌++◌, length, filter, codes}
 use Rattle.std.specs.Fmt.{decimal}
 use Rattle.filter_meaning.specs.declared.verdict.Verdict.{Verdict}
 use Rattle.filter_meaning.specs.declared.verdict.Verdict.TheVariants.{Yes, No, Abort}
@@ -54,6 +54,14 @@ plus a b = record {
 -- the counts of no packets
 abbrev pub no_counts : VerdictCounts
 no_counts = record { packets = 0; yes = 0; no = 0; abort = 0; unseen = 0 }
+
+-- none is above the number of the packets, which are at most n
+pub record Fit (c : VerdictCounts) (n : ℕ) : Type 0 where
+  pub packets : c.packets ≤ n
+  pub yes : c.yes ≤ c.packets
+  pub no : c.no ≤ c.packets
+  pub abort : c.abort ≤ c.packets
+  pub unseen : c.unseen ≤ c.packets
 
 -- ---- As they are printed
 

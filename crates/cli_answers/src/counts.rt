@@ -3,7 +3,7 @@
 ghost use Rattle.std.specs.Prelude.{◌≡◌, ◌<◌, ◌≤◌, ◌+◌, ◌^◌, ℕ, List, false, OnOk, string_bytes};
 ghost use Rattle.line_text.specs.Sending.{Takes};
 ghost use Rattle.cli_answers.specs.declared.form.PacketForm.{PacketForm};
-ghost use Rattle.cli_answers.specs.Counts.{counted, counts_json, counts_text, line_of, no_counts, plus};
+ghost use Rattle.cli_answers.specs.Counts.{Fit, counted, counts_json, counts_text, line_of, no_counts, plus};
 
 use crate::form::PacketForm;
 use crate::printing::Unprinted;
@@ -20,11 +20,15 @@ pub trait Counts: Copy {
     /// Those of the packets of both.
     ghost sum: { Self → Self → Self };
 
+    /// None of them is above this number of packets.
+    ghost fit: { Self → ℕ → Type 0 };
+
     /// Their line in a form.
     ghost line_in: { PacketForm → Self → List ℕ };
 
     fn none() -> Self
-        ensures { result ≡ none };
+        ensures is { result ≡ none }
+        ensures fit { (n : ℕ) → fit result n };
 
     /// The counts of the packets of both, each up to 2^64 - 1.
     fn plus(self, other: Self) -> Self
@@ -106,6 +110,8 @@ impl Counts for VerdictCounts {
     ghost none = { no_counts };
 
     ghost sum = { plus };
+
+    ghost fit = { Fit };
 
     ghost line_in = { line_of };
 

@@ -28,8 +28,8 @@ use Rattle.cli_compare.specs.declared.each.DifferenceCounts.{DifferenceCounts}
 use Rattle.cli_compare.specs.declared.pair.Agreement.{Agreement}
 use Rattle.cli_compare.specs.declared.pair.Agreement.TheVariants.{Same, FirstOnly, SecondOnly}
 use Rattle.cli_compare.specs.declared.pair.FilterPair.{FilterPair}
-use Rattle.cli_compare.specs.Compared.{difference, IsOf, IsOneBroken, PrintsOne, PutsBoth}
-use Rattle.cli_compare.specs.Pairs.{agreement, AreCounts, AreDifferences, at_place, counted, Difference, differing, differs, IsDifference, is_first, is_second, Placed, placed}
+use Rattle.cli_compare.specs.Compared.{difference, IsBegun, IsOf, IsOneBroken, IsPrinted, PrintsOne, PutsBoth}
+use Rattle.cli_compare.specs.Pairs.{agreement, AreCounts, Fit, AreDifferences, at_place, counted, Difference, differing, differs, IsDifference, is_first, is_second, Placed, placed}
 use Rattle.cli_compare.specs.Printed.{difference_json, difference_line, difference_lines, difference_text, with_both}
 
 -- ---- One packet more
@@ -117,25 +117,10 @@ counts-by pair ps p c Same is are = record {
 }
 
 -- no count is above that of the packets
-pub counted-packets : (a : Agreement) (u : Bool) (c : DifferenceCounts) (before given : ℕ) → c.packets ≤ before → given ≡ before + 1 → (counted a u c).packets ≤ given
-counted-packets Same u c before given few more = omega (arith, few, more)
-counted-packets FirstOnly u c before given few more = omega (arith, few, more)
-counted-packets SecondOnly u c before given few more = omega (arith, few, more)
-
-pub counted-first : (a : Agreement) (u : Bool) (c : DifferenceCounts) → c.first ≤ c.packets → (counted a u c).first ≤ (counted a u c).packets
-counted-first Same u c few = omega (arith, few)
-counted-first FirstOnly u c few = omega (arith, few)
-counted-first SecondOnly u c few = omega (arith, few)
-
-pub counted-second : (a : Agreement) (u : Bool) (c : DifferenceCounts) → c.second ≤ c.packets → (counted a u c).second ≤ (counted a u c).packets
-counted-second Same u c few = omega (arith, few)
-counted-second FirstOnly u c few = omega (arith, few)
-counted-second SecondOnly u c few = omega (arith, few)
-
-pub counted-unseen : (a : Agreement) (u : Bool) (c : DifferenceCounts) → c.unseen ≤ c.packets → (counted a u c).unseen ≤ (counted a u c).packets
-counted-unseen Same u c few = more-if u c.unseen c.packets few
-counted-unseen FirstOnly u c few = more-if u c.unseen c.packets few
-counted-unseen SecondOnly u c few = more-if u c.unseen c.packets few
+pub fit-more : (a : Agreement) (u : Bool) (c : DifferenceCounts) (n : ℕ) → Fit c n → Fit (counted a u c) (n + 1)
+fit-more Same u c n fit = record { packets = omega (arith, fit.packets); first = omega (arith, fit.first); second = omega (arith, fit.second); unseen = more-if u c.unseen c.packets fit.unseen }
+fit-more FirstOnly u c n fit = record { packets = omega (arith, fit.packets); first = omega (arith, fit.first); second = omega (arith, fit.second); unseen = more-if u c.unseen c.packets fit.unseen }
+fit-more SecondOnly u c n fit = record { packets = omega (arith, fit.packets); first = omega (arith, fit.first); second = omega (arith, fit.second); unseen = more-if u c.unseen c.packets fit.unseen }
 
 -- ---- What is printed
 
@@ -143,7 +128,7 @@ counted-unseen SecondOnly u c few = more-if u c.unseen c.packets few
 pub goes-on : (form : PacketForm) (pair : FilterPair) (old mid new : Option (List ℕ)) (ps : List Packet) (ds : List Difference) (c after : DifferenceCounts) (p : Packet) (a : Agreement) →
     AreDifferences form pair ps ds → Appends old mid (difference_lines form ds) → AreCounts pair c ps →
     a ≡ agreement pair p → PrintsOne form pair c.packets p mid new → after ≡ counted a (is_unseen p.bytes) c →
-    (more : List Difference) × AreDifferences form pair (ps ++ p ∷ []) more × Appends old new (difference_lines form more) × AreCounts pair after (ps ++ p ∷ [])
+    IsPrinted form pair (ps ++ p ∷ []) old new after
 goes-on form pair old mid new ps ds c after p a are lines counts is (inl (alike, kept)) now = (
   ds,
   alike-more form pair ps p ds alike are,
@@ -160,21 +145,13 @@ goes-on form pair old mid new ps ds c after p a are lines counts is (inr (differ
 -- or its line is not printed, or a beginning of it alone
 pub breaks-off : (form : PacketForm) (pair : FilterPair) (old mid new : Option (List ℕ)) (ps : List Packet) (ds : List Difference) (c : DifferenceCounts) (p : Packet) (unprinted : Unprinted) →
     AreDifferences form pair ps ds → Appends old mid (difference_lines form ds) → AreCounts pair c ps → IsOneBroken form pair c.packets p mid new unprinted →
-    (told : List Packet) × (more : List Difference) × AreDifferences form pair told more × ((told ≡ ps) ⊎ (told ≡ ps ++ p ∷ []))
-    × TakesPart old new (difference_lines form more)
+    IsBegun form pair ps old new ⊎ IsBegun form pair (ps ++ p ∷ []) old new
 breaks-off form pair old mid new ps ds c p NoMemory are lines counts kept =
-    let taken = Appends-kept old mid new (difference_lines form ds) lines kept in (
-      ps,
-      ds,
-      are,
-      inl refl,
-      record { part = difference_lines form ds; begins = ([], sym (append-nil (difference_lines form ds))); appends = taken },
-    )
-breaks-off form pair old mid new ps ds c p (Output error) are lines counts (different, d, of, part) = (
-  ps ++ p ∷ [],
+    let taken = Appends-kept old mid new (difference_lines form ds) lines kept in
+    inl (ds, are, record { part = difference_lines form ds; begins = ([], sym (append-nil (difference_lines form ds))); appends = taken })
+breaks-off form pair old mid new ps ds c p (Output error) are lines counts (different, d, of, part) = inr (
   ds ++ d ∷ [],
   different-more form pair ps p ds d different (subst (λ k. IsOf form pair k p d) counts.packets of) are,
-  inr refl,
   subst (TakesPart old new) (sym (lines-last form ds d)) (TakesPart-then old mid new (difference_lines form ds) (difference_line form d) lines part),
 )
 

@@ -1,27 +1,15 @@
--- What was printed of captures and of an answer does not wait.
-use Rattle.std.proofs.Common.{◌≡◌, ℕ, inl, inr, true, List, Option, Some, None, Result, Ok, Err, sym, ◌∙◌}
-use Rattle.std.specs.Prelude.{IsOk, OnOk}
+-- What was printed of an answer does not wait.
+use Rattle.std.proofs.Common.{◌≡◌, Option, Some, None, Result, Ok, Err, sym, ◌∙◌}
+use Rattle.std.specs.Prelude.{OnOk}
 use Rattle.filter_same.specs.declared.sameness.Sameness.{Sameness}
 use Rattle.filter_same.specs.declared.witness.Witness.{Witness}
 use Rattle.cli_text.specs.Status.{greater}
 use Rattle.cli_text.specs.declared.status.Status.{Status}
 use Rattle.cli_text.specs.declared.status.Status.TheVariants.{Clean}
-use Rattle.cli_answers.specs.declared.form.PacketForm.{PacketForm}
-use Rattle.cli_answers.specs.declared.lines.Printed.{Printed}
 use Rattle.cli_answers.specs.declared.printing.Unprinted.{Unprinted}
 use Rattle.cli_answers.specs.declared.printing.Unprinted.TheVariants.{NoMemory, Output}
-use Rattle.cli_answers.proofs.Headers.{no-fault}
 use Rattle.cli_answers.proofs.Statuses.{clean-both}
-use Rattle.cli_compare.specs.declared.each.DifferenceCounts.{DifferenceCounts}
-use Rattle.cli_compare.specs.declared.pair.FilterPair.{FilterPair}
-use Rattle.cli_compare.specs.Captures.{ComparesNth}
 use Rattle.cli_compare.specs.Deciding.{IsStatusAfter, IsStatusWith, answer_status, packet_of}
-
--- the header of a capture was read if its reading did not fail
-pub has-opened : {R O : Type 0} (left : R → Option (List ℕ)) (contents : O → Option (List ℕ)) (form : PacketForm) (pair : FilterPair) (n : ℕ) (from : R) (old new : O) (c : Printed R DifferenceCounts) →
-    ComparesNth left contents form pair n from old new c → IsOk c.read → c.opened ≡ true
-has-opened left contents form pair n from old new c (inl (fault, unopened, broke, printed, kept, counts, unread)) well = absurd (no-fault c.read fault broke well)
-has-opened left contents form pair n from old new c (inr (opened, header, lines)) well = opened
 
 -- where all went well there is an answer
 of-answer : (answer : Result Sameness Unprinted) (P : Type 0) → answer_status answer ≡ Clean → OnOk answer P → P

@@ -1,5 +1,4 @@
 pub mod Differences
-pub mod Ending
 pub mod Sent
 pub mod Witnesses
 pub mod Out

@@ -1,42 +1,34 @@
 -- What is printed of a capture that two filters are compared by, and how that ends.
-use Rattle.std.specs.Prelude.{◌≡◌, ℕ, ◌⊎◌, true, false, List, [], Option, Result, IsOk, IsErr, IsErrOf}
+use Rattle.std.specs.Prelude.{◌≡◌, ℕ, ◌⊎◌, true, false, List, Option}
 use Rattle.std.specs.Io.KnownBytes.{Appends, Keeps}
-use Rattle.savefile.specs.declared.fault.Fault.{Fault}
-use Rattle.savefile.specs.declared.header.Header.{Header}
 use Rattle.savefile.specs.declared.packet.Packet.{Packet}
-use Rattle.savefile.specs.Reader.{WasBegun}
 use Rattle.line_text.specs.Sending.{TakesPart}
 use Rattle.cli_answers.specs.declared.lines.Printed.{Printed}
 use Rattle.cli_answers.specs.declared.printing.Unprinted.{Unprinted}
 use Rattle.cli_answers.specs.declared.printing.Unprinted.TheVariants as unprinted
 use Rattle.cli_answers.specs.declared.form.PacketForm.{PacketForm}
 use Rattle.cli_answers.specs.Answers.{Answer}
+use Rattle.cli_answers.specs.Lines.{PrintsCapture}
 use Rattle.cli_answers.specs.Objects.{IsAnswerIn, IsJsonAnswer}
-use Rattle.cli_answers.specs.Reading.{IsUnopened, ReadsTo}
 use Rattle.cli_compare.specs.declared.each.DifferenceCounts.{DifferenceCounts}
 use Rattle.cli_compare.specs.declared.pair.FilterPair.{FilterPair}
-use Rattle.cli_compare.specs.Pairs.{AreCounts, AreDifferences, Difference, differs}
+use Rattle.cli_compare.specs.Pairs.{AreCounts, AreDifferences, Difference, differs, no_counts}
 use Rattle.cli_compare.specs.Printed.{difference_line, difference_lines, with_both}
 
--- The printing broke off at a line: a beginning of the lines of packets that the capture begins with was printed.
-abbrev pub BreaksOff : {A : Type 0} → PacketForm → FilterPair → Option (List ℕ) → Header → Option (List ℕ) → Option (List ℕ) → Result A Fault → Result A Unprinted → Type 0
-BreaksOff form pair from header old new read done =
-    (packets : List Packet) × (differences : List Difference) × AreDifferences form pair packets differences × WasBegun from header packets
-    × IsOk read × IsErr done × TakesPart old new (difference_lines form differences)
+-- the lines of those of these packets that are treated differently were printed, and all packets counted
+abbrev pub IsPrinted : PacketForm → FilterPair → List Packet → Option (List ℕ) → Option (List ℕ) → DifferenceCounts → Type 0
+IsPrinted form pair packets old new counts =
+    (differences : List Difference) × AreDifferences form pair packets differences × Appends old new (difference_lines form differences)
+    × AreCounts pair counts packets
 
--- the lines of the packets of a reader that are treated differently were printed, and all packets counted
-abbrev pub PrintsDifferences : {A : Type 0} → PacketForm → FilterPair → Option (List ℕ) → Option (List ℕ) → Header → Option (List ℕ) → Option (List ℕ) → DifferenceCounts → Result A Fault → Result A Unprinted → Type 0
-PrintsDifferences form pair from left header old new counts read done =
-    BreaksOff form pair from header old new read done
-    ⊎ ((packets : List Packet) × (differences : List Difference) × AreDifferences form pair packets differences × ReadsTo from left header packets read
-    × IsOk done × Appends old new (difference_lines form differences) × AreCounts pair counts packets)
+-- a beginning of their lines was
+abbrev pub IsBegun : PacketForm → FilterPair → List Packet → Option (List ℕ) → Option (List ℕ) → Type 0
+IsBegun form pair packets old new =
+    (differences : List Difference) × AreDifferences form pair packets differences × TakesPart old new (difference_lines form differences)
 
 -- The header was not read, and nothing was printed; or the packets up to some end were compared.
 abbrev pub Compares : {R : Type 0} → (R → Option (List ℕ)) → R → PacketForm → FilterPair → Option (List ℕ) → Option (List ℕ) → Printed R DifferenceCounts → Type 0
-Compares left from form pair old new c =
-    ((fault : Fault) × IsUnopened left from c.source fault × IsErrOf c.read fault × IsOk c.printed × Keeps old new × AreCounts pair c.counts []
-    × (c.opened ≡ false))
-    ⊎ ((c.opened ≡ true) × (header : Header) × PrintsDifferences form pair (left from) (left c.source) header old new c.counts c.read c.printed)
+Compares left from form pair old new c = PrintsCapture left from no_counts (IsPrinted form pair) (IsBegun form pair) old new c
 
 -- ---- A line
 

@@ -1,5 +1,5 @@
 -- How two filters treat packets.
-use Rattle.std.specs.Prelude.{◌≡◌, ℕ, suc, ◌+◌, Bool, true, false, List, [], ◌∷◌, ◌++◌, length, map, filter}
+use Rattle.std.specs.Prelude.{◌≡◌, ℕ, suc, ◌+◌, ◌≤◌, Bool, true, false, List, [], ◌∷◌, ◌++◌, length, map, filter}
 use Rattle.std.specs.List.{AllByRecursion}
 use Rattle.savefile.specs.declared.packet.Packet.{Packet}
 use Rattle.cli_answers.specs.declared.form.PacketForm.{PacketForm}
@@ -58,6 +58,13 @@ abbrev pub counted : Agreement → Bool → DifferenceCounts → DifferenceCount
 counted FirstOnly unseen c = record { packets = c.packets + 1; first = c.first + 1; second = c.second; unseen = more_if unseen c.unseen }
 counted SecondOnly unseen c = record { packets = c.packets + 1; first = c.first; second = c.second + 1; unseen = more_if unseen c.unseen }
 counted Same unseen c = record { packets = c.packets + 1; first = c.first; second = c.second; unseen = more_if unseen c.unseen }
+
+-- none is above the number of the packets, which are at most n
+pub record Fit (c : DifferenceCounts) (n : ℕ) : Type 0 where
+  pub packets : c.packets ≤ n
+  pub first : c.first ≤ c.packets
+  pub second : c.second ≤ c.packets
+  pub unseen : c.unseen ≤ c.packets
 
 -- the counts of no packets
 abbrev pub no_counts : DifferenceCounts

@@ -1,26 +1,24 @@
 //! The packets of a capture that two filters treat differently: the function under `bpftap compare`.
 
-ghost use Rattle.std.specs.Prelude.{◌≡◌, ◌≢◌, ◌↔◌, ◌<◌, ◌≤◌, ◌+◌, ◌^◌, ℕ, List, Option, [], Err, IfErr, IfOk};
+ghost use Rattle.std.specs.Prelude.{◌≡◌, ◌≢◌, ◌↔◌, ◌<◌, ◌≤◌, ◌+◌, ◌^◌, ℕ, List, [], Option, refl, Err, IfErr, IfOk};
 ghost use Rattle.std.specs.Io.KnownBytes.{Consumes};
-ghost use Rattle.savefile.specs.declared.header.Header.{Header};
-ghost use Rattle.savefile.specs.Reader.{HasGiven};
-ghost use Rattle.cli_compare.specs.Compared.{Compares, PrintsDifferences, PrintsOne, IsOneBroken};
-ghost use Rattle.cli_compare.specs.Pairs.{agreement, counted, no_counts, plus};
+ghost use Rattle.std.proofs.KnownBytes.{Appends-kept, Appends-nil};
+ghost use Rattle.cli_answers.specs.Counts.{of_capture};
+ghost use Rattle.cli_compare.specs.Compared.{Compares, IsBegun, IsOneBroken, IsPrinted, PrintsOne};
+ghost use Rattle.cli_compare.specs.Pairs.{Fit, agreement, counted, no_counts, plus};
 ghost use Rattle.cli_compare.specs.Printed.{line_of};
 
 use crate::line::{Comparing, put_counts, put_difference};
 use crate::pair::{Agreement, FilterPair};
 use bpfvm::NoMemory;
 use cli_answers::PacketForm;
-use cli_answers::ahead::advance_flushed;
 use cli_answers::counts::Counts;
 use cli_answers::form::PacketLine;
-use cli_answers::lines::Printed;
+use cli_answers::lines::{PacketPrinter, Printed, print_capture};
 use cli_answers::printing::Unprinted;
 use cli_watch::frames::{FrameCounts, is_unseen};
 use line_text::sending::send;
-use savefile::laws::given_so_far;
-use savefile::{Fault, PacketRef, Reader, Source};
+use savefile::{Fault, PacketRef, Source};
 use std::alloc::Global;
 use std::io::Write;
 
@@ -88,6 +86,8 @@ impl Counts for DifferenceCounts {
 
     ghost sum = { plus };
 
+    ghost fit = { Fit };
+
     ghost line_in = { line_of };
 
     fn none() -> DifferenceCounts {
@@ -134,55 +134,40 @@ pub fn compare_each<R: Source, O: Write>(
     ensures gave { (given : List ℕ) × Consumes (R.left from) (R.left result.source) given }
     ensures source_broke { (result.read ≡ Err Fault.Device) ↔ (R.failures result.source ≢ R.failures from) }
 {
-    let mut reader = match Reader::open(alloc, from) {
-        Ok(reader) => reader,
-        Err((source, fault)) => {
-            return Printed {
-                source,
-                opened: false,
-                counts: DifferenceCounts::NONE,
-                read: Err(fault),
-                printed: Ok(()),
-            };
-        }
-    };
-    let ended = print_differences(alloc, &mut reader, &Comparing { pair, form }, out);
-    Printed {
-        source: reader.close(),
-        opened: true,
-        counts: ended.counts,
-        read: ended.read,
-        printed: ended.printed,
-    }
+    print_capture(alloc, from, &Comparing { pair, form }, out)
 }
 
-/// Prints the line of each packet that is treated differently.
-fn print_differences<R: Source, O: Write>(
-    alloc: Global,
-    reader: &mut Reader<R>,
-    comparing: &Comparing<'_>,
-    out: &mut O,
-) -> Printed<(), DifferenceCounts>
-    ensures prints { (from : Option (List ℕ)) (header : Header) → HasGiven R.left from header [] reader.old →
-        PrintsDifferences comparing.now.form comparing.now.pair.now from (R.left reader.new.source) header (O.contents out.old) (O.contents out.new) result.counts result.read result.printed }
-    ensures taken { (bytes : List ℕ) × Consumes (R.left reader.old.source) (R.left reader.new.source) bytes }
-    ensures source_broke { (result.read ≡ Err Fault.Device) ↔ (R.failures reader.new.source ≢ R.failures reader.old.source) }
-{
-    let mut buffer = PacketLine::new(alloc);
-    let mut counts = DifferenceCounts::NONE;
-    loop {
-        match advance_flushed(reader, out) {
-            Ok(true) => {
-                // Where the printing breaks off, what was read so far begins what the capture holds.
-                given_so_far(reader);
-                let packet = reader.packet();
-                match print_one(comparing, counts.packets, &packet, &mut buffer, out) {
-                    Ok(agreement) => counts.count(agreement, is_unseen(packet.bytes)),
-                    Err(unprinted) => return Printed::of_reader(counts, Ok(()), Err(unprinted)),
-                }
+impl PacketPrinter<DifferenceCounts> for Comparing<'_> {
+    ghost printed = { λ c packets old new counts. IsPrinted c.form c.pair.now packets old new counts };
+
+    ghost begun = { λ c packets old new. IsBegun c.form c.pair.now packets old new };
+
+    ghost nth = { λ c n. record { pair = c.pair; form = of_capture c.form n } };
+
+    ghost starts = { λ c old. ([], record { those = refl; answered = tt }, Appends-nil old, record { packets = refl; first = refl; second = refl; unseen = refl }) };
+
+    ghost stays = { λ c packets old mid new counts was kept. (was.0, was.1, Appends-kept old mid new _ was.2 kept, was.3) };
+
+    fn of_capture(self, number: usize) -> Self {
+        Comparing {
+            form: self.form.of_capture(number),
+            ..self
+        }
+    }
+
+    fn print<O: Write>(
+        &self,
+        packet: &PacketRef<'_>,
+        buffer: &mut PacketLine,
+        counts: &mut DifferenceCounts,
+        out: &mut O,
+    ) -> Result<(), Unprinted> {
+        match print_one(self, counts.packets, packet, buffer, out) {
+            Ok(agreement) => {
+                counts.count(agreement, is_unseen(packet.bytes));
+                Ok(())
             }
-            Ok(false) => return Printed::of_reader(counts, Ok(()), Ok(())),
-            Err(fault) => return Printed::of_reader(counts, Err(fault), Ok(())),
+            Err(unprinted) => Err(unprinted),
         }
     }
 }

@@ -2,4 +2,3 @@ pub mod Answered
 pub mod Printing
 pub mod Ranging
 pub mod InFull
-pub mod Handing

@@ -24,60 +24,34 @@ use Rattle.cli_answers.specs.declared.form.PacketForm.TheVariants.{Text, Json}
 use Rattle.cli_explain.specs.Printed.{answer_line}
 use Rattle.cli_answers.specs.Answers.{Answer, answer}
 use Rattle.cli_answers.specs.Counts.{counts_in, AreCounts}
-use Rattle.cli_answers.specs.Objects.{IsAnswerIn}
-use Rattle.cli_explain.specs.Explained.{counts_line, answer_lines, packets_of, Explains, ExplainsLines, IsLineBroken, PrintsLine, PrintsLines, PrintsAll, PrintsFound, PrintsMore, PrintsWhole, GoesTo, Finds}
-
--- it broke off
-pub broken-off : {A : Type 0} (form : PacketForm) (f : AskedFilter) (from left : Option (List ℕ)) (header : Header) (old new : Option (List ℕ)) (c : VerdictCounts) (read : Result A Fault) (done : Result A Unprinted) (x : A) (u : Unprinted) (told : List Answer) →
-    read ≡ Ok x → done ≡ Err u → AllByRecursion (IsAnswerIn form f) told → WasBegun from header (packets_of told) → TakesPart old new (answer_lines form told) →
-    PrintsLines form f from left header old new c read done
-broken-off form f from left header old new c read done x u told reads stops all begun part =
-    rw (reads, stops) (inl (told, all, begun, refl, refl, part))
-
--- the capture was read to its end
-pub read-whole : {A : Type 0} (form : PacketForm) (f : AskedFilter) (from left : Option (List ℕ)) (header : Header) (old new : Option (List ℕ)) (c : VerdictCounts) (read : Result A Fault) (done : Result A Unprinted) (x y : A) (answers : List Answer) →
-    read ≡ Ok x → done ≡ Ok y → AllByRecursion (IsAnswerIn form f) answers → WasRead from header (packets_of answers) None →
-    Appends old new (answer_lines form answers) → AreCounts c answers →
-    PrintsLines form f from left header old new c read done
-read-whole form f from left header old new c read done x y answers reads prints all was lines are =
-    rw (reads, prints) (inr (answers, all, inl (None, was, refl), refl, lines, are))
-
--- or not so far
-pub read-part : {A : Type 0} (form : PacketForm) (f : AskedFilter) (from left : Option (List ℕ)) (header : Header) (old new : Option (List ℕ)) (c : VerdictCounts) (read : Result A Fault) (done : Result A Unprinted) (fault : Fault) (y : A) (answers : List Answer) →
-    read ≡ Err fault → done ≡ Ok y → AllByRecursion (IsAnswerIn form f) answers →
-    Appends old new (answer_lines form answers) → AreCounts c answers → WasBegun from header (packets_of answers) → IsCause from left header (packets_of answers) fault →
-    PrintsLines form f from left header old new c read done
-read-part form f from left header old new c read done fault y answers reads prints all lines are begun (inl was) =
-    rw (reads, prints) (inr (answers, all, inl (Some fault, was, refl), refl, lines, are))
-read-part form f from left header old new c read done fault y answers reads prints all lines are begun (inr (inl (device, taken))) =
-    rw (reads, prints) (inr (answers, all, inr (begun, inl (ap Err device, taken)), refl, lines, are))
-read-part form f from left header old new c read done fault y answers reads prints all lines are begun (inr (inr (full, many))) =
-    rw (reads, prints) (inr (answers, all, inr (begun, inr (ap Err full, many)), refl, lines, are))
+use Rattle.cli_answers.specs.Lines.{PrintsPackets}
+use Rattle.cli_answers.specs.Reading.{ReadsTo}
+use Rattle.cli_explain.specs.Explained.{counts_line, answer_lines, packets_of, Explains, ExplainsLines, IsLineBroken, IsBegun, IsPrinted, PrintsLine, PrintsAll, PrintsFound, PrintsMore, PrintsWhole, GoesTo, Finds}
 
 -- where the lines broke off, no counts are printed
 pub lines-alone : {A : Type 0} (form : PacketForm) (f : AskedFilter) (from left : Option (List ℕ)) (header : Header) (old new : Option (List ℕ)) (c : VerdictCounts) (read : Result A Fault) (done : Result A Unprinted) →
-    is_err done ≡ true → PrintsLines form f from left header old new c read done → PrintsAll form f from left header old new c read done
+    is_err done ≡ true → PrintsPackets (IsPrinted form f) (IsBegun form f) from left header old new c read done → PrintsAll form f from left header old new c read done
 lines-alone form f from left header old new c read (Ok x) failed lines = absurd (cc)
 lines-alone form f from left header old new c read (Err u) failed (inl broke) = inl broke
-lines-alone form f from left header old new c read (Err u) failed (inr (answers, all, reads, ok, lines, are)) = absurd (cc)
+lines-alone form f from left header old new c read (Err u) failed (inr (packets, was, reads, ok)) = absurd (cc)
 
 -- the lines, and then the counts
 pub lines-and-counts : {A : Type 0} (form : PacketForm) (f : AskedFilter) (from left : Option (List ℕ)) (header : Header) (old mid new : Option (List ℕ)) (c : VerdictCounts) (read : Result A Fault) (done told : Result A Unprinted) →
-    is_err done ≡ false → PrintsLines form f from left header old mid c read done → Takes mid new told (counts_in form c.packets c.yes c.no c.abort) →
+    is_err done ≡ false → PrintsPackets (IsPrinted form f) (IsBegun form f) from left header old mid c read done → Takes mid new told (counts_in form c.packets c.yes c.no c.abort) →
     PrintsAll form f from left header old new c read told
 lines-and-counts form f from left header old mid new c read (Err u) told went lines taken = absurd (cc)
-lines-and-counts form f from left header old mid new c read (Ok x) told went (inl (answers, all, begun, ok, err, part)) taken = absurd (cc)
-lines-and-counts form f from left header old mid new c read (Ok x) (Ok y) went (inr (answers, all, reads, ok, lines, are)) taken =
+lines-and-counts form f from left header old mid new c read (Ok x) told went (inl (packets, part, begun, ok, err)) taken = absurd (cc)
+lines-and-counts form f from left header old mid new c read (Ok x) (Ok y) went (inr (packets, (answers, same-packets, all, lines, are), reads, ok)) taken =
     let same : counts_in form c.packets c.yes c.no c.abort ≡ counts_line form answers = rw (are.packets, are.yes, are.no, are.abort) refl in
     let more = Appends-trans old mid new (answer_lines form answers) _ lines (subst (Appends mid new) same taken) in
-    inr (answers, all, reads, (more, are))
-lines-and-counts form f from left header old mid new c read (Ok x) (Err u) went (inr (answers, all, reads, ok, lines, are)) taken =
+    inr (answers, all, subst (λ ps. ReadsTo from left header ps read) (sym same-packets) reads, (more, are))
+lines-and-counts form f from left header old mid new c read (Ok x) (Err u) went (inr (packets, (answers, same-packets, all, lines, are), reads, ok)) taken =
     let same : counts_in form c.packets c.yes c.no c.abort ≡ counts_line form answers = rw (are.packets, are.yes, are.no, are.abort) refl in
-    inr (answers, all, reads, (mid, lines, subst (TakesPart mid new) same taken))
+    inr (answers, all, subst (λ ps. ReadsTo from left header ps read) (sym same-packets) reads, (mid, lines, subst (TakesPart mid new) same taken))
 
 -- the lines, and then the counts, if all lines were printed
 all-of : {A : Type 0} (form : PacketForm) (f : AskedFilter) (from left : Option (List ℕ)) (header : Header) (old mid new : Option (List ℕ)) (c : VerdictCounts) (read : Result A Fault) (done told : Result A Unprinted) →
-    PrintsLines form f from left header old mid c read done → (IsErr done → (told ≡ done) × (new ≡ mid)) → (IsOk done → Takes mid new told (counts_in form c.packets c.yes c.no c.abort)) →
+    PrintsPackets (IsPrinted form f) (IsBegun form f) from left header old mid c read done → (IsErr done → (told ≡ done) × (new ≡ mid)) → (IsOk done → Takes mid new told (counts_in form c.packets c.yes c.no c.abort)) →
     PrintsAll form f from left header old new c read told
 all-of form f from left header old mid new c read (Ok x) told lines failed prints = lines-and-counts form f from left header old mid new c read (Ok x) told refl lines (prints refl)
 all-of form f from left header old mid new c read (Err u) told lines failed prints =
@@ -88,9 +62,9 @@ pub each-of : {R : Type 0} (left : R → Option (List ℕ)) (from : R) (form : P
     ExplainsLines left from form f old mid e → (e.opened ≡ false → (told ≡ e.printed) × (new ≡ mid)) → (IsErr e.printed → (told ≡ e.printed) × (new ≡ mid)) →
     (e.opened ≡ true → IsOk e.printed → Takes mid new told (counts_in form e.counts.packets e.counts.yes e.counts.no e.counts.abort)) →
     Explains left from form f old new (record { source = e.source; opened = e.opened; counts = e.counts; read = e.read; printed = told })
-each-of left from form f old mid new e told (inl (fault, unread, err, ok, kept, are, closed)) none failed prints =
+each-of left from form f old mid new e told (inl (fault, unread, err, ok, kept, none-counted, closed)) none failed prints =
     let (same, stays) = none closed in
-    inl (fault, unread, err, subst IsOk (sym same) ok, subst (Keeps old) (sym stays) kept, are, closed)
+    inl (fault, unread, err, subst IsOk (sym same) ok, subst (Keeps old) (sym stays) kept, subst (λ (k : VerdictCounts). AreCounts k []) (sym none-counted) (record { packets = refl; yes = refl; no = refl; abort = refl; unseen = refl }), closed)
 each-of left from form f old mid new e told (inr (opened, header, lines)) none failed prints =
     inr (opened, header, all-of form f (left from) (left e.source) header old mid new e.counts e.read e.printed told lines failed (prints opened))
 

@@ -21,7 +21,8 @@ use Rattle.cli_answers.specs.declared.form.PacketForm.{PacketForm}
 use Rattle.cli_answers.specs.declared.form.PacketForm.TheVariants.{Text, Json}
 use Rattle.cli_answers.specs.Verdicts.{is_yes, is_no, is_abort}
 use Rattle.cli_answers.specs.Answers.{Answer, answer}
-use Rattle.cli_answers.specs.Counts.{AreCounts, count_of, counts_in}
+use Rattle.cli_answers.specs.Counts.{AreCounts, count_of, counts_in, no_counts}
+use Rattle.cli_answers.specs.Lines.{BreaksOff, PrintsCapture}
 use Rattle.cli_answers.specs.Reading.{IsUnopened, ReadsTo}
 use Rattle.cli_answers.specs.Objects.{IsAnswerIn}
 use Rattle.cli_explain.specs.Forms.{line_in, whole_in}
@@ -54,23 +55,22 @@ packets_of answers = map (λ a. a.packet) answers
 
 -- ---- A capture
 
--- The printing broke off at a line: a beginning of the lines of packets that the capture begins with was printed, and no counts.
-abbrev pub BreaksOff : {A : Type 0} → PacketForm → AskedFilter → Option (List ℕ) → Header → Option (List ℕ) → Option (List ℕ) → Result A Fault → Result A Unprinted → Type 0
-BreaksOff form filter from header old new read done =
-    (answers : List Answer) × AllByRecursion (IsAnswerIn form filter) answers × WasBegun from header (packets_of answers)
-    × IsOk read × IsErr done × TakesPart old new (answer_lines form answers)
+-- the lines of these packets were printed, and the packets counted
+abbrev pub IsPrinted : PacketForm → AskedFilter → List Packet → Option (List ℕ) → Option (List ℕ) → VerdictCounts → Type 0
+IsPrinted form filter packets old new counts =
+    (answers : List Answer) × (packets_of answers ≡ packets) × AllByRecursion (IsAnswerIn form filter) answers
+    × Appends old new (answer_lines form answers) × AreCounts counts answers
 
--- the lines of the packets of a reader were printed and counted
-abbrev pub PrintsLines : {A : Type 0} → PacketForm → AskedFilter → Option (List ℕ) → Option (List ℕ) → Header → Option (List ℕ) → Option (List ℕ) → VerdictCounts → Result A Fault → Result A Unprinted → Type 0
-PrintsLines form filter from left header old new counts read done =
-    BreaksOff form filter from header old new read done
-    ⊎ ((answers : List Answer) × AllByRecursion (IsAnswerIn form filter) answers × ReadsTo from left header (packets_of answers) read
-    × IsOk done × Appends old new (answer_lines form answers) × AreCounts counts answers)
+-- a beginning of their lines was
+abbrev pub IsBegun : PacketForm → AskedFilter → List Packet → Option (List ℕ) → Option (List ℕ) → Type 0
+IsBegun form filter packets old new =
+    (answers : List Answer) × (packets_of answers ≡ packets) × AllByRecursion (IsAnswerIn form filter) answers
+    × TakesPart old new (answer_lines form answers)
 
--- and then the counts
+-- The printing of the lines broke off; or all were printed, and then the counts.
 abbrev pub PrintsAll : {A : Type 0} → PacketForm → AskedFilter → Option (List ℕ) → Option (List ℕ) → Header → Option (List ℕ) → Option (List ℕ) → VerdictCounts → Result A Fault → Result A Unprinted → Type 0
 PrintsAll form filter from left header old new counts read done =
-    BreaksOff form filter from header old new read done
+    BreaksOff (IsBegun form filter) from header old new read done
     ⊎ ((answers : List Answer) × AllByRecursion (IsAnswerIn form filter) answers × ReadsTo from left header (packets_of answers) read
     × Prints form old new answers counts done)
 
@@ -83,10 +83,7 @@ Explains left from form filter old new e =
 
 -- the same without the line of the counts
 abbrev pub ExplainsLines : {R : Type 0} → (R → Option (List ℕ)) → R → PacketForm → AskedFilter → Option (List ℕ) → Option (List ℕ) → Printed R VerdictCounts → Type 0
-ExplainsLines left from form filter old new e =
-    ((fault : Fault) × IsUnopened left from e.source fault × IsErrOf e.read fault × IsOk e.printed × Keeps old new × AreCounts e.counts []
-    × (e.opened ≡ false))
-    ⊎ ((e.opened ≡ true) × (header : Header) × PrintsLines form filter (left from) (left e.source) header old new e.counts e.read e.printed)
+ExplainsLines left from form filter old new e = PrintsCapture left from no_counts (IsPrinted form filter) (IsBegun form filter) old new e
 
 -- ---- A line
 

@@ -7,8 +7,7 @@ ghost use Rattle.savefile.specs.Reader.{HasGiven, Lends};
 ghost use Rattle.cli_answers.specs.declared.form.PacketForm.TheVariants.{Json, Text};
 ghost use Rattle.cli_explain.specs.Explained.{Finds, GoesTo, PrintsFound, PrintsMore, PrintsWhole};
 
-use crate::each::print_line;
-use crate::form::Asking;
+use crate::form::{Asking, print_line};
 use crate::object::whole_object;
 use crate::printer::FullPrinter;
 use crate::whole::whole_text;

@@ -1,13 +1,14 @@
 use Rattle.std.proofs.Common.{◌≡◌, ℕ, List, Option, Bor, refl, sym, subst}
 use Rattle.cli_answers.specs.declared.form.PacketForm.{PacketForm}
 use Rattle.cli_answers.proofs.Closing.{fresh}
-use Rattle.cli_answers.proofs.Totals.{lines-handed, prints-broke}
+use Rattle.cli_answers.proofs.Totals.{has-opened, lines-handed, prints-broke}
+use Rattle.cli_answers.specs.Counts.{of_capture}
 use Rattle.cli_answers.specs.Lines.{PrintsTotals}
 use Rattle.cli_compare.specs.Captures.{ComparesIn, ComparesNth}
+use Rattle.cli_compare.specs.Compared.{IsBegun, IsPrinted}
 use Rattle.cli_compare.specs.Comparing.{PrintsLines}
 use Rattle.cli_compare.specs.Pairs.{no_counts, plus}
 use Rattle.cli_compare.specs.Printed.{line_of}
-use Rattle.cli_compare.proofs.Handing.{has-opened}
 use Rattle.cli_compare.proofs.files.compare_files.Goals as goal
 
 pub returns-clause-prints : goal.returns-clause-prints
@@ -46,6 +47,6 @@ returns-clause-handed_on g c none read printed =
     let left = g.F.Input.Source.left in
     let contents = g.O.Write.contents in
     let form = c.asked-form.result in
-    lines-handed left g.F.Input.Source.failures no_counts plus (ComparesNth left contents form asked.pair) (has-opened left contents form asked.pair)
+    lines-handed left g.F.Input.Source.failures no_counts plus (ComparesNth left contents form asked.pair) (λ n from old new e. has-opened left from no_counts (IsPrinted (of_capture form n) asked.pair) (IsBegun (of_capture form n) asked.pair) (contents old) (contents new) e)
     contents (line_of form) g.O.PrintSink.waits asked.captures.items c.args.out.now call.new.out end.new.out call.result end.result
     call.ensures (record { unopened = end.ensures.none; broken = end.ensures.failed; counted = end.ensures.prints }) end.ensures.handed_on none read printed

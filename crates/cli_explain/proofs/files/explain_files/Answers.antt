@@ -2,12 +2,12 @@ use Rattle.std.proofs.Common.{◌≡◌, ℕ, List, Option, Bor, refl, sym, subs
 use Rattle.cli_answers.specs.Asked.{IsAsked}
 use Rattle.cli_answers.specs.declared.form.PacketForm.{PacketForm}
 use Rattle.cli_answers.proofs.Closing.{fresh}
-use Rattle.cli_answers.proofs.Totals.{lines-handed, prints-broke}
-use Rattle.cli_answers.specs.Counts.{line_of, no_counts, plus}
+use Rattle.cli_answers.proofs.Totals.{has-opened, lines-handed, prints-broke}
+use Rattle.cli_answers.specs.Counts.{line_of, no_counts, of_capture, plus}
 use Rattle.cli_answers.specs.Lines.{PrintsTotals}
 use Rattle.cli_explain.specs.Captures.{ExplainsIn, ExplainsNth}
+use Rattle.cli_explain.specs.Explained.{IsBegun, IsPrinted}
 use Rattle.cli_explain.specs.Explaining.{PrintsLines}
-use Rattle.cli_explain.proofs.Handing.{has-opened}
 use Rattle.cli_explain.proofs.files.explain_files.Goals as goal
 
 pub returns-clause-prints : goal.returns-clause-prints
@@ -47,6 +47,6 @@ returns-clause-handed_on g c none read printed =
     let contents = g.O.Write.contents in
     let asked = c.in_ok-filter.field-0 in
     let form = c.asked-form.result in
-    lines-handed left g.F.Input.Source.failures no_counts plus (ExplainsNth left contents form asked.filter) (has-opened left contents form asked.filter)
+    lines-handed left g.F.Input.Source.failures no_counts plus (ExplainsNth left contents form asked.filter) (λ n from old new e. has-opened left from no_counts (IsPrinted (of_capture form n) asked.filter) (IsBegun (of_capture form n) asked.filter) (contents old) (contents new) e)
     contents (line_of form) g.O.PrintSink.waits asked.captures.items c.args.out.now call.new.out end.new.out call.result end.result
     call.ensures (record { unopened = end.ensures.none; broken = end.ensures.failed; counted = end.ensures.prints }) end.ensures.handed_on none read printed
