@@ -5,6 +5,7 @@ pub mod ahead;
 pub mod asked;
 pub mod captures;
 pub mod counts;
+pub mod disk;
 pub mod dump;
 pub mod filter;
 pub mod form;

@@ -35,14 +35,6 @@ pub struct DifferenceCounts {
 }
 
 impl DifferenceCounts {
-    /// Of no packets.
-    pub const NONE: DifferenceCounts = DifferenceCounts {
-        packets: 0,
-        first: 0,
-        second: 0,
-        unseen: 0,
-    };
-
     /// How many packets one filter accepts and the other does not.
     pub fn differ(self) -> u128
         ensures { result ≡ self.first + self.second }
@@ -91,7 +83,12 @@ impl Counts for DifferenceCounts {
     ghost line_in = { line_of };
 
     fn none() -> DifferenceCounts {
-        DifferenceCounts::NONE
+        DifferenceCounts {
+            packets: 0,
+            first: 0,
+            second: 0,
+            unseen: 0,
+        }
     }
 
     fn plus(self, other: DifferenceCounts) -> DifferenceCounts {

@@ -12,20 +12,19 @@ use crate::report::{bounds_status, listed_status, report_counting};
 use cli_answers::PacketForm;
 use cli_answers::asked::{Asked, Unasked, ask};
 use cli_answers::counts::print_counts;
+use cli_answers::disk::run_over_disk;
 use cli_answers::hints::hint_ended;
 use cli_answers::opened::close_captures;
 use cli_answers::printing::Unprinted;
 use cli_answers::report::report_unasked;
 use cli_args::counting::{CountShown, CountWords};
-use cli_files::captures::output_buffer;
 use cli_files::paths::PathFault;
 use cli_report::HintSink;
-use cli_report::failures::hint_output;
-use cli_store::{DiskFiles, FileStore};
+use cli_store::FileStore;
 use cli_text::Status;
+use cli_watch::Screen;
 use cli_watch::hints::{is_asked, report_unseen};
-use cli_watch::output::{PrintSink, WatchedOutput};
-use cli_watch::{Screen, Watch};
+use cli_watch::output::PrintSink;
 use line_text::LineForm;
 use std::alloc::Global;
 use std::fs::Files;
@@ -223,14 +222,8 @@ pub fn count_command<R: Files + AllocGlobal + Screen, O: Write, E: HintSink>(
     out: &mut O,
     err: &mut E,
 ) -> Status {
-    let watch = Watch::new(rt, words.inputs.as_slice(), err.takes_hints());
-    let out = WatchedOutput::new(&mut *out, &watch);
-    let mut out = match output_buffer(rt.alloc(), out, err) {
-        Ok(out) => out,
-        Err(status) => return status,
-    };
-    let mut files = DiskFiles::new(rt, &watch);
-    let status = count_and_report(rt.alloc(), &mut files, words, &mut out, err);
-    hint_output(out.get_ref(), err);
-    status
+    let inputs = words.inputs.as_slice();
+    run_over_disk(rt, inputs, out, err, |mut files, out, err| {
+        count_and_report(rt.alloc(), &mut files, words, out, err)
+    })
 }

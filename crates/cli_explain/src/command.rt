@@ -13,17 +13,16 @@ use crate::full::{PlacesWords, explain_places};
 use crate::report::report_sought;
 use cli_answers::captures::{LinesEnd, read_of};
 use cli_answers::counts::VerdictCounts;
+use cli_answers::disk::run_over_disk;
 use cli_answers::hints::hint_ended;
 use cli_answers::report::{report_captures, report_unasked};
 use cli_args::explain::ExplainWords;
-use cli_files::captures::output_buffer;
 use cli_report::HintSink;
-use cli_report::failures::hint_output;
-use cli_store::{DiskFiles, FileStore};
+use cli_store::FileStore;
 use cli_text::Status;
+use cli_watch::Screen;
 use cli_watch::hints::{is_asked, report_unseen};
-use cli_watch::output::{PrintSink, WatchedOutput};
-use cli_watch::{Screen, Watch};
+use cli_watch::output::PrintSink;
 use std::alloc::Global;
 use std::fs::Files;
 use std::io::Write;
@@ -123,14 +122,8 @@ pub fn explain_command<R: Files + AllocGlobal + Screen, O: Write, E: HintSink>(
     out: &mut O,
     err: &mut E,
 ) -> Status {
-    let watch = Watch::new(rt, words.inputs.as_slice(), err.takes_hints());
-    let out = WatchedOutput::new(&mut *out, &watch);
-    let mut out = match output_buffer(rt.alloc(), out, err) {
-        Ok(out) => out,
-        Err(status) => return status,
-    };
-    let mut files = DiskFiles::new(rt, &watch);
-    let status = explain_and_report(rt.alloc(), &mut files, words, &mut out, err);
-    hint_output(out.get_ref(), err);
-    status
+    let inputs = words.inputs.as_slice();
+    run_over_disk(rt, inputs, out, err, |mut files, out, err| {
+        explain_and_report(rt.alloc(), &mut files, words, out, err)
+    })
 }
