@@ -43,6 +43,9 @@ def without_contract(text):
     for line in lines:
         if line.startswith(("impl", "}")):
             of_trait = line.startswith("impl") and " for " in line
+        elif line.startswith("    for "):
+            # The head of an impl goes on; or a loop does, whose function ends it.
+            of_trait = True
         found = HEAD.match(line)
         if not found:
             continue
@@ -78,7 +81,7 @@ def each_function_has_a_contract_or_a_reason(scene):
             scene.check(place, sorted(set(names)), sorted(listed.get(key, [])))
     scene.check("lines of no source", sorted(set(listed) - met), [])
     # The search finds what it is for.
-    scene.check("a source", without_contract("impl A {\n    fn a(\n        x: u32,\n    ) -> u32 {\n    }\n\n    fn b()\n        ensures { x }\n    {\n    }\n}\nimpl T for A {\n    fn c() {\n    }\n}\n"), ["a"])
+    scene.check("a source", without_contract("impl A {\n    fn a(\n        x: u32,\n    ) -> u32 {\n    }\n\n    fn b()\n        ensures { x }\n    {\n    }\n}\nimpl T for A {\n    fn c() {\n    }\n}\nimpl T\n    for B {\n    fn d() {\n    }\n}\n"), ["a"])
 
 
 # ---- Two lists of the language's words
