@@ -13,7 +13,7 @@ use cli_watch::output::{PrintSink, send_last};
 use filter_meaning::Verdict;
 
 /// What is counted of the packets of captures, and printed after their lines.
-pub trait Counts: Copy {
+pub trait PacketCounts: Copy {
     /// The counts of no packets.
     ghost none: { Self };
 
@@ -106,7 +106,7 @@ impl VerdictCounts {
     }
 }
 
-impl Counts for VerdictCounts {
+impl PacketCounts for VerdictCounts {
     ghost none = { no_counts };
 
     ghost sum = { plus };
@@ -133,7 +133,7 @@ impl Counts for VerdictCounts {
 
 /// Prints the counts, and all that the writer has gathered; the line that it is put together in may
 /// have any text.
-pub fn print_counts<C: Counts, O: PrintSink>(
+pub fn print_counts<C: PacketCounts, O: PrintSink>(
     counts: C,
     form: PacketForm,
     line: &mut String,

@@ -10,7 +10,7 @@ ghost use Rattle.cli_answers.specs.Lines.{PrintsCapture, PrintsIn, PrintsNext, P
 
 use crate::ahead::advance_flushed;
 use crate::captures::{goes_on, read_of};
-use crate::counts::{Counts, print_counts};
+use crate::counts::{PacketCounts, print_counts};
 use crate::form::{PacketForm, PacketLine};
 use crate::printing::Unprinted;
 use cli_walk::{Stop, Visited, Visitor, Walk, visit_captures};
@@ -66,7 +66,7 @@ pub struct PrintedTotals<C> {
     pub printed: Result<(), Unprinted>,
 }
 
-impl<C: Counts> PrintedTotals<C> {
+impl<C: PacketCounts> PrintedTotals<C> {
     /// What was printed, once one capture more was.
     fn after(&self, opened: bool, counts: C, printed: Result<(), Unprinted>) -> PrintedTotals<C>
         ensures opened { result.opened ≡ (self.now.opened || opened) }
@@ -92,7 +92,7 @@ pub struct PrintedCaptures<R, C> {
 }
 
 /// What prints the lines of packets, and counts them.
-pub trait PacketPrinter<C: Counts>: Copy {
+pub trait PacketPrinter<C: PacketCounts>: Copy {
     /// The lines of these packets were printed, if they have some, and the packets were counted:
     /// what the output had before that, and has now.
     ghost printed: { Self → List Packet → Option (List ℕ) → Option (List ℕ) → C → Type 0 };
@@ -130,7 +130,7 @@ pub trait PacketPrinter<C: Counts>: Copy {
 }
 
 /// Prints the line of each packet that a reader goes on to.
-fn print_packets<R: Source, C: Counts, P: PacketPrinter<C>, O: Write>(
+fn print_packets<R: Source, C: PacketCounts, P: PacketPrinter<C>, O: Write>(
     printer: &P,
     reader: &mut Reader<R>,
     buffer: &mut PacketLine,
@@ -166,7 +166,7 @@ fn print_packets<R: Source, C: Counts, P: PacketPrinter<C>, O: Write>(
 /// [`Fault::NoMemory`] the source is as it was too. It has the fault of the first torn or bad record, after the lines of the packets before
 /// it. It is [`Fault::Device`] exactly if the source failed. If `printed` has a fault, `out` took a prefix of the lines, and `read` is `Ok`,
 /// since no further packet was read.
-pub fn print_capture<R: Source, C: Counts, P: PacketPrinter<C>, O: Write>(
+pub fn print_capture<R: Source, C: PacketCounts, P: PacketPrinter<C>, O: Write>(
     alloc: Global,
     from: R,
     printer: &P,
@@ -208,7 +208,7 @@ struct Each<P> {
     printer: P,
 }
 
-impl<R: Source, C: Counts, O: Write, P: PacketPrinter<C>> Visitor<R, PrintedTotals<C>, O>
+impl<R: Source, C: PacketCounts, O: Write, P: PacketPrinter<C>> Visitor<R, PrintedTotals<C>, O>
     for Each<P> {
     ghost visits = { λ each n t o from v t' o'. PrintsNext C.sum (PrintsNth R.left O.contents C.none P.printed P.begun P.nth each.printer) n t o from v t' o' };
 
@@ -237,7 +237,7 @@ impl<R: Source, C: Counts, O: Write, P: PacketPrinter<C>> Visitor<R, PrintedTota
 ///
 /// The first fault ends the reading, and what was printed before it stays. If `printed` has a fault, `read` is `Ok`, since no further
 /// packet was read. If memory is refused for the sources, `read` is [`Fault::NoMemory`] of capture 0, and none is read.
-pub fn print_captures<R: Source + Drop, C: Counts, P: PacketPrinter<C>, O: Write>(
+pub fn print_captures<R: Source + Drop, C: PacketCounts, P: PacketPrinter<C>, O: Write>(
     alloc: Global,
     captures: Vec<R>,
     printer: P,
@@ -261,7 +261,7 @@ pub fn print_captures<R: Source + Drop, C: Counts, P: PacketPrinter<C>, O: Write
 
 /// Prints the counts of all captures, if a header was read and all lines were printed; and hands on
 /// all that was printed.
-pub fn print_totals<C: Counts, O: PrintSink>(
+pub fn print_totals<C: PacketCounts, O: PrintSink>(
     alloc: Global,
     totals: PrintedTotals<C>,
     form: PacketForm,

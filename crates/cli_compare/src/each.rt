@@ -12,7 +12,7 @@ use crate::line::{Comparing, put_counts, put_difference};
 use crate::pair::{Agreement, FilterPair};
 use bpfvm::NoMemory;
 use cli_answers::PacketForm;
-use cli_answers::counts::Counts;
+use cli_answers::counts::PacketCounts;
 use cli_answers::form::PacketLine;
 use cli_answers::lines::{PacketPrinter, Printed, print_capture};
 use cli_answers::printing::Unprinted;
@@ -73,7 +73,7 @@ impl DifferenceCounts {
     }
 }
 
-impl Counts for DifferenceCounts {
+impl PacketCounts for DifferenceCounts {
     ghost none = { no_counts };
 
     ghost sum = { plus };

@@ -9,6 +9,6 @@ returns g c =
     let P = g.P.PacketPrinter in (
       walk.result.end,
       c.read_of.ensures,
-      subst (λ none. Walked g.R.Source.left g.R.Source.failures (PrintsNext g.C.Counts.sum (PrintsNth g.R.Source.left g.O.Write.contents g.C.Counts.none P.printed P.begun P.nth c.args.printer)) c.args.captures.items walk.result.sources.items (no_totals none) c.args.out.now walk.new.state walk.new.out walk.result.end)
+      subst (λ none. Walked g.R.Source.left g.R.Source.failures (PrintsNext g.C.PacketCounts.sum (PrintsNth g.R.Source.left g.O.Write.contents g.C.PacketCounts.none P.printed P.begun P.nth c.args.printer)) c.args.captures.items walk.result.sources.items (no_totals none) c.args.out.now walk.new.state walk.new.out walk.result.end)
           c.none.ensures.is walk.ensures,
     )

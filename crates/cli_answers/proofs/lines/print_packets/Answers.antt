@@ -29,7 +29,7 @@ loop-reader-preserved g c = record {
             (c.in-Ok-true.ensures.packet from header packets gives (ap Ok c.in-Ok-true.field-0-test)),
         c.in-Ok.ensures.prints packets _ kept,
       );
-  fit = subst (λ n. g.C.Counts.fit c.print.new.counts n) (sym (gave-more _ _ _ c.advance_flushed.ensures.leaves (c.in-Ok-true.is ∙ ap Ok c.in-Ok-true.field-0-test)).0) (c.in-Ok.ensures.fit _ c.loop-reader.invariant.fit);
+  fit = subst (λ n. g.C.PacketCounts.fit c.print.new.counts n) (sym (gave-more _ _ _ c.advance_flushed.ensures.leaves (c.in-Ok-true.is ∙ ap Ok c.in-Ok-true.field-0-test)).0) (c.in-Ok.ensures.fit _ c.loop-reader.invariant.fit);
   taken =
       let (before, took) = c.loop-reader.invariant.taken in
       let (further, goes) = c.in-Ok-true.ensures.taken in

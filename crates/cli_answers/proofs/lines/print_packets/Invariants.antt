@@ -12,7 +12,7 @@ invariant-loop-reader g l =
       prints : (from : Option (List ℕ)) (header : Header) → HasGiven g.R.Source.left from header [] l.fn.reader →
           (packets : List Packet) × HasGiven g.R.Source.left from header packets l.reader
           × g.P.PacketPrinter.printed l.printer packets (g.O.Write.contents l.fn.out) (g.O.Write.contents l.out) l.counts;
-      fit : g.C.Counts.fit l.counts l.reader.given;
+      fit : g.C.PacketCounts.fit l.counts l.reader.given;
       taken : (bytes : List ℕ) × Consumes (g.R.Source.left l.fn.reader.source) (g.R.Source.left l.reader.source) bytes;
       source_works : g.R.Source.failures l.reader.source ≡ g.R.Source.failures l.fn.reader.source;
     }

@@ -11,7 +11,7 @@ returns-clause-visits g c =
     let p = call.result in
     let P = g.P.PacketPrinter in (
       p,
-      subst (λ printer. PrintsCapture g.R.Source.left c.args.capture g.C.Counts.none (P.printed printer) (P.begun printer) (g.O.Write.contents c.args.out.now) (g.O.Write.contents call.new.out) p) c.of_capture-printer.ensures call.ensures.prints,
+      subst (λ printer. PrintsCapture g.R.Source.left c.args.capture g.C.PacketCounts.none (P.printed printer) (P.begun printer) (g.O.Write.contents c.args.out.now) (g.O.Write.contents call.new.out) p) c.of_capture-printer.ensures call.ensures.prints,
       ap (visited p.source) c.goes_on-goes_on.ensures,
       totals-as c.after.result _ _ _ c.after.ensures.opened c.after.ensures.counts c.after.ensures.printed,
     )
