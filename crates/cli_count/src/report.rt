@@ -2,7 +2,8 @@
 
 ghost use Rattle.std.specs.Prelude.{◌≡◌};
 ghost use Rattle.cli_text.specs.Status.{greater};
-ghost use Rattle.cli_answers.specs.Telling.{printed_status, stop_status};
+ghost use Rattle.fault_report.specs.Reports.{TellsAmong};
+ghost use Rattle.cli_answers.specs.Telling.{TellsEnd, printed_status, stop_status};
 ghost use Rattle.cli_count.specs.Telling.{bounds_status, listed_status};
 
 use cli_answers::printing::Unprinted;
@@ -14,7 +15,7 @@ use cli_walk::Stop;
 
 /// The exit status of captures of which N packets are accepted; without bounds it is
 /// [`Status::Clean`].
-pub(crate) fn bounds_status(bounds: Option<CountBounds>, accepted: u64) -> Status
+pub fn bounds_status(bounds: Option<CountBounds>, accepted: u64) -> Status
     ensures { result ≡ bounds_status bounds accepted }
 {
     match bounds {
@@ -24,7 +25,7 @@ pub(crate) fn bounds_status(bounds: Option<CountBounds>, accepted: u64) -> Statu
 }
 
 /// The exit status of captures of which one has an accepted packet, or none has.
-pub(crate) fn listed_status(found: bool) -> Status
+pub fn listed_status(found: bool) -> Status
     ensures { result ≡ listed_status found }
 {
     if found {
@@ -43,7 +44,8 @@ pub fn report_counting<E: HintSink>(
     paths: &[&str],
     err: &mut E,
 ) -> Status
-    ensures { result ≡ greater (greater (printed_status printed.now) (stop_status read)) answer }
+    ensures status { result ≡ greater (greater (printed_status printed.now) (stop_status read)) answer }
+    ensures told { TellsEnd (λ says. TellsAmong E.takes_hints E.failed E.contents E.fault_form says err.old err.new) paths.now printed.now read }
 {
     report_captures(printed, read, paths, err).max(answer)
 }
