@@ -29,6 +29,12 @@ abbrev pub stop_status : {A : Type 0} → Result A Stop → Status
 stop_status (Ok done) = Clean
 stop_status (Err stop) = fault_status stop.fault
 
+-- of a packet that was looked for in several captures: one status if it was found, another if there is none
+abbrev pub sought_status : (found none : Status) → Result Bool Stop → Status
+sought_status found none (Ok true) = found
+sought_status found none (Ok false) = none
+sought_status found none (Err stop) = fault_status stop.fault
+
 -- ---- What is reported
 
 -- Of why not all was printed. If nobody reads what is printed any more, nothing is.

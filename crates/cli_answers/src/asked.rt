@@ -24,7 +24,8 @@ pub enum Unasked<'p> {
     Filter(Option<Vec<u8>>, FilterFault),
     /// The text of this listing has more than [`MAX_TEXT`] bytes.
     TextTooLong(&'p str),
-    /// Standard output goes to a file that is read; or memory was refused.
+    /// Standard output goes to a file that is read; or it is unknown where a path leads; or memory
+    /// was refused.
     Paths(PathFault<'p>),
     /// This file could not be read or opened.
     File(&'p str, io::Error),

@@ -45,7 +45,7 @@ fn hint_unread<E: HintSink>(paths: &[&str], number: usize, err: &mut E)
 
 /// Hints on the capture that ended the reading of several, if one did, by what was noted of it, and
 /// that those after it are not read.
-pub fn hint_ended<E: HintSink>(
+pub(crate) fn hint_ended<E: HintSink>(
     paths: &[&str],
     read: Result<(), Stop>,
     noted: &Option<FailureProbe<()>>,

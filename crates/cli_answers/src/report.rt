@@ -5,9 +5,11 @@ ghost use Rattle.cli_text.specs.Status.{greater};
 ghost use Rattle.cli_text.specs.Telling.{fault_status};
 ghost use Rattle.fault_report.specs.Reports.{TellsAmong, TellsMore, TellsOne};
 ghost use Rattle.cli_answers.specs.Asked.{IsUnaskedReport, IsUnaskedStatus};
-ghost use Rattle.cli_answers.specs.Telling.{IsFaultAt, IsFaultReport, TellsEnd, TellsStop, TellsUnprinted, printed_status, stop_status};
+ghost use Rattle.cli_answers.specs.Telling.{IsFaultAt, IsFaultReport, TellsEnd, TellsStop, TellsUnprinted, printed_status, sought_status, stop_status};
 
 use crate::asked::Unasked;
+use crate::captures::{LinesEnd, SoughtEnd, read_of};
+use crate::hints::hint_ended;
 use crate::printing::Unprinted;
 use cli_files::paths::report_path;
 use cli_files::reading::{report_io, report_long_text};
@@ -17,6 +19,8 @@ use cli_report::failures::name_source;
 use cli_text::Status;
 use cli_text::report::fault_status;
 use cli_walk::Stop;
+use cli_watch::frames::FrameCounts;
+use cli_watch::hints::report_unseen;
 use fault_report::captures::{capture_fault, device, nth_capture_fault};
 use fault_report::reporting::{report_fault, report_memory, report_unwritten};
 use fault_report::{FaultSink, Report, Subject};
@@ -78,7 +82,7 @@ pub fn report_capture<E: HintSink>(
 }
 
 /// Reports the capture that ended the reading, if one did, and answers the exit status.
-pub fn report_stop<E: HintSink>(read: Result<(), Stop>, paths: &[&str], err: &mut E) -> Status
+fn report_stop<E: HintSink>(read: Result<(), Stop>, paths: &[&str], err: &mut E) -> Status
     ensures status { result ≡ stop_status read }
     ensures told { TellsStop (λ says. TellsAmong E.takes_hints E.failed E.contents E.fault_form says err.old err.new) paths.now read }
     ensures more { TellsMore E.takes_hints E.failed E.contents E.fault_form err.old err.new }
@@ -90,19 +94,70 @@ pub fn report_stop<E: HintSink>(read: Result<(), Stop>, paths: &[&str], err: &mu
 }
 
 /// Reports what was not printed of several captures and then the one that ended the reading, if
-/// there are these, and answers the greatest exit status that applies.
-pub fn report_captures<E: HintSink>(
-    printed: &Result<(), Unprinted>,
-    read: Result<(), Stop>,
+/// there are these, with hints on that one, and answers the greatest exit status that applies.
+pub fn report_end<C, E: HintSink>(end: &LinesEnd<C>, paths: &[&str], err: &mut E) -> Status
+    ensures status { result ≡ greater (printed_status end.now.printed) (stop_status end.now.read) }
+    ensures told { TellsEnd (λ says. TellsAmong E.takes_hints E.failed E.contents E.fault_form says err.old err.new) paths.now end.now.printed end.now.read }
+{
+    let printed = report_printed(&end.printed, err);
+    let status = printed.max(report_stop(end.read, paths, err));
+    hint_ended(paths, end.read, &end.noted, err);
+    status
+}
+
+/// [`report_end`] of the lines of captures. If frames were counted, it reports below that into how
+/// many of them no filter looks.
+pub fn report_lines<C, E: HintSink>(
+    end: &LinesEnd<C>,
+    frames: Option<FrameCounts>,
     paths: &[&str],
     err: &mut E,
 ) -> Status
-    ensures status { result ≡ greater (printed_status printed.now) (stop_status read) }
-    ensures told { TellsEnd (λ says. TellsAmong E.takes_hints E.failed E.contents E.fault_form says err.old err.new) paths.now printed.now read }
-    ensures more { TellsMore E.takes_hints E.failed E.contents E.fault_form err.old err.new }
+    ensures status { result ≡ greater (printed_status end.now.printed) (stop_status end.now.read) }
+    ensures told { TellsEnd (λ says. TellsAmong E.takes_hints E.failed E.contents E.fault_form says err.old err.new) paths.now end.now.printed end.now.read }
 {
-    let status = report_printed(printed, err);
-    status.max(report_stop(read, paths, err))
+    let status = report_end(end, paths, err);
+    if let Some(frames) = frames {
+        let _ = report_unseen(frames, status, err);
+    }
+    status
+}
+
+/// Reports the capture that ended the looking for a packet, if one did, and answers the exit
+/// status: the one where a packet was found, or the one where none was.
+fn report_found<E: HintSink>(
+    sought: Result<bool, Stop>,
+    found: Status,
+    none: Status,
+    paths: &[&str],
+    err: &mut E,
+) -> Status
+    ensures status { result ≡ sought_status found none sought }
+    ensures told { TellsStop (λ says. TellsAmong E.takes_hints E.failed E.contents E.fault_form says err.old err.new) paths.now sought }
+{
+    match sought {
+        Ok(true) => found,
+        Ok(false) => none,
+        Err(stop) => report_capture(paths, stop.number, stop.fault, err),
+    }
+}
+
+/// Reports the capture that ended the looking for a packet, if one did, with hints on it, and
+/// answers the exit status: the one where a packet was found, or the one where all captures were
+/// read and none was.
+pub fn report_sought<E: HintSink>(
+    end: &SoughtEnd,
+    found: Status,
+    none: Status,
+    paths: &[&str],
+    err: &mut E,
+) -> Status
+    ensures status { result ≡ sought_status found none end.now.found }
+    ensures told { TellsStop (λ says. TellsAmong E.takes_hints E.failed E.contents E.fault_form says err.old err.new) paths.now end.now.found }
+{
+    let status = report_found(end.found, found, none, paths, err);
+    hint_ended(paths, read_of(end.found), &end.noted, err);
+    status
 }
 
 /// Reports why nothing is asked of captures, with hints, and returns the exit status.

@@ -13,9 +13,11 @@ written_is (Some path) found is = is
 
 -- no file is lost, by the lists of paths that were compared
 pub apart-of : (place : Places) (text : Texts) (printed : Option (List ℕ)) (words : CompareWords) (read written : List (Bor (List ℕ))) → read ≡ read_paths words → written ≡ path_of words.output →
-    All (λ output. All (λ path. IsApart Late place text output.now path.now) read) written → All (λ path. IsUnprinted Late place text printed path.now) read → AreApart place printed words
-apart-of place text printed words read written reads writes apart unprinted = record {
+    All (λ output. All (λ path. IsApart Late place text output.now path.now) read) written → All (λ path. IsUnprinted Late place text printed path.now) read →
+    All (λ output. printed ≢ Some (place output.now)) written → AreApart place printed words
+apart-of place text printed words read written reads writes apart unprinted unshared = record {
   unprinted = subst (λ (r : List (Bor (List ℕ))). All (λ path. printed ≢ Some (place path.now)) r) reads unprinted;
+  unshared = subst (λ (d : List (Bor (List ℕ))). All (λ output. printed ≢ Some (place output.now)) d) writes unshared;
   apart = subst (λ (d : List (Bor (List ℕ))). All (λ output. All (λ path. place path.now ≢ place output.now) (read_paths words)) d) writes
       (subst (λ (r : List (Bor (List ℕ))). All (λ output. All (λ path. place path.now ≢ place output.now) r) written) reads apart);
 }

@@ -15,7 +15,7 @@ use Rattle.filter_same.specs.declared.witness.Witness.{Witness}
 use Rattle.fault_report.specs.declared.report.Report.{Report}
 use Rattle.cli_text.specs.Status.{greater}
 use Rattle.cli_text.specs.declared.status.Status.{Status}
-use Rattle.cli_text.specs.declared.status.Status.TheVariants.{Clean, Failed}
+use Rattle.cli_text.specs.declared.status.Status.TheVariants.{Clean, Failed, Negative}
 use Rattle.cli_walk.specs.Walking.{stop}
 use Rattle.cli_files.specs.Reading.{IsRefusedMemory}
 use Rattle.cli_store.specs.Files.{IsRefusal, Places, Texts}
@@ -32,7 +32,7 @@ use Rattle.cli_answers.specs.Asked.{IsAskedFor, IsCaptureAt, IsFileStatus, IsUna
 use Rattle.cli_answers.specs.Captures.{SeeksIn}
 use Rattle.cli_answers.specs.Counts.{asked_form}
 use Rattle.cli_answers.specs.Lines.{PrintsTotals}
-use Rattle.cli_answers.specs.Telling.{TellsEnd, TellsStop, TellsUnprinted, printed_status, stop_status}
+use Rattle.cli_answers.specs.Telling.{TellsEnd, TellsStop, TellsUnprinted, printed_status, sought_status, stop_status}
 use Rattle.cli_compare.specs.declared.asked.PairAsked.{PairAsked}
 use Rattle.cli_compare.specs.declared.asked.Uncompared.{Uncompared}
 use Rattle.cli_compare.specs.declared.asked.Uncompared.TheVariants.{First, Second, Files}
@@ -44,7 +44,7 @@ use Rattle.cli_compare.specs.Captures.{ComparesIn}
 use Rattle.cli_compare.specs.Deciding.{HoldsOfPair, Prints, answer_status, packet_of, packet_of_witness}
 use Rattle.cli_compare.specs.Pairs.{differs}
 use Rattle.cli_compare.specs.Printed.{line_of}
-use Rattle.cli_compare.specs.Telling.{IsRefusedReport, TellsOut, line_of_refusal, sameness_status}
+use Rattle.cli_compare.specs.Telling.{IsRefusedReport, TellsOut, line_of_refusal}
 
 -- ---- What is asked
 
@@ -63,9 +63,10 @@ path_of (Some path) = path ∷ []
 abbrev pub read_paths : CompareWords → List (Bor (List ℕ))
 read_paths words = words.inputs.items ++ path_of words.listing
 
--- standard output goes to none of the files that are read, and OUT is none of these
+-- standard output goes to none of the files that are read and not to OUT, and OUT is none of those
 pub record AreApart (place : Places) (printed : Option (List ℕ)) (words : CompareWords) : Type 0 where
   pub unprinted : All (λ path. printed ≢ Some (place path.now)) (read_paths words)
+  pub unshared : All (λ output. printed ≢ Some (place output.now)) (path_of words.output)
   pub apart : All (λ output. All (λ path. place path.now ≢ place output.now) (read_paths words)) (path_of words.output)
 
 -- by the words of the command line: these two filters, of these captures, which are the files of IN
@@ -202,7 +203,7 @@ LinesAnswer left failures contents place text printed failed words one among old
 abbrev pub StatusAnswers : {R O : Type 0} → (R → Option (List ℕ)) → (R → ℕ) → Places → Texts → Option (List ℕ) → Bool → CompareWords → (Option (List ℕ) → (Report → Type 0) → Type 0) → ((Report → Type 0) → Type 0) → O → O → Status → Type 0
 StatusAnswers left failures place text printed failed words one among old new ended =
     Refuses place text printed failed words one old new ended
-    ⊎ ((end : SoughtEnd) × Seeks left failures place text printed failed words end × (new ≡ old) × (ended ≡ sameness_status end.found)
+    ⊎ ((end : SoughtEnd) × Seeks left failures place text printed failed words end × (new ≡ old) × (ended ≡ sought_status Negative Clean end.found)
     × TellsStop among words.inputs.items end.found)
 
 -- the filters were decided, or nothing was printed and no file changed

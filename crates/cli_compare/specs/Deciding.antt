@@ -1,5 +1,5 @@
 -- What is printed of two filters that are decided for every packet, and the exit status.
-use Rattle.std.specs.Prelude.{◌≡◌, ℕ, Bool, true, false, if◌then◌else◌, List, [], ◌++◌, length, Option, Some, None, Result, Ok, Err, IfOk, IfErr, codes}
+use Rattle.std.specs.Prelude.{◌≡◌, ℕ, Bool, true, false, if◌then◌else◌, List, [], ◌++◌, length, Option, Some, None, Result, Ok, Err, IfOk, IfErr, ⊤, codes}
 use Rattle.std.specs.Fmt.{decimal}
 use Rattle.std.specs.Io.KnownBytes.{Appends, Keeps}
 use Rattle.savefile.specs.declared.packet.Packet.{Packet}
@@ -155,6 +155,13 @@ answer_status (Err NoMemory) = Refused
 answer_status (Err (Output error)) = Failed
 
 -- ---- The exit status of the command
+
+-- a status that answers: the filters are the same, they differ, or they are not decided
+abbrev pub IsAnswerStatus : Status → Type 0
+IsAnswerStatus Clean = ⊤
+IsAnswerStatus Negative = ⊤
+IsAnswerStatus Undecided = ⊤
+IsAnswerStatus other = ⊥
 
 -- the form that is asked for
 abbrev pub form_of : Bool → LineForm

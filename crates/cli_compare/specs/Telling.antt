@@ -3,15 +3,11 @@ use Rattle.std.specs.Prelude.{◌≡◌, ℕ, Bool, true, false, List, [], ◌++
 use Rattle.std.specs.Borrow.{Bor}
 use Rattle.line_text.specs.declared.form.LineForm.{LineForm}
 use Rattle.line_text.specs.declared.form.LineForm.TheVariants.{Text, Json}
-use Rattle.cli_text.specs.declared.status.Status.{Status}
-use Rattle.cli_text.specs.declared.status.Status.TheVariants.{Clean, Negative}
-use Rattle.cli_text.specs.Telling.{fault_status}
 use Rattle.fault_report.specs.Reports.{IsDevice, Tells, reported}
 use Rattle.fault_report.specs.declared.report.Report.{Report}
 use Rattle.fault_report.specs.declared.report.Subject.TheVariants.{File}
 use Rattle.cli_files.specs.Reading.{IsFileReport}
 use Rattle.cli_filter.specs.declared.program.FilterFault.TheVariants as filter
-use Rattle.cli_walk.specs.declared.walk.Stop.{Stop}
 use Rattle.cli_args.specs.declared.compare.CompareWords.{CompareWords}
 use Rattle.cli_answers.specs.declared.asked.Unasked.{Unasked}
 use Rattle.cli_answers.specs.declared.asked.Unasked.TheVariants as unasked
@@ -20,12 +16,6 @@ use Rattle.cli_compare.specs.declared.asked.Uncompared.{Uncompared}
 use Rattle.cli_compare.specs.declared.asked.Uncompared.TheVariants.{First, Second, Files}
 use Rattle.cli_compare.specs.declared.outcome.OutFault.{OutFault}
 use Rattle.cli_compare.specs.declared.outcome.OutFault.TheVariants.{Unmade, Unwritten}
-
--- of a packet that is treated differently, which was looked for in several captures: if there is one, the filters are not the same here
-abbrev pub sameness_status : Result Bool Stop → Status
-sameness_status (Ok true) = Negative
-sameness_status (Ok false) = Clean
-sameness_status (Err stop) = fault_status stop.fault
 
 -- ---- What is reported of a refusal
 

@@ -1,56 +1,40 @@
 //! `bpftap compare`, over files.
 
 ghost use Rattle.std.specs.Prelude.{◌≡◌, ◌≢◌, [], false, true};
-ghost use Rattle.cli_text.specs.Status.{greater};
 ghost use Rattle.cli_text.specs.declared.status.Status.TheVariants.{Clean};
 ghost use Rattle.fault_report.specs.Reports.{TellsAmong};
 ghost use Rattle.cli_store.specs.Files.{Keeps};
-ghost use Rattle.cli_answers.specs.Telling.{TellsEnd, printed_status, stop_status};
 ghost use Rattle.cli_compare.specs.Comparing.{Answers, KeepsOthers, LinesAnswer, StatusAnswers};
+ghost use Rattle.cli_compare.specs.Deciding.{IsAnswerStatus};
 ghost use Rattle.cli_compare.specs.Telling.{TellsWith};
 
 use crate::decide::decide_files;
 use crate::each::DifferenceCounts;
 use crate::files::{compare_files, seek_files};
-use crate::report::{report_sameness, report_uncompared};
-use cli_answers::captures::{LinesEnd, read_of};
+use crate::report::report_uncompared;
 use cli_answers::disk::run_over_disk;
-use cli_answers::hints::hint_ended;
-use cli_answers::report::report_captures;
+use cli_answers::report::{report_lines, report_sought};
 use cli_args::compare::CompareWords;
 use cli_files::captures::OUTPUT_BUFFER;
 use cli_report::HintSink;
 use cli_store::FileStore;
 use cli_text::Status;
 use cli_watch::Screen;
-use cli_watch::hints::{is_asked, report_unseen};
+use cli_watch::frames::FrameCounts;
+use cli_watch::hints::is_asked;
 use cli_watch::output::PrintSink;
 use std::alloc::Global;
 use std::fs::Files;
 use std::io::Write;
 
-/// Whether it is reported into how many frames the expressions do not look. A listing's program
-/// may.
-fn counts_frames(words: &CompareWords<'_>) -> bool {
+/// Whether an expression asks what a program may look into. A listing's program may.
+fn asks_expressions(words: &CompareWords<'_>) -> bool {
     words.listing.is_none() && (is_asked(words.first) || words.second.is_some_and(is_asked))
 }
 
-/// Reports how the printing of the lines ended.
-fn report_lines<E: HintSink>(
-    end: &LinesEnd<DifferenceCounts>,
-    words: &CompareWords<'_>,
-    err: &mut E,
-) -> Status
-    ensures status { result ≡ greater (printed_status end.now.printed) (stop_status end.now.read) }
-    ensures told { TellsEnd (λ says. TellsAmong E.takes_hints E.failed E.contents E.fault_form says err.old err.new) words.now.inputs.items end.now.printed end.now.read }
-{
-    let paths = words.inputs.as_slice();
-    let status = report_captures(&end.printed, end.read, paths, err);
-    hint_ended(paths, end.read, &end.noted, err);
-    if counts_frames(words) {
-        let _ = report_unseen(end.counts.frames(), status, err);
-    }
-    status
+/// The counts of frames, if it is reported into how many of them the expressions do not look.
+fn asked_frames(words: &CompareWords<'_>, counts: DifferenceCounts) -> Option<FrameCounts> {
+    asks_expressions(words).then_some(counts.frames())
 }
 
 /// Prints the packets that are treated differently, and the counts if a header was read; and
@@ -67,7 +51,10 @@ fn compare_all<'p, F: FileStore<'p>, O: PrintSink, E: HintSink>(
     ensures handed_on { O.waits out.old ≡ false → result ≡ Clean → O.waits out.new ≡ false }
 {
     match compare_files(alloc, files, words, out) {
-        Ok(end) => report_lines(&end, words, err),
+        Ok(end) => {
+            let frames = asked_frames(words, end.counts);
+            report_lines(&end, frames, words.inputs.as_slice(), err)
+        }
         Err(reason) => report_uncompared(alloc, &reason, words, err),
     }
 }
@@ -87,9 +74,7 @@ fn ask_quietly<'p, F: FileStore<'p>, O: PrintSink, E: HintSink>(
     match seek_files(alloc, files, words) {
         Ok(end) => {
             let paths = words.inputs.as_slice();
-            let status = report_sameness(end.found, paths, err);
-            hint_ended(paths, read_of(end.found), &end.noted, err);
-            status
+            report_sought(&end, Status::Negative, Status::Clean, paths, err)
         }
         Err(reason) => report_uncompared(alloc, &reason, words, err),
     }
@@ -114,6 +99,8 @@ pub fn compare_and_report<'p, R: AllocGlobal + Screen, F: FileStore<'p>, O: Prin
     ensures closed { F.known ≡ true → F.pending files.new ≡ F.pending files.old }
     // Nothing that was printed waits, if all went well.
     ensures handed_on { O.waits out.old ≡ false → result ≡ Clean → O.waits out.new ≡ false }
+    // Nor does an answer about every packet, whatever it is.
+    ensures answered { words.now.inputs.items ≡ [] → O.waits out.old ≡ false → IsAnswerStatus result → O.waits out.new ≡ false }
 {
     if words.inputs.is_empty() {
         decide_files(rt, files, words, out, err)

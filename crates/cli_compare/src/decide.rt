@@ -3,9 +3,8 @@
 ghost use Rattle.std.specs.Prelude.{◌≡◌, ◌≢◌, ℕ, List, [], true, false, All, IfOk, IfErr, OnOk};
 ghost use Rattle.fault_report.specs.Reports.{TellsAmong};
 ghost use Rattle.cli_answers.specs.Telling.{TellsUnprinted};
-ghost use Rattle.cli_text.specs.declared.status.Status.TheVariants.{Clean};
 ghost use Rattle.cli_compare.specs.Comparing.{DecidesAnswer, DecidesPair, IsOut, KeepsOthers, WritesPacket, out_of};
-ghost use Rattle.cli_compare.specs.Deciding.{AnswersPair, HoldsOfPair, IsStatusAfter, IsUnanswered, PrintsAnswer, form_of, packet_of};
+ghost use Rattle.cli_compare.specs.Deciding.{AnswersPair, HoldsOfPair, IsAnswerStatus, IsStatusAfter, IsUnanswered, PrintsAnswer, form_of, packet_of};
 ghost use Rattle.cli_compare.specs.Telling.{TellsWith};
 
 use crate::asked::accept_pair;
@@ -122,7 +121,7 @@ fn decide_and_report<'p, R: Screen, F: FileStore<'p>, O: PrintSink, E: HintSink>
     ensures decides { F.known ≡ true → DecidesPair (F.place files.old) (F.text files.old) (F.text files.new) (F.failed files.new) words.now decider.now.pair.now (λ says. TellsAmong E.takes_hints E.failed E.contents E.fault_form says err.old err.new) (O.contents out.old) (O.contents out.new) result }
     ensures others { F.known ≡ true → KeepsOthers (F.place files.old) (F.text files.old) (F.text files.new) words.now.output }
     ensures closed { F.known ≡ true → F.pending files.new ≡ F.pending files.old }
-    ensures handed_on { O.waits out.old ≡ false → result ≡ Clean → O.waits out.new ≡ false }
+    ensures handed_on { O.waits out.old ≡ false → IsAnswerStatus result → O.waits out.new ≡ false }
 {
     let answer = answer(decider, words, out);
     report_and_write(files, words, &answer, err)
@@ -142,7 +141,7 @@ pub(crate) fn decide_files<
     ensures answers { F.known ≡ true → DecidesAnswer O.contents (F.place files.old) (F.text files.old) (F.text files.new) (F.printed files.old) (F.failed files.new) words.now (λ line says. TellsWith E.takes_hints E.failed E.contents E.fault_form line says err.old err.new) (λ says. TellsAmong E.takes_hints E.failed E.contents E.fault_form says err.old err.new) out.old out.new result }
     ensures others { F.known ≡ true → KeepsOthers (F.place files.old) (F.text files.old) (F.text files.new) words.now.output }
     ensures closed { F.known ≡ true → F.pending files.new ≡ F.pending files.old }
-    ensures handed_on { O.waits out.old ≡ false → result ≡ Clean → O.waits out.new ≡ false }
+    ensures handed_on { O.waits out.old ≡ false → IsAnswerStatus result → O.waits out.new ≡ false }
 {
     match accept_pair(rt.alloc(), files, words) {
         Ok(pair) => {

@@ -2,26 +2,25 @@
 
 ghost use Rattle.std.specs.Prelude.{◌≡◌, option_copied};
 ghost use Rattle.cli_text.specs.declared.status.Status.TheVariants.{Refused};
-ghost use Rattle.fault_report.specs.Reports.{Tells, TellsAmong, TellsMore, TellsOne};
+ghost use Rattle.fault_report.specs.Reports.{Tells, TellsMore, TellsOne};
 ghost use Rattle.cli_filter.specs.Reports.{IsExpressionReport};
 ghost use Rattle.cli_answers.specs.Asked.{IsUnaskedReport, IsUnaskedStatus};
-ghost use Rattle.cli_answers.specs.Telling.{TellsStop, TellsUnprinted};
+ghost use Rattle.cli_answers.specs.Telling.{TellsUnprinted};
 ghost use Rattle.cli_compare.specs.Comparing.{IsOutStatus, IsRefusedStatus};
 ghost use Rattle.cli_compare.specs.Deciding.{answer_status};
-ghost use Rattle.cli_compare.specs.Telling.{IsRefusedReport, TellsOut, TellsWith, below, line_of, line_of_refusal, sameness_status};
+ghost use Rattle.cli_compare.specs.Telling.{IsRefusedReport, TellsOut, TellsWith, below, line_of, line_of_refusal};
 
 use crate::asked::Uncompared;
 use crate::outcome::OutFault;
 use cli_answers::asked::Unasked;
 use cli_answers::printing::Unprinted;
-use cli_answers::report::{report_capture, report_unasked};
+use cli_answers::report::report_unasked;
 use cli_args::compare::CompareWords;
 use cli_files::reading::report_io;
 use cli_filter::{FilterFault, expression_report, hint_expression};
 use cli_report::HintSink;
 use cli_report::files::hint_reason;
 use cli_text::Status;
-use cli_walk::Stop;
 use fault_report::FaultSink;
 use fault_report::reporting::{report_device, report_fault, report_memory, report_unwritten};
 use filter_same::Sameness;
@@ -34,24 +33,6 @@ const FIRST: &str = "  EXPR1:\n";
 
 /// The line that names the second one.
 const SECOND: &str = "  EXPR2:\n";
-
-/// Reports the capture that ended the reading, if one did, and answers the exit status of looking
-/// for a packet that is treated differently: [`Status::Negative`] if one was found,
-/// [`Status::Clean`] if all captures were read and none was.
-pub fn report_sameness<E: HintSink>(
-    found: Result<bool, Stop>,
-    paths: &[&str],
-    err: &mut E,
-) -> Status
-    ensures status { result ≡ sameness_status found }
-    ensures told { TellsStop (λ says. TellsAmong E.takes_hints E.failed E.contents E.fault_form says err.old err.new) paths.now found }
-{
-    match found {
-        Ok(true) => Status::Negative,
-        Ok(false) => Status::Clean,
-        Err(stop) => report_capture(paths, stop.number, stop.fault, err),
-    }
-}
 
 /// Reports why the answer about two expressions was not printed, if it was not, and answers the
 /// exit status: [`Status::Clean`] if they are the same, [`Status::Negative`] if a packet shows a

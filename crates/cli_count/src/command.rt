@@ -11,9 +11,9 @@ use crate::list::{ListJob, ListedCaptures, list_captures};
 use crate::report::{bounds_status, listed_status, report_counting};
 use cli_answers::PacketForm;
 use cli_answers::asked::{Asked, Unasked, ask};
+use cli_answers::captures::LinesEnd;
 use cli_answers::counts::print_counts;
 use cli_answers::disk::run_over_disk;
-use cli_answers::hints::hint_ended;
 use cli_answers::opened::close_captures;
 use cli_answers::printing::Unprinted;
 use cli_answers::report::report_unasked;
@@ -145,14 +145,18 @@ fn count_all<'p, F: FileStore<'p>, O: PrintSink, E: HintSink>(
         read,
     } = count_captures(&counting, captures, out);
     let noted = close_captures(files, sources, read);
-    let (accepted, frames) = (totals.counts.yes, totals.counts.frames());
+    let counts = totals.counts;
     let has_program = filter.measured_program(counting.is_measured).is_some();
-    let printed = finish_counts(alloc, words, has_program, totals, out);
-    let answer = bounds_status(words.bounds, accepted);
-    let status = report_counting(&printed, read, answer, paths, err);
-    hint_ended(paths, read, &noted, err);
+    let end = LinesEnd {
+        counts,
+        read,
+        noted,
+        printed: finish_counts(alloc, words, has_program, totals, out),
+    };
+    let answer = bounds_status(words.bounds, counts.yes);
+    let status = report_counting(&end, answer, paths, err);
     if counts_frames(words) {
-        let _ = report_unseen(frames, status, err);
+        let _ = report_unseen(counts.frames(), status, err);
     }
     status
 }
@@ -185,11 +189,14 @@ fn list_all<'p, F: FileStore<'p>, O: PrintSink, E: HintSink>(
         totals,
         read,
     } = list_captures(&listing, captures, out);
-    let noted = close_captures(files, sources, read);
-    let printed = finish_paths(totals.printed, out);
-    let status = report_counting(&printed, read, listed_status(totals.found), paths, err);
-    hint_ended(paths, read, &noted, err);
-    status
+    let answer = listed_status(totals.found);
+    let end = LinesEnd {
+        counts: (),
+        read,
+        noted: close_captures(files, sources, read),
+        printed: finish_paths(totals.printed, out),
+    };
+    report_counting(&end, answer, paths, err)
 }
 
 /// `bpftap explain` with `-c`, `-l`, or a bound, whatever the files are: the filter is accepted and

@@ -6,12 +6,11 @@ ghost use Rattle.fault_report.specs.Reports.{TellsAmong};
 ghost use Rattle.cli_answers.specs.Telling.{TellsEnd, printed_status, stop_status};
 ghost use Rattle.cli_count.specs.Telling.{bounds_status, listed_status};
 
-use cli_answers::printing::Unprinted;
-use cli_answers::report::report_captures;
+use cli_answers::captures::LinesEnd;
+use cli_answers::report::report_end;
 use cli_args::counting::CountBounds;
 use cli_report::HintSink;
 use cli_text::Status;
-use cli_walk::Stop;
 
 /// The exit status of captures of which N packets are accepted; without bounds it is
 /// [`Status::Clean`].
@@ -36,16 +35,16 @@ pub fn listed_status(found: bool) -> Status
 }
 
 /// Reports what was not printed and then the capture that ended the reading, if there are these,
-/// and returns the greatest exit status that applies: theirs, or that of the answer.
-pub fn report_counting<E: HintSink>(
-    printed: &Result<(), Unprinted>,
-    read: Result<(), Stop>,
+/// with hints on that one, and returns the greatest exit status that applies: theirs, or that of
+/// the answer.
+pub fn report_counting<C, E: HintSink>(
+    end: &LinesEnd<C>,
     answer: Status,
     paths: &[&str],
     err: &mut E,
 ) -> Status
-    ensures status { result ≡ greater (greater (printed_status printed.now) (stop_status read)) answer }
-    ensures told { TellsEnd (λ says. TellsAmong E.takes_hints E.failed E.contents E.fault_form says err.old err.new) paths.now printed.now read }
+    ensures status { result ≡ greater (greater (printed_status end.now.printed) (stop_status end.now.read)) answer }
+    ensures told { TellsEnd (λ says. TellsAmong E.takes_hints E.failed E.contents E.fault_form says err.old err.new) paths.now end.now.printed end.now.read }
 {
-    report_captures(printed, read, paths, err).max(answer)
+    report_end(end, paths, err).max(answer)
 }

@@ -6,7 +6,7 @@ use Rattle.savefile.specs.declared.fault.Fault.TheVariants.{Device}
 use Rattle.fault_report.specs.declared.report.Report.{Report}
 use Rattle.cli_text.specs.Status.{greater}
 use Rattle.cli_text.specs.declared.status.Status.{Status}
-use Rattle.cli_text.specs.declared.status.Status.TheVariants.{Clean}
+use Rattle.cli_text.specs.declared.status.Status.TheVariants.{Clean, Negative}
 use Rattle.cli_walk.specs.Walking.{stop}
 use Rattle.cli_store.specs.Files.{Places, Texts}
 use Rattle.cli_args.specs.declared.explain.ExplainWords.{ExplainWords}
@@ -26,12 +26,12 @@ use Rattle.cli_answers.specs.Captures.{SeeksIn}
 use Rattle.cli_answers.specs.Counts.{asked_form, line_of, of_capture}
 use Rattle.cli_answers.specs.Lines.{PrintsTotals}
 use Rattle.cli_answers.specs.Seeking.{accepts}
-use Rattle.cli_answers.specs.Telling.{TellsEnd, TellsStop, printed_status, stop_status}
+use Rattle.cli_answers.specs.Telling.{TellsEnd, TellsStop, printed_status, sought_status, stop_status}
 use Rattle.cli_explain.specs.declared.one.Found.{Found}
 use Rattle.cli_explain.specs.declared.outcome.FullEnd.{FullEnd}
 use Rattle.cli_explain.specs.Captures.{ExplainsIn}
 use Rattle.cli_explain.specs.Range.{FindsRange}
-use Rattle.cli_explain.specs.Telling.{TellsFound, found_status, sought_status}
+use Rattle.cli_explain.specs.Telling.{TellsFound, found_status}
 
 -- ---- What is asked
 
@@ -124,7 +124,7 @@ LinesAnswer left failures contents place text printed failed words one among old
 abbrev pub StatusAnswers : {R O : Type 0} → (R → Option (List ℕ)) → (R → ℕ) → Places → Texts → Option (List ℕ) → Bool → ExplainWords → ((Report → Type 0) → Type 0) → ((Report → Type 0) → Type 0) → O → O → Status → Type 0
 StatusAnswers left failures place text printed failed words one among old new ended =
     Refuses place text printed failed words one old new ended
-    ⊎ ((end : SoughtEnd) × Seeks left failures place text printed failed words end × (new ≡ old) × (ended ≡ sought_status end.found)
+    ⊎ ((end : SoughtEnd) × Seeks left failures place text printed failed words end × (new ≡ old) × (ended ≡ sought_status Clean Negative end.found)
     × TellsStop among words.inputs.items end.found)
 
 -- by whether only the status answers, and whether places are given

@@ -3,12 +3,11 @@ use Rattle.std.specs.Prelude.{◌≡◌, ℕ, Bool, true, false, List, Some, Res
 use Rattle.std.specs.Borrow.{Bor}
 use Rattle.savefile.specs.declared.fault.Fault.{Fault}
 use Rattle.cli_text.specs.declared.status.Status.{Status}
-use Rattle.cli_text.specs.declared.status.Status.TheVariants.{Clean, Negative, Refused}
+use Rattle.cli_text.specs.declared.status.Status.TheVariants.{Clean, Refused}
 use Rattle.cli_text.specs.Telling.{fault_status}
 use Rattle.fault_report.specs.Reports.{IsPlaced}
 use Rattle.fault_report.specs.declared.report.Report.{Report}
 use Rattle.fault_report.specs.declared.report.Subject.TheVariants.{Capture}
-use Rattle.cli_walk.specs.declared.walk.Stop.{Stop}
 use Rattle.cli_answers.specs.Telling.{IsFaultReport, TellsUnprinted}
 use Rattle.cli_answers.specs.declared.printing.Unprinted.{Unprinted}
 
@@ -22,12 +21,6 @@ abbrev pub found_status : Result Bool Fault → Status
 found_status (Ok true) = Clean
 found_status (Ok false) = Refused
 found_status (Err fault) = fault_status fault
-
--- of a packet that was looked for in several captures: that there is none is an answer, and no fault
-abbrev pub sought_status : Result Bool Stop → Status
-sought_status (Ok true) = Clean
-sought_status (Ok false) = Negative
-sought_status (Err stop) = fault_status stop.fault
 
 -- the capture of this number, of those at these paths, has no packet at a place
 abbrev pub IsNoPacketReport : List (Bor (List ℕ)) → ℕ → (place : ℕ) → Report → Type 0

@@ -1,53 +1,32 @@
 //! `bpftap explain`, over files.
 
 ghost use Rattle.std.specs.Prelude.{◌≡◌, false, true};
-ghost use Rattle.cli_text.specs.Status.{greater};
 ghost use Rattle.cli_text.specs.declared.status.Status.TheVariants.{Clean};
 ghost use Rattle.fault_report.specs.Reports.{TellsAmong, TellsOne};
 ghost use Rattle.cli_store.specs.Files.{Keeps};
-ghost use Rattle.cli_answers.specs.Telling.{TellsEnd, printed_status, stop_status};
 ghost use Rattle.cli_explain.specs.Explaining.{Answers, LinesAnswer, StatusAnswers};
 
 use crate::files::{explain_files, seek_files};
 use crate::full::{PlacesWords, explain_places};
-use crate::report::report_sought;
-use cli_answers::captures::{LinesEnd, read_of};
 use cli_answers::counts::VerdictCounts;
 use cli_answers::disk::run_over_disk;
-use cli_answers::hints::hint_ended;
-use cli_answers::report::{report_captures, report_unasked};
+use cli_answers::report::{report_lines, report_sought, report_unasked};
 use cli_args::explain::ExplainWords;
 use cli_report::HintSink;
 use cli_store::FileStore;
 use cli_text::Status;
 use cli_watch::Screen;
-use cli_watch::hints::{is_asked, report_unseen};
+use cli_watch::frames::FrameCounts;
+use cli_watch::hints::is_asked;
 use cli_watch::output::PrintSink;
 use std::alloc::Global;
 use std::fs::Files;
 use std::io::Write;
 
-/// Whether it is reported into how many frames the filter does not look: a program may.
-fn counts_frames(words: &ExplainWords<'_>) -> bool {
-    words.expr.is_some_and(is_asked)
-}
-
-/// Reports how the printing of the lines ended.
-fn report_lines<E: HintSink>(
-    end: &LinesEnd<VerdictCounts>,
-    words: &ExplainWords<'_>,
-    err: &mut E,
-) -> Status
-    ensures status { result ≡ greater (printed_status end.now.printed) (stop_status end.now.read) }
-    ensures told { TellsEnd (λ says. TellsAmong E.takes_hints E.failed E.contents E.fault_form says err.old err.new) words.now.inputs.items end.now.printed end.now.read }
-{
-    let paths = words.inputs.as_slice();
-    let status = report_captures(&end.printed, end.read, paths, err);
-    hint_ended(paths, end.read, &end.noted, err);
-    if counts_frames(words) {
-        let _ = report_unseen(end.counts.frames(), status, err);
-    }
-    status
+/// The counts of frames, if it is reported into how many of them the filter does not look: a
+/// program may.
+fn asked_frames(words: &ExplainWords<'_>, counts: VerdictCounts) -> Option<FrameCounts> {
+    words.expr.is_some_and(is_asked).then_some(counts.frames())
 }
 
 /// Prints a line for each packet, and the counts if a header was read; and reports how that ended.
@@ -63,7 +42,10 @@ fn explain_all<'p, F: FileStore<'p>, O: PrintSink, E: HintSink>(
     ensures handed_on { O.waits out.old ≡ false → result ≡ Clean → O.waits out.new ≡ false }
 {
     match explain_files(alloc, files, words, out) {
-        Ok(end) => report_lines(&end, words, err),
+        Ok(end) => {
+            let frames = asked_frames(words, end.counts);
+            report_lines(&end, frames, words.inputs.as_slice(), err)
+        }
         Err(reason) => report_unasked(alloc, &reason, words.expr, err),
     }
 }
@@ -83,9 +65,7 @@ fn ask_quietly<'p, F: FileStore<'p>, O: PrintSink, E: HintSink>(
     match seek_files(alloc, files, words) {
         Ok(end) => {
             let paths = words.inputs.as_slice();
-            let status = report_sought(end.found, paths, err);
-            hint_ended(paths, read_of(end.found), &end.noted, err);
-            status
+            report_sought(&end, Status::Clean, Status::Negative, paths, err)
         }
         Err(reason) => report_unasked(alloc, &reason, words.expr, err),
     }

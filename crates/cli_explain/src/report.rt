@@ -5,8 +5,8 @@ ghost use Rattle.cli_text.specs.Status.{greater};
 ghost use Rattle.cli_text.specs.declared.status.Status.TheVariants.{Refused};
 ghost use Rattle.fault_report.specs.Reports.{TellsAmong, TellsMore};
 ghost use Rattle.fault_report.specs.declared.report.Subject.TheVariants.{Capture};
-ghost use Rattle.cli_answers.specs.Telling.{TellsStop, printed_status};
-ghost use Rattle.cli_explain.specs.Telling.{IsNoPacketReport, TellsFound, TellsRead, found_status, read_status, sought_status};
+ghost use Rattle.cli_answers.specs.Telling.{printed_status};
+ghost use Rattle.cli_explain.specs.Telling.{IsNoPacketReport, TellsFound, TellsRead, found_status, read_status};
 
 use crate::one::Found;
 use cli_answers::counts::VerdictCounts;
@@ -15,7 +15,6 @@ use cli_answers::report::{report_capture, report_printed};
 use cli_report::HintSink;
 use cli_report::failures::name_source;
 use cli_text::Status;
-use cli_walk::Stop;
 use fault_report::reporting::{report_capture as report_only, report_fault};
 use fault_report::{FaultSink, Report, Subject, Word};
 use savefile::Fault;
@@ -99,17 +98,4 @@ pub fn report_one<R, E: HintSink>(
 {
     let status = report_printed(&found.printed, err);
     status.max(report_read(found.read, place, paths, number, err))
-}
-
-/// Reports the capture that ended the reading, if one did, and answers the exit status of looking for a packet: [`Status::Clean`] if one was
-/// found, [`Status::Negative`] if all captures were read and none was.
-pub fn report_sought<E: HintSink>(found: Result<bool, Stop>, paths: &[&str], err: &mut E) -> Status
-    ensures status { result ≡ sought_status found }
-    ensures told { TellsStop (λ says. TellsAmong E.takes_hints E.failed E.contents E.fault_form says err.old err.new) paths.now found }
-{
-    match found {
-        Ok(true) => Status::Clean,
-        Ok(false) => Status::Negative,
-        Err(stop) => report_capture(paths, stop.number, stop.fault, err),
-    }
 }

@@ -8,4 +8,4 @@ returns-in-Ok-check_apart-clause-apart g c tells =
     let F = g.F.FileStore in
     let files = c.args.files.now in
     apart-of (F.place files) (F.text files) (F.printed files) c.args.words.now c.as_slice.result.now c.written_paths-written.result.now
-    (c.as_slice.ensures.value ∙ c.in-Ok.ensures) c.written_paths-written.ensures (told.apart tells) (told.unprinted tells refl)
+    (c.as_slice.ensures.value ∙ c.in-Ok.ensures) c.written_paths-written.ensures (told.apart tells) (told.unprinted tells refl) (told.unshared tells refl)
