@@ -1,6 +1,9 @@
 -- What `bpftap steps` reports on standard error. Read it from the last definition up.
-use Rattle.std.specs.Prelude.{◌≡◌, ℕ, Bool, List, Option, Some, None, Result, Ok, Err, codes}
+use Rattle.std.specs.Prelude.{◌≡◌, ◌≢◌, ℕ, Bool, List, Option, Some, None, Result, Ok, Err, codes}
 use Rattle.std.specs.Borrow.{Bor}
+use Rattle.std.specs.IoError.{error_kind}
+use Rattle.std.specs.declared.io.Error.{Error}
+use Rattle.std.specs.declared.io.ErrorKind.TheVariants.{BrokenPipe}
 use Rattle.filtergen_facts.specs.Faults.{refusal_text}
 use Rattle.filterlang.specs.Faults.{fault_name as expression_name, fault_place as expression_place}
 use Rattle.listener.specs.Faults.{open_fault_text}
@@ -13,7 +16,9 @@ use Rattle.fault_report.specs.Captures.{IsNthCaptureFault}
 use Rattle.fault_report.specs.Reports.{IsDevice, IsNamed, IsNoMemory, IsPlaced, TellsAmong, TellsMore, TellsOne}
 use Rattle.fault_report.specs.Words.{IsPart, place_word}
 use Rattle.fault_report.specs.declared.report.Report.{Report}
-use Rattle.fault_report.specs.declared.report.Subject.TheVariants.{File}
+use Rattle.fault_report.specs.declared.report.Subject.TheVariants.{File, StandardOutput}
+use Rattle.cli_text.specs.declared.status.Status.{Status}
+use Rattle.cli_text.specs.declared.status.Status.TheVariants.{Failed}
 use Rattle.cli_files.specs.Paths.{IsPathReport}
 use Rattle.cli_files.specs.Reading.{IsFileReport, IsLongTextReport}
 use Rattle.cli_args.specs.declared.steps.StepsWords.{StepsWords}
@@ -66,6 +71,11 @@ IsEnd (Err ended) fault = ended ≡ fault
 IsEnd (Ok replayed) (Capture capture fault) = replayed.record_fault ≡ Some (capture, fault)
 IsEnd (Ok replayed) other = ⊥
 
+-- Standard output failed, and not since nobody reads it any more: `noted` is why a write to it first failed, if that is known.
+abbrev pub IsOutputFault : Status → Option Error → Type 0
+IsOutputFault ended None = ended ≡ Failed
+IsOutputFault ended (Some error) = (ended ≡ Failed) × (error_kind error ≢ BrokenPipe)
+
 -- ---- The picture
 
 -- why the picture at this path was not drawn whole
@@ -76,14 +86,15 @@ IsPictureReport path (picture.File (Some error)) report = IsFileReport error pat
 
 -- ---- The command
 
--- A script was played. The fault that it ended with, if there is one, is among what was reported, and so is why the picture that was
--- asked for was not drawn whole.
-pub record TellsPlayed {E : Type 0} (hints failed : E → Bool) (contents : E → Option (List ℕ)) (form : E → LineForm) (words : StepsWords) (report : StepsReport) (old new : E) : Type 0 where
+-- A script was played. The fault that it ended with, if there is one, is among what was reported, and so is that standard output failed,
+-- and why the picture that was asked for was not drawn whole.
+pub record TellsPlayed {E : Type 0} (hints failed : E → Bool) (contents : E → Option (List ℕ)) (form : E → LineForm) (words : StepsWords) (noted : Option Error) (report : StepsReport) (old new : E) : Type 0 where
   pub ended : (fault : Fault) → IsEnd report.replayed fault → TellsAmong hints failed contents form (IsReplayReport words.inputs.items fault) old new
+  pub unprinted : IsOutputFault report.status noted → TellsAmong hints failed contents form (IsDevice StandardOutput) old new
   pub undrawn : (path : Bor (List ℕ)) (fault : PictureFault) → words.picture ≡ Some path → report.drawn ≡ Err fault → TellsAmong hints failed contents form (IsPictureReport path fault) old new
   pub more : TellsMore hints failed contents form old new
 
 -- what was reported of a call: of a refusal the reason, and nothing else
-abbrev pub TellsSteps : {E : Type 0} → (E → Bool) → (E → Bool) → (E → Option (List ℕ)) → (E → LineForm) → StepsWords → Result StepsReport StepsRefusal → E → E → Type 0
-TellsSteps hints failed contents form words (Ok report) old new = TellsPlayed hints failed contents form words report old new
-TellsSteps hints failed contents form words (Err reason) old new = TellsOne hints failed contents form (IsRefusalReport reason) old new
+abbrev pub TellsSteps : {E : Type 0} → (E → Bool) → (E → Bool) → (E → Option (List ℕ)) → (E → LineForm) → StepsWords → Option Error → Result StepsReport StepsRefusal → E → E → Type 0
+TellsSteps hints failed contents form words noted (Ok report) old new = TellsPlayed hints failed contents form words noted report old new
+TellsSteps hints failed contents form words noted (Err reason) old new = TellsOne hints failed contents form (IsRefusalReport reason) old new

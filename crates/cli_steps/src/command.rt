@@ -1,9 +1,9 @@
 //! `bpftap steps`, over the files of the system, and what is reported of it.
 
-ghost use Rattle.std.specs.Prelude.{◌≡◌, Err, Ok};
+ghost use Rattle.std.specs.Prelude.{◌≡◌, Err, Ok, false, true};
 ghost use Rattle.fault_report.specs.Reports.{TellsMore, TellsOne};
 ghost use Rattle.cli_steps.specs.FromFiles.{IsDrawnStatus, IsRefusalStatus, IsStatusOf};
-ghost use Rattle.cli_steps.specs.Reports.{IsLineReport, IsPictureReport, IsRefusalReport, IsTooManyReport, TellsPlayed, TellsSteps};
+ghost use Rattle.cli_steps.specs.Reports.{IsLineReport, IsOutputFault, IsPictureReport, IsRefusalReport, IsTooManyReport, TellsPlayed, TellsSteps};
 
 use crate::files::steps_files;
 use crate::hints::{hint_line, hint_replay, hint_too_many};
@@ -11,9 +11,8 @@ use crate::outcome::{PictureFault, StepsRefusal, StepsReport};
 use crate::reported::{line_fault, replay_fault, report_played};
 use cli_args::steps::StepsWords;
 use cli_files::paths::report_path;
-use cli_files::piped::Piped;
 use cli_files::reading::{report_io, report_long_text};
-use cli_report::failures::hint_output;
+use cli_report::failures::hint_unprinted;
 use cli_report::files::hint_returns;
 use cli_report::{FailureProbe, HintSink};
 use cli_store::DiskFiles;
@@ -23,7 +22,8 @@ use fault_report::reporting::{report_device, report_fault, report_memory};
 use line_text::LineFault;
 use std::alloc::Global;
 use std::fs::Files;
-use std::io::{BufWriter, Write};
+use std::io;
+use std::io::{BufWriter, ErrorKind, Write};
 use tap::Fault;
 
 /// How many bytes of output are gathered before they are written.
@@ -85,41 +85,59 @@ fn report_picture<E: HintSink>(path: &str, drawn: &Result<(), PictureFault>, err
     }
 }
 
-/// Reports how a replay, what was printed and the picture ended, with hints, and returns the exit status. That nobody reads standard
-/// output any more is not reported.
-fn report_steps<O: Write, E: HintSink>(
+/// Whether it is reported that standard output failed, of which this was noted. That nobody reads it any more is not.
+fn is_output_fault(ended: Status, noted: Option<io::Error>) -> bool
+    ensures { IsOutputFault ended noted → result ≡ true }
+{
+    match noted {
+        Some(error) => ended == Status::Failed && error.kind() != ErrorKind::BrokenPipe,
+        None => ended == Status::Failed,
+    }
+}
+
+/// Hints on why standard output failed, if that was noted.
+fn hint_noted<E: HintSink>(noted: Option<io::Error>, err: &mut E)
+    ensures quiet { E.takes_hints err.old ≡ false → err.new ≡ err.old }
+{
+    if let Some(error) = noted {
+        hint_unprinted(&error, err);
+    }
+}
+
+/// Reports how a replay, what was printed and the picture ended, with hints, and returns the exit status.
+fn report_steps<E: HintSink>(
     alloc: Global,
     words: &StepsWords<'_>,
     report: &StepsReport,
-    printed: &FailureProbe<Piped<'_, O>>,
+    noted: Option<io::Error>,
     err: &mut E,
 ) -> Status
     ensures status { IsStatusOf (Ok report.now) result }
-    ensures told { TellsPlayed E.takes_hints E.failed E.contents E.fault_form words.now report.now err.old err.new }
+    ensures told { TellsPlayed E.takes_hints E.failed E.contents E.fault_form words.now noted report.now err.old err.new }
 {
     let paths = words.inputs.as_slice();
-    let has_failed = report.status == Status::Failed && !printed.get_ref().is_unread();
-    report_played(paths, has_failed, &report.replayed, err);
-    hint_output(printed, err);
+    let output_failed = is_output_fault(report.status, noted);
+    report_played(paths, output_failed, &report.replayed, err);
+    hint_noted(noted, err);
     hint_replay(alloc, paths, report, err);
     let drawn = report_picture(words.picture.unwrap_or(""), &report.drawn, err);
     hint_returns("LISTENERS", report.input.listeners.as_slice(), err);
     report.status.max(drawn)
 }
 
-/// Reports what a call came to, with hints, and returns the exit status.
-pub fn report_outcome<O: Write, E: HintSink>(
+/// Reports what a call came to, with hints, and returns the exit status. It was noted why standard output first failed, if it did.
+pub fn report_outcome<E: HintSink>(
     alloc: Global,
     words: &StepsWords<'_>,
     outcome: &Result<StepsReport, StepsRefusal<'_>>,
-    printed: &FailureProbe<Piped<'_, O>>,
+    noted: Option<io::Error>,
     err: &mut E,
 ) -> Status
     ensures status { IsStatusOf outcome.now result }
-    ensures told { TellsSteps E.takes_hints E.failed E.contents E.fault_form words.now outcome.now err.old err.new }
+    ensures told { TellsSteps E.takes_hints E.failed E.contents E.fault_form words.now noted outcome.now err.old err.new }
 {
     match outcome {
-        Ok(report) => report_steps(alloc, words, report, printed, err),
+        Ok(report) => report_steps(alloc, words, report, noted, err),
         Err(refusal) => report_unplayed(refusal, err),
     }
 }
@@ -132,10 +150,10 @@ pub fn steps_command<R: Files + AllocGlobal + Screen, O: Write, E: HintSink>(
     err: &mut E,
 ) -> Status {
     let (alloc, watch) = (rt.alloc(), Watch::new(rt, &[], false));
-    let noted = FailureProbe::new(Piped::new(out));
+    let noted = FailureProbe::new(out);
     let Ok(mut printed) = BufWriter::with_capacity(alloc, OUTPUT_BUFFER, noted) else {
         return report_memory(err);
     };
     let outcome = steps_files(alloc, &mut DiskFiles::new(rt, &watch), words, &mut printed);
-    report_outcome(alloc, words, &outcome, printed.get_ref(), err)
+    report_outcome(alloc, words, &outcome, printed.get_ref().failure(), err)
 }

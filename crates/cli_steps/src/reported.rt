@@ -1,6 +1,6 @@
 //! The faults of a replay, as values that are reported.
 
-ghost use Rattle.std.specs.Prelude.{◌≡◌, ℕ, Ok, Some, true};
+ghost use Rattle.std.specs.Prelude.{◌≡◌, ℕ, Some, true};
 ghost use Rattle.savefile.specs.declared.fault.Fault.{Fault as RecordFault};
 ghost use Rattle.tap.specs.declared.fault.Fault.TheVariants.{Capture};
 ghost use Rattle.fault_report.specs.Reports.{IsDevice, TellsAmong, TellsMore, TellsOne};
@@ -89,14 +89,12 @@ pub(crate) fn report_played<E: HintSink>(
     err: &mut E,
 )
     ensures ended { (fault : Fault) → IsEnd replayed.now fault → TellsAmong E.takes_hints E.failed E.contents E.fault_form (IsReplayReport paths.now fault) err.old err.new }
-    ensures unprinted { (ended : Replayed) → replayed.now ≡ Ok ended → output_failed ≡ true → TellsAmong E.takes_hints E.failed E.contents E.fault_form (IsDevice StandardOutput) err.old err.new }
+    ensures unprinted { output_failed ≡ true → TellsAmong E.takes_hints E.failed E.contents E.fault_form (IsDevice StandardOutput) err.old err.new }
     ensures more { TellsMore E.takes_hints E.failed E.contents E.fault_form err.old err.new }
 {
+    report_unprinted(output_failed, err);
     match replayed {
-        Ok(replayed) => {
-            report_unprinted(output_failed, err);
-            report_record_fault(paths, replayed.record_fault, err);
-        }
+        Ok(replayed) => report_record_fault(paths, replayed.record_fault, err),
         Err(fault) => report_end(paths, *fault, err),
     }
 }
