@@ -1,10 +1,16 @@
 -- Bytes that are sent piece by piece, and the file that has them.
-use Rattle.std.proofs.Common.{◌≡◌, ◌≢◌, ℕ, ◌+◌, ◌-◌, ◌%◌, ◌^◌, ◌≤◌, Bool, true, List, [], ◌++◌, Option, Some, None, IfSome, Result, Ok, Err, is_err, length, take, drop, sym, subst, ◌∙◌, ap, arith, append_assoc, take_all, take-append-drop}
+use Rattle.std.proofs.Common.{◌≡◌, ◌≢◌, ℕ, ◌+◌, ◌-◌, ◌%◌, ◌^◌, ◌≤◌, true, List, [], ◌++◌, Option, Some, None, IfSome, Result, Ok, Err, is_err, length, take, drop, refl, sym, subst, ◌∙◌, ap, arith, append_assoc, take_all, take-append-drop}
 use Rattle.std.proofs.lemmas.List.{length-drop}
+use Rattle.std.specs.Prelude.{Vec}
+use Rattle.std.specs.Borrow.{Bor}
+use Rattle.std.specs.declared.alloc.Global.{Global}
 use Rattle.std.specs.Io.KnownBytes.{Appends}
 use Rattle.std.proofs.KnownBytes.{Appends-trans}
 use Rattle.savefile.specs.Device.{CountsFailure}
-use Rattle.cli_store.specs.Files.{StoresAt, Texts}
+use Rattle.tap.specs.declared.fault.Fault.{Fault}
+use Rattle.cli_store.specs.Files.{Places, StoresAt, Texts}
+use Rattle.cli_steps.specs.declared.steps.Replayed.{Replayed}
+use Rattle.cli_steps.specs.FromFiles.{IsDrawn}
 
 -- what was taken so far is the front of the bytes, and is so with the next piece
 pub taken_more : (old mid new : Option (List ℕ)) (bytes front rest : List ℕ) (n : ℕ) → n ≤ length rest → bytes ≡ front ++ rest → Appends old mid front → Appends mid new (take n rest)
@@ -34,3 +40,8 @@ broke_then before after (Ok done) works failed counts = absurd cc
 broke_then before after (Err broken) works failed counts =
     let one : after ≡ 1 = subst (λ (b : ℕ). after ≡ (b + 1) % 2 ^ 64) works counts in
     λ none. absurd (omega (arith, one, none))
+
+-- a picture of a replay that is stored is what was asked for
+pub is_drawn : (place : Places) (old new : Texts) (wanted : Option (Bor (List ℕ))) (replayed : Result Replayed Fault) (path : Bor (List ℕ)) (played : Replayed) (picture : Vec ℕ Global) →
+    wanted ≡ Some path → replayed ≡ Ok played → StoresAt old new (place path.now) picture.items → IsDrawn place old new wanted replayed (Some picture)
+is_drawn place old new wanted replayed path played picture asked was stored = rw (asked, was) (picture, refl, stored)

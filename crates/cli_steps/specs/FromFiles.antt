@@ -1,9 +1,11 @@
 -- `bpftap steps`, from files to printed lines. Read it from the last definition up.
-use Rattle.std.specs.Prelude.{◌≡◌, ◌≢◌, ◌⊎◌, ℕ, ◌<◌, length, Bool, true, false, List, [], ◌∷◌, Option, Some, None, Result, Ok, Err, All, IfErr, map, option_copied, ⊤}
+use Rattle.std.specs.Prelude.{◌≡◌, ◌≢◌, ◌⊎◌, ℕ, ◌<◌, length, Bool, true, false, List, [], ◌∷◌, Option, Some, None, Result, Ok, Err, All, IfErr, IfOk, Vec, map, option_copied, ⊤}
 use Rattle.std.specs.List.{Any}
 use Rattle.std.specs.Borrow.{Bor}
 use Rattle.std.specs.Io.KnownBytes.{Keeps as KeepsBytes}
+use Rattle.std.specs.declared.alloc.Global.{Global}
 use Rattle.std.specs.declared.io.Error.{Error}
+use Rattle.tap.specs.declared.fault.Fault.{Fault}
 use Rattle.tap_steps.specs.declared.filters.Spec.{Spec}
 use Rattle.tap_steps.specs.declared.step.Step.{Step}
 use Rattle.tap_steps.specs.declared.playlist.TheConstants.{MAX_CAPTURES}
@@ -20,7 +22,7 @@ use Rattle.cli_files.specs.Paths.{IsPathStatus}
 use Rattle.cli_files.specs.Reading.{IsRefusedMemory}
 use Rattle.cli_files.specs.declared.reading.TheConstants.{MAX_TEXT}
 use Rattle.cli_files.specs.declared.paths.Opening.TheVariants.{First}
-use Rattle.cli_store.specs.Files.{IsApart, IsRefusal, IsUnprinted, Places, Texts}
+use Rattle.cli_store.specs.Files.{IsApart, IsRefusal, IsUnprinted, Places, StoresAt, Texts}
 use Rattle.cli_args.specs.declared.steps.StepsWords.{StepsWords}
 use Rattle.cli_steps.specs.Playing.{is_traced}
 use Rattle.cli_steps.specs.Telling.{PrintsPlayed}
@@ -30,6 +32,7 @@ use Rattle.cli_steps.specs.declared.outcome.StepsInput.{StepsInput}
 use Rattle.cli_steps.specs.declared.outcome.StepsRefusal.{StepsRefusal}
 use Rattle.cli_steps.specs.declared.outcome.StepsRefusal.TheVariants as refusal
 use Rattle.cli_steps.specs.declared.outcome.StepsReport.{StepsReport}
+use Rattle.cli_steps.specs.declared.steps.Replayed.{Replayed}
 use Rattle.cli_steps.specs.declared.steps.Detail.{Detail}
 use Rattle.cli_steps.specs.declared.steps.Detail.TheVariants as detail
 
@@ -142,6 +145,18 @@ abbrev pub IsNotDrawn : Places → Option (Bor (List ℕ)) → List ℕ → Type
 IsNotDrawn place None at = ⊤
 IsNotDrawn place (Some path) at = at ≢ place path.now
 
+-- the trace that a picture is drawn of was handed on
+abbrev pub HasTrace : Option (Bor (List ℕ)) → Result Replayed Fault → Type 0
+HasTrace (Some path) (Ok replayed) = replayed.trace ≢ None
+HasTrace picture other = ⊤
+
+-- The picture that was asked for was drawn of a replay, and is stored: its file was made of these bytes. Where none was asked for, or
+-- there was no replay, none was drawn.
+abbrev pub IsDrawn : Places → Texts → Texts → Option (Bor (List ℕ)) → Result Replayed Fault → Option (Vec ℕ Global) → Type 0
+IsDrawn place old new None replayed drawn = drawn ≡ None
+IsDrawn place old new (Some path) (Err fault) drawn = drawn ≡ None
+IsDrawn place old new (Some path) (Ok replayed) drawn = (bytes : Vec ℕ Global) × (drawn ≡ Some bytes) × StoresAt old new (place path.now) bytes.items
+
 -- why the picture that is asked for was not drawn whole: memory was refused, or its file failed
 abbrev pub IsUndrawn : Option (Bor (List ℕ)) → Bool → PictureFault → Type 0
 IsUndrawn None failed fault = ⊥
@@ -152,8 +167,8 @@ IsUndrawn (Some path) failed (picture.File (Some error)) = IsFailure failed erro
 -- ---- The command
 
 -- The files of the words say listeners, steps and captures. The steps were played to the listeners over the captures, and `PrintsPlayed`
--- says what was printed: with `-v` the answers and then the reports, and else the reports, in the form that is asked for. Where there was
--- no replay, no picture was drawn.
+-- says what was printed: with `-v` the answers and then the reports, and else the reports, in the form that is asked for. A picture that
+-- was drawn is stored. Where there was no replay, no file changed.
 pub record PlaysFiles (place : Places) (old new : Texts) (printed : Option (List ℕ)) (failed : Bool) (words : StepsWords) (before after : Option (List ℕ)) (report : StepsReport) : Type 0 where
   pub listeners : List ℕ
   pub script : List ℕ
@@ -168,6 +183,7 @@ pub record PlaysFiles (place : Places) (old new : Texts) (printed : Option (List
   pub of_script : IsFileOf IsStepLine script steps
   pub plays : PrintsPlayed (form_for words.json) words.explained (is_traced (detail_for words.explained (option_copied words.picture))) captures specs steps before after report.status report.replayed
   pub unplayed : IfErr report.replayed (λ fault. (at : List ℕ) → new at ≡ old at)
+  pub drawn : IfOk report.drawn (IsDrawn place old new words.picture report.replayed)
   pub undrawn : IfErr report.drawn (IsUndrawn words.picture failed)
 
 -- nothing was played, and the refusal says why: then no file changed, and nothing was printed; or the script was played
@@ -188,8 +204,8 @@ abbrev pub IsFileStatus : Error → Status → Type 0
 IsFileStatus error ended = (IsRefusedMemory error → ended ≡ status.Refused) × ((IsRefusedMemory error → ⊥) → ended ≡ status.Failed)
 
 -- of a picture
-abbrev pub IsDrawnStatus : Result (Unit {0}) PictureFault → Status → Type 0
-IsDrawnStatus (Ok done) ended = ended ≡ status.Clean
+abbrev pub IsDrawnStatus : {A : Type 0} → Result A PictureFault → Status → Type 0
+IsDrawnStatus (Ok drawn) ended = ended ≡ status.Clean
 IsDrawnStatus (Err picture.NoMemory) ended = ended ≡ status.Refused
 IsDrawnStatus (Err (picture.File None)) ended = ended ≡ status.Failed
 IsDrawnStatus (Err (picture.File (Some error))) ended = IsFileStatus error ended

@@ -72,13 +72,17 @@ fn report_unplayed<E: HintSink>(refusal: &StepsRefusal<'_>, err: &mut E) -> Stat
 }
 
 /// Reports why the picture at a path was not drawn, if it was not, and returns the exit status.
-fn report_picture<E: HintSink>(path: &str, drawn: &Result<(), PictureFault>, err: &mut E) -> Status
+fn report_picture<E: HintSink>(
+    path: &str,
+    drawn: &Result<Option<Vec<u8>>, PictureFault>,
+    err: &mut E,
+) -> Status
     ensures status { IsDrawnStatus drawn.now result }
     ensures told { (fault : PictureFault) → drawn.now ≡ Err fault → TellsOne E.takes_hints E.failed E.contents E.fault_form (IsPictureReport path.entry fault) err.old err.new }
     ensures more { TellsMore E.takes_hints E.failed E.contents E.fault_form err.old err.new }
 {
     match drawn {
-        Ok(()) => Status::Clean,
+        Ok(_) => Status::Clean,
         Err(PictureFault::NoMemory) => report_memory(err),
         Err(PictureFault::File(None)) => report_device(path, err),
         Err(PictureFault::File(Some(error))) => report_io(error, path, err),

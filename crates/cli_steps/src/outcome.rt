@@ -50,6 +50,6 @@ pub struct StepsReport {
     pub status: Status,
     /// The replay, or why there was none.
     pub replayed: Result<Replayed, Fault>,
-    /// Whether the picture was drawn, if one was asked for.
-    pub drawn: Result<(), PictureFault>,
+    /// The picture as its file has it, if one was asked for and there was a replay.
+    pub drawn: Result<Option<Vec<u8>>, PictureFault>,
 }

@@ -1,10 +1,10 @@
 //! The picture that `bpftap steps -p` draws.
 
-ghost use Rattle.std.specs.Prelude.{◌≡◌, ◌≢◌, [], ℕ, List, Some, true, IfErr, OnOk};
+ghost use Rattle.std.specs.Prelude.{◌≡◌, ◌≢◌, [], ℕ, List, Some, true, IfErr, IfOk, OnOk};
 ghost use Rattle.std.specs.Io.KnownBytes.{Appends};
 ghost use Rattle.savefile.specs.Device.{CountsFailure};
 ghost use Rattle.cli_store.specs.Files.{StoresAt};
-ghost use Rattle.cli_steps.specs.FromFiles.{IsNotDrawn, IsUndrawn};
+ghost use Rattle.cli_steps.specs.FromFiles.{HasTrace, IsDrawn, IsNotDrawn, IsUndrawn};
 
 use crate::outcome::PictureFault;
 use crate::steps::Replayed;
@@ -70,16 +70,17 @@ fn draw<'p, F: FileStore<'p>>(
     }
 }
 
-/// Draws the picture of a replay, if there was one and a picture is wanted.
+/// Draws the picture of a replay, if there was one and a picture is wanted, and returns what its file has.
 pub(crate) fn draw_wanted<'p, F: FileStore<'p>>(
     alloc: Global,
     files: &mut F,
     words: &StepsWords<'p>,
     plan: &StepsPlan,
     replayed: &Result<Replayed, Fault>,
-) -> Result<(), PictureFault>
+) -> Result<Option<Vec<u8>>, PictureFault>
     requires none_open { F.opened files.old ≡ [] }
     ensures others { F.known ≡ true → (at : List ℕ) → IsNotDrawn (F.place files.old) words.now.picture at → F.text files.new at ≡ F.text files.old at }
+    ensures drawn { F.known ≡ true → HasTrace words.now.picture replayed.now → IfOk result (IsDrawn (F.place files.old) (F.text files.old) (F.text files.new) words.now.picture replayed.now) }
     ensures unplayed { F.known ≡ true → IfErr replayed.now (λ _. (at : List ℕ) → F.text files.new at ≡ F.text files.old at) }
     ensures closed { F.known ≡ true → F.pending files.new ≡ F.pending files.old }
     ensures failed { F.known ≡ true → IfErr result (IsUndrawn words.now.picture (F.failed files.new)) }
@@ -94,8 +95,9 @@ pub(crate) fn draw_wanted<'p, F: FileStore<'p>>(
         ),
     ) = (words.picture, replayed)
     else {
-        return Ok(());
+        return Ok(None);
     };
     let picture = picture_of(alloc, plan, trace)?;
-    draw(files, picture.as_slice(), path)
+    draw(files, picture.as_slice(), path)?;
+    Ok(Some(picture))
 }

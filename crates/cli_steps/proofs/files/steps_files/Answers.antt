@@ -9,4 +9,4 @@ returns-clause-steps g c tells =
     let new = c.draw_wanted-drawn.new.files in
     let kept = c.in_ok-input.ensures.kept in
     steps_files (F.place old) (F.place mid) (F.text old) (F.text mid) (F.text new) (F.printed old) (F.failed new) (F.denied new) c.args.words.now _ _ _
-    kept.0 kept.1 (c.in_ok-input.ensures.input tells) c.in-Ok.ensures.played (c.draw_wanted-drawn.ensures.others tells) (c.draw_wanted-drawn.ensures.unplayed tells) (c.draw_wanted-drawn.ensures.failed tells)
+    kept.0 kept.1 (c.in_ok-input.ensures.input tells) c.in-Ok.ensures.played (c.draw_wanted-drawn.ensures.others tells) (c.draw_wanted-drawn.ensures.unplayed tells) (c.draw_wanted-drawn.ensures.drawn tells) (c.draw_wanted-drawn.ensures.failed tells)
