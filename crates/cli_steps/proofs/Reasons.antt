@@ -1,5 +1,5 @@
 -- What is read of the files, and why it is not.
-use Rattle.std.proofs.Common.{◌≡◌, All, ℕ, zero, suc, ◌<◌, ◌≤◌, inl, inr, List, [], ◌∷◌, Bool, true, MatchOption, Option, Some, None, length, take, map, slice_index_or, refl, sym, ◌∙◌, ap, subst, arith, length-take}
+use Rattle.std.proofs.Common.{◌≡◌, ◌≢◌, All, ℕ, zero, suc, ◌<◌, ◌≤◌, inl, inr, List, [], ◌∷◌, Bool, MatchOption, Option, Some, None, length, take, map, slice_index_or, refl, sym, ◌∙◌, ap, subst, arith, length-take}
 use Rattle.std.specs.List.{Any}
 use Rattle.std.specs.Borrow.{Bor}
 use Rattle.std.specs.declared.io.Error.{Error}
@@ -124,11 +124,13 @@ drawn_is (Some path) found is = is
 
 -- no file is lost, by the lists of paths that were compared
 pub apart_paths : (place : Places) (text : Texts) (printed : Option (List ℕ)) (words : StepsWords) (read drawn : List (Bor (List ℕ))) → read ≡ read_paths words → drawn ≡ drawn_paths words.picture →
-    All (λ output. All (λ path. IsApart First place text output.now path.now) read) drawn → All (λ path. IsUnprinted First place text printed path.now) read → ArePathsApart place text printed words
-apart_paths place text printed words read drawn reads draws apart unprinted = (
+    All (λ output. All (λ path. IsApart First place text output.now path.now) read) drawn → All (λ path. IsUnprinted First place text printed path.now) read →
+    All (λ output. printed ≢ Some (place output.now)) drawn → ArePathsApart place text printed words
+apart_paths place text printed words read drawn reads draws apart unprinted unshared = (
   subst (λ (d : List (Bor (List ℕ))). All (λ output. All (λ path. IsApart First place text output.now path.now) (read_paths words)) d) draws
       (subst (λ (r : List (Bor (List ℕ))). All (λ output. All (λ path. IsApart First place text output.now path.now) r) drawn) reads apart),
   subst (λ (r : List (Bor (List ℕ))). All (λ path. IsUnprinted First place text printed path.now) r) reads unprinted,
+  subst (λ (d : List (Bor (List ℕ))). All (λ output. printed ≢ Some (place output.now)) d) draws unshared,
 )
 
 again : {X : Type 0} (xs : List X) (k : ℕ) (d : X) → slice_index_or xs k (slice_index_or xs k d) ≡ slice_index_or xs k d

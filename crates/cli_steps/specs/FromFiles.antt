@@ -68,11 +68,12 @@ IsTextAt place text path whole = text (place path) ≡ Some whole
 abbrev pub AreTextsAt : Places → Texts → List (Bor (List ℕ)) → List (List ℕ) → Type 0
 AreTextsAt place text paths wholes = map (λ path. text (place path.now)) paths ≡ map Some wholes
 
--- No file that is read is the picture's, and standard output goes to none.
+-- No file that is read is the picture's, and standard output goes to none of these files.
 abbrev pub ArePathsApart : Places → Texts → Option (List ℕ) → StepsWords → Type 0
 ArePathsApart place text printed words =
     All (λ drawn. All (λ path. IsApart First place text drawn.now path.now) (read_paths words)) (drawn_paths words.picture)
     × All (λ path. IsUnprinted First place text printed path.now) (read_paths words)
+    × All (λ drawn. printed ≢ Some (place drawn.now)) (drawn_paths words.picture)
 
 -- ---- Why nothing was played
 
