@@ -10,3 +10,4 @@ pub mod OwnFiles
 pub mod Closings
 pub mod Openings
 pub mod Parting
+pub mod Silence

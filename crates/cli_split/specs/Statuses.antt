@@ -1,5 +1,5 @@
 -- The exit status of a split.
-use Rattle.std.specs.Prelude.{◌≡◌, List, ℕ, Option, fold, Result, Ok, Err}
+use Rattle.std.specs.Prelude.{◌≡◌, All, List, ℕ, IsOk, Option, fold, Result, Ok, Err}
 use Rattle.std.specs.declared.io.Error.{Error}
 use Rattle.savefile.specs.declared.fault.Fault.{Fault}
 use Rattle.line_text.specs.declared.form.LineForm.{LineForm}
@@ -33,6 +33,10 @@ parts_status parts = fold (λ status part. greater status (written_status part.w
 -- the greatest status of the parts and of the reading
 abbrev pub split_status : {R W : Type 0} → SplitEnd R W → Status
 split_status end = greater (parts_status end.parts.items) (stop_status end.end)
+
+-- the captures were read to their ends, and each part was written whole
+abbrev pub WentWell : {R W : Type 0} → SplitEnd R W → Type 0
+WentWell end = IsOk end.end × All (λ part. IsOk part.written) end.parts.items
 
 -- The lines were printed: all of them, or a prefix if standard output failed. The status is the greatest of all.
 pub record ReportsSplit {R W : Type 0} (form : LineForm) (lines : List SplitLine) (end : SplitEnd R W) (old new : Option (List ℕ)) (status : Status) : Type 0 where

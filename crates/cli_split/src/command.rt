@@ -1,7 +1,7 @@
 //! `bpftap split`, over files.
 
 ghost use Rattle.std.specs.Prelude.{◌≡◌, [], true, false, codes};
-ghost use Rattle.cli_text.specs.declared.status.Status.TheVariants.{Failed, Refused};
+ghost use Rattle.cli_text.specs.declared.status.Status.TheVariants.{Clean, Failed, Refused};
 ghost use Rattle.fault_report.specs.Reports.{TellsOne};
 ghost use Rattle.cli_filter.specs.Reports.{IsPlanReport};
 ghost use Rattle.cli_split.specs.Reporting.{IsRefusalReport, TellsOutcome, TellsStop};
@@ -106,6 +106,7 @@ fn report_ended<'p, O: PrintSink, E: HintSink>(
     err: &mut E,
 ) -> Reported<'p>
     ensures prints { ReportsSplit (form_of words.now) report.entry.lines.items report.entry.end (O.contents out.old) (O.contents out.new) result.status }
+    ensures silent { result.status ≡ Clean → E.takes_hints err.old ≡ false → err.new ≡ err.old }
     ensures told { TellsStop E.takes_hints E.failed E.contents E.fault_form words.now.inputs.items report.entry.end.end err.old err.new }
     ensures handed_on { O.waits out.old ≡ false → (result.status ≡ Failed → ⊥) → O.waits out.new ≡ false }
 {
@@ -142,6 +143,8 @@ pub fn split_and_report<'p, F: FileStore<'p>, O: PrintSink, E: HintSink>(
         × SplitsFiles (F.place files.old) (F.text files.old) (F.text files.new) (F.printed files.old) (F.failed files.new) (F.denied files.new) call.entry.words.now outcome
         × ReportsOutcome call.entry.words.now outcome (O.contents out.old) (O.contents out.new) result.status
         × TellsOutcome E.takes_hints E.failed E.contents E.fault_form call.entry.words.now outcome err.old err.new }
+    // Where all went well nothing is reported.
+    ensures silent { result.status ≡ Clean → E.takes_hints err.old ≡ false → err.new ≡ err.old }
     // Nothing that was printed waits, unless a file or a device failed.
     ensures handed_on { O.waits out.old ≡ false → (result.status ≡ Failed → ⊥) → O.waits out.new ≡ false }
     ensures closed { F.known ≡ true → F.pending files.new ≡ F.pending files.old }

@@ -1,16 +1,16 @@
 //! What `bpftap split` prints of each OUT, what it reports, and its exit status.
 
-ghost use Rattle.std.specs.Prelude.{◌≡◌, Err, false, OnOk, slice_get};
+ghost use Rattle.std.specs.Prelude.{◌≡◌, All, Err, false, IsOk, OnOk, slice_get};
 ghost use Rattle.line_text.specs.Sending.{Takes};
 ghost use Rattle.line_text.specs.Texts.{numbered};
-ghost use Rattle.cli_text.specs.Telling.{fault_status};
-ghost use Rattle.cli_text.specs.declared.status.Status.TheVariants.{Failed};
+ghost use Rattle.cli_text.specs.Telling.{fault_status, print_status_of};
+ghost use Rattle.cli_text.specs.declared.status.Status.TheVariants.{Clean, Failed};
 ghost use Rattle.fault_report.specs.Captures.{IsNthCaptureFault};
 ghost use Rattle.fault_report.specs.Reports.{TellsAmong, TellsMore};
 ghost use Rattle.cli_split.specs.Reporting.{IsStopReport, TellsStop};
 ghost use Rattle.cli_split.specs.Printed.{line_text, output_of, part_line, printed_split};
 ghost use Rattle.cli_split.specs.Splitting.{passes_header};
-ghost use Rattle.cli_split.specs.Statuses.{ReportsSplit, parts_status, split_status, stop_status, written_status};
+ghost use Rattle.cli_split.specs.Statuses.{ReportsSplit, WentWell, parts_status, split_status, stop_status, written_status};
 
 use crate::line::put_count;
 use crate::part::PartEnd;
@@ -23,7 +23,7 @@ use cli_text::report::fault_status;
 use cli_watch::output::PrintSink;
 use fault_report::FaultSink;
 use fault_report::captures::output_fault;
-use fault_report::reporting::{report_fault, report_nth_capture, report_output};
+use fault_report::reporting::{report_fault, report_nth_capture, report_unwritten};
 use line_text::LineForm;
 use line_text::sending::send;
 use savefile::Fault;
@@ -112,6 +112,7 @@ fn print_split<R, W, O: PrintSink>(
 /// Reports why a part was not written whole, if it was not, and returns the exit status.
 fn report_part<W, E: FaultSink>(output: &str, part: &PartEnd<W>, err: &mut E) -> Status
     ensures status { result ≡ written_status part.now.written }
+    ensures silent { IsOk part.now.written → err.new ≡ err.old }
     ensures more { TellsMore E.takes_hints E.failed E.contents E.fault_form err.old err.new }
 {
     match part.written {
@@ -127,6 +128,7 @@ fn report_parts<W, E: FaultSink>(
     err: &mut E,
 ) -> Status
     ensures status { result ≡ parts_status parts.now }
+    ensures silent { All (λ part. IsOk part.written) parts.now → err.new ≡ err.old }
     ensures more { TellsMore E.takes_hints E.failed E.contents E.fault_form err.old err.new }
 {
     let mut status = Status::Clean;
@@ -160,6 +162,7 @@ fn report_stopped<E: HintSink>(stop: Stop, paths: &[&str], err: &mut E) -> Statu
 /// Reports what ended the reading, if something did, and returns the exit status.
 fn report_stop<E: HintSink>(end: Result<(), Stop>, paths: &[&str], err: &mut E) -> Status
     ensures status { result ≡ stop_status end }
+    ensures silent { IsOk end → err.new ≡ err.old }
     ensures told { TellsStop E.takes_hints E.failed E.contents E.fault_form paths.now end err.old err.new }
 {
     match end {
@@ -168,11 +171,24 @@ fn report_stop<E: HintSink>(end: Result<(), Stop>, paths: &[&str], err: &mut E) 
     }
 }
 
+/// Reports that standard output failed, if it did and somebody reads it, and returns the exit status of printing.
+fn report_printed<E: FaultSink>(printed: &io::Result<()>, err: &mut E) -> Status
+    ensures status { result ≡ print_status_of printed.now }
+    ensures silent { IsOk printed.now → err.new ≡ err.old }
+    ensures more { TellsMore E.takes_hints E.failed E.contents E.fault_form err.old err.new }
+{
+    match printed {
+        Ok(()) => Status::Clean,
+        Err(error) => report_unwritten(error, err),
+    }
+}
+
 impl<R, W> EndedSplit<'_, R, W> {
     /// Reports the OUT of each part that was not written whole, and what ended the reading, and returns the greatest of their statuses, as
     /// [`report`](EndedSplit::report) does.
     pub fn report_faults<E: HintSink>(&self, err: &mut E) -> Status
         ensures status { result ≡ split_status self.now.end.now }
+        ensures silent { WentWell self.now.end.now → err.new ≡ err.old }
         ensures told { TellsStop E.takes_hints E.failed E.contents E.fault_form self.now.captures.now self.now.end.now.end err.old err.new }
     {
         let parts = report_parts(self.lines, self.end.parts.as_slice(), err);
@@ -198,11 +214,12 @@ impl<R, W> EndedSplit<'_, R, W> {
         err: &mut E,
     ) -> Status
         ensures prints { ReportsSplit form self.now.lines.now self.now.end.now (O.contents out.old) (O.contents out.new) result }
+        ensures silent { result ≡ Clean → err.new ≡ err.old }
         ensures told { TellsStop E.takes_hints E.failed E.contents E.fault_form self.now.captures.now self.now.end.now.end err.old err.new }
         ensures handed_on { O.waits out.old ≡ false → (result ≡ Failed → ⊥) → O.waits out.new ≡ false }
     {
         let printed = print_split(form, self.lines, self.end, line, out);
-        let status = report_output(&printed, err);
+        let status = report_printed(&printed, err);
         status.max(self.report_faults(err))
     }
 }
