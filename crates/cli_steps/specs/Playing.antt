@@ -1,5 +1,5 @@
 -- What is printed and reported of steps that are played, and the exit status.
-use Rattle.std.specs.Prelude.{◌≡◌, ℕ, ◌⊎◌, Bool, true, false, List, [], ◌++◌, Option, Some, None, Result, Ok, Err, map, codes}
+use Rattle.std.specs.Prelude.{◌≡◌, ℕ, ◌⊎◌, Bool, true, false, List, [], ◌++◌, Option, Some, None, Result, Ok, Err, ⊤, map, codes}
 use Rattle.std.specs.Io.KnownBytes.{Appends, Keeps}
 use Rattle.savefile.specs.declared.fault.Fault.{Fault as RecordFault}
 use Rattle.tap.specs.declared.fault.Fault.{Fault}
@@ -36,6 +36,12 @@ IsPrintStatus old new text print_status = ((print_status ≡ status.Clean) × Ap
 abbrev pub record_fault_status : Option (ℕ × RecordFault) → Status
 record_fault_status None = status.Clean
 record_fault_status (Some record_fault) = status.Damaged
+
+-- All that was to be printed was printed: nothing failed, or only a capture ended with a record fault.
+abbrev pub IsPrintedWhole : Status → Type 0
+IsPrintedWhole status.Clean = ⊤
+IsPrintedWhole status.Damaged = ⊤
+IsPrintedWhole other = ⊥
 
 -- the line of standard output that failed
 abbrev pub failed_output_line : Status → List ℕ

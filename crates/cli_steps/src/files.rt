@@ -2,9 +2,8 @@
 
 ghost use Rattle.std.specs.Prelude.{◌≡◌, [], false, true, map, IfOk, OnErr, option_copied};
 ghost use Rattle.std.specs.Io.KnownBytes.{Keeps};
-ghost use Rattle.cli_text.specs.declared.status.Status.TheVariants.{Clean};
 ghost use Rattle.cli_steps.specs.FromFiles.{StepsFiles, detail_for, form_for};
-ghost use Rattle.cli_steps.specs.Playing.{is_traced};
+ghost use Rattle.cli_steps.specs.Playing.{IsPrintedWhole, is_traced};
 ghost use Rattle.cli_steps.specs.Telling.{PrintsPlayed};
 
 use crate::outcome::{StepsInput, StepsRefusal, StepsReport};
@@ -66,7 +65,7 @@ fn play_input<O: PrintSink>(
         (map (λ c. c.items) input.now.captures.items) input.now.plan.specs.items input.now.plan.steps.items
         (O.contents out.old) (O.contents out.new) played.0 played.1) }
     ensures nothing { OnErr result (Keeps (O.contents out.old) (O.contents out.new)) }
-    ensures handed_on { IfOk result (λ played. played.0 ≡ Clean → O.waits out.new ≡ false) }
+    ensures handed_on { IfOk result (λ played. IsPrintedWhole played.0 → O.waits out.new ≡ false) }
 {
     let captures = borrow_all(alloc, input.captures.as_slice())?;
     let replay = StepsReplay {
@@ -87,8 +86,8 @@ pub fn steps_files<'p, F: FileStore<'p>, O: PrintSink>(
     requires none_open { F.opened files.old ≡ [] }
     ensures steps { F.known ≡ true → StepsFiles (F.place files.old) (F.text files.old) (F.text files.new) (F.printed files.old) (F.failed files.new) (F.denied files.new) words.now
         (O.contents out.old) (O.contents out.new) result }
-    // Nothing that was printed waits, unless standard output failed.
-    ensures handed_on { IfOk result (λ report. report.status ≡ Clean → O.waits out.new ≡ false) }
+    // What was printed whole does not wait, also if a capture ended with a record fault.
+    ensures handed_on { IfOk result (λ report. IsPrintedWhole report.status → O.waits out.new ≡ false) }
     // The picture is closed.
     ensures closed { F.known ≡ true → F.pending files.new ≡ F.pending files.old }
 {

@@ -4,10 +4,10 @@ ghost use Rattle.std.specs.Prelude.{◌≡◌, ◌⊎◌, ◌++◌, true, false,
 ghost use Rattle.std.specs.Io.KnownBytes.{Keeps};
 ghost use Rattle.line_text.specs.declared.form.LineForm.TheVariants.{Text};
 ghost use Rattle.line_text.specs.Sending.{Takes, streams};
-ghost use Rattle.cli_text.specs.declared.status.Status.TheVariants.{Clean, Failed, Refused};
+ghost use Rattle.cli_text.specs.declared.status.Status.TheVariants.{Failed, Refused};
 ghost use Rattle.tap_text.specs.Answers.{answers_from};
 ghost use Rattle.tap_text.specs.Printed.{reports_in};
-ghost use Rattle.cli_steps.specs.Playing.{trace_text, is_explained, is_traced, PlaysAs};
+ghost use Rattle.cli_steps.specs.Playing.{IsPrintedWhole, trace_text, is_explained, is_traced, PlaysAs};
 ghost use Rattle.cli_steps.specs.Stepping.{Steps, StepsTo};
 ghost use Rattle.cli_steps.specs.Telling.{PrintsPlayed};
 
@@ -108,7 +108,7 @@ fn print_trace<O: Write>(
 fn hand_on<O: PrintSink>(printed: Status, out: &mut O) -> Status
     ensures bytes { Keeps (O.contents out.old) (O.contents out.new) }
     ensures ends { (result ≡ printed) ⊎ ((result ≡ Failed) × (printed ≡ Refused → ⊥)) }
-    ensures handed_on { result ≡ Clean → O.waits out.new ≡ false }
+    ensures handed_on { IsPrintedWhole result → O.waits out.new ≡ false }
 {
     match printed {
         Status::Clean | Status::Damaged => match out.hand_on() {
@@ -225,7 +225,7 @@ impl StepsReplay<'_, '_, '_> {
         ensures played { PrintsPlayed printing.form (is_explained printing.detail) (is_traced printing.detail)
             (map (λ c. c.now) self.entry.captures.now) self.entry.plan.now.specs.items self.entry.plan.now.steps.items
             (O.contents out.old) (O.contents out.new) result.0 result.1 }
-        ensures handed_on { result.0 ≡ Clean → O.waits out.new ≡ false }
+        ensures handed_on { IsPrintedWhole result.0 → O.waits out.new ≡ false }
     {
         let (outcome, replayed) = self.play(alloc, printing, out, &mut io::sink());
         (hand_on(outcome.status, out), replayed)
