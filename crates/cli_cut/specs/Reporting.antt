@@ -1,22 +1,29 @@
 -- What `bpftap cut` and `bpftap check` report on standard error.
-use Rattle.std.specs.Prelude.{◌≡◌, ℕ, Bool, List, Option, Result, Ok, Err, ⊤}
+use Rattle.std.specs.Prelude.{◌≡◌, ◌≢◌, ◌⊎◌, ℕ, Bool, false, if◌then◌else◌, List, Option, Result, Ok, Err}
 use Rattle.std.specs.Borrow.{Bor}
+use Rattle.std.specs.IoError.{error_kind}
+use Rattle.std.specs.declared.io.Error.{Error}
+use Rattle.std.specs.declared.io.ErrorKind.TheVariants.{BrokenPipe}
+use Rattle.savefile.specs.declared.fault.Fault.TheVariants.{Device}
 use Rattle.line_text.specs.declared.form.LineForm.{LineForm}
+use Rattle.line_text.specs.declared.form.LineForm.TheVariants.{Text, Json}
 use Rattle.fault_report.specs.Captures.{IsCaptureFault, IsOutputFault}
-use Rattle.fault_report.specs.Reports.{IsNoMemory, TellsAmong, TellsOne}
+use Rattle.fault_report.specs.Reports.{IsDevice, IsNoMemory, Tells, TellsOne}
 use Rattle.fault_report.specs.declared.report.Report.{Report}
+use Rattle.fault_report.specs.declared.report.Subject.TheVariants.{StandardOutput}
 use Rattle.cli_text.specs.declared.status.Status.TheVariants as status
 use Rattle.cli_files.specs.Paths.{IsPathReport}
 use Rattle.cli_files.specs.Reading.{IsFileReport, IsLongTextReport}
 use Rattle.cli_filter.specs.Reports.{IsExpressionReport, IsFilterReport}
 use Rattle.cli_args.specs.declared.cut.CutWords.{CutWords}
 use Rattle.cli_split.specs.Reporting.{TellsStop}
-use Rattle.cli_split.specs.Statuses.{split_status}
+use Rattle.cli_split.specs.Statuses.{WentWell, split_status}
 use Rattle.pcap_cut.specs.declared.cut.End.{End}
 use Rattle.pcap_cut.specs.declared.cut.End.TheVariants.{Clean, Input, Output}
-use Rattle.cli_cut.specs.Captures.{Closed}
+use Rattle.pcap_cut.specs.declared.cut.Tally.{Tally}
+use Rattle.cli_cut.specs.Captures.{Closed, total_told}
 use Rattle.cli_cut.specs.Checking.{Checked}
-use Rattle.cli_cut.specs.Telling.{status_of}
+use Rattle.cli_cut.specs.Telling.{count_told}
 use Rattle.cli_cut.specs.declared.outcome.CutOutcome.{CutOutcome}
 use Rattle.cli_cut.specs.declared.outcome.CutOutcome.TheVariants.{Refused, Ended}
 use Rattle.cli_cut.specs.declared.outcome.Refusal.{Refusal}
@@ -32,32 +39,65 @@ IsRefusalReport (refusal.Paths fault) report = IsPathReport fault report
 IsRefusalReport (refusal.File path error) report = IsFileReport error path report
 IsRefusalReport refusal.NoMemory report = IsNoMemory report
 
--- why a cut from one path to another ended before the end
-abbrev pub IsEndReport : Bor (List ℕ) → Bor (List ℕ) → End → Report → Type 0
-IsEndReport from to Clean report = ⊥
-IsEndReport from to (Input fault) report = IsCaptureFault fault from report
-IsEndReport from to (Output fault) report = IsOutputFault fault to report
+-- the form in which the packets are counted
+abbrev pub form_of : CutWords → LineForm
+form_of words = if words.json then Json else Text
 
 module _ {E : Type 0} (hints failed : E → Bool) (contents : E → Option (List ℕ)) (form : E → LineForm) where
-  -- why a cut ended before the end was reported: but for a device's fault, since nobody may read OUT any more
-  abbrev pub TellsEnd : Bor (List ℕ) → Bor (List ℕ) → End → E → E → Type 0
-  TellsEnd from to end old new =
-      (status_of end ≡ status.Clean → ⊥) → (status_of end ≡ status.Failed → ⊥) → TellsAmong hints failed contents form (IsEndReport from to end) old new
+  -- nothing was printed, if no hints are wanted
+  abbrev pub TellsNothing : E → E → Type 0
+  TellsNothing old new = hints old ≡ false → new ≡ old
 
-  -- of a call with one capture; of a refusal exactly that was reported
+  -- this text was printed, or nothing
+  abbrev pub TellsPerhaps : List ℕ → E → E → Type 0
+  TellsPerhaps text old new = TellsNothing old new ⊎ Tells hints failed contents form old new text
+
+  -- the same, and nothing if it was not asked for
+  abbrev pub TellsAsked : Bool → List ℕ → E → E → Type 0
+  TellsAsked asked text old new = TellsPerhaps text old new × (asked ≡ false → TellsNothing old new)
+
+  -- ---- One capture
+
+  -- why a cut from one path to another ended before the end was reported, and nothing more; of one that was not, nothing
+  abbrev pub TellsFault : Bor (List ℕ) → Bor (List ℕ) → End → E → E → Type 0
+  TellsFault from to Clean old new = new ≡ old
+  TellsFault from to (Input fault) old new = TellsOne hints failed contents form (IsCaptureFault fault from) old new
+  TellsFault from to (Output fault) old new = TellsOne hints failed contents form (IsOutputFault fault to) old new
+
+  -- that, and then at most the count of the packets, if it was asked for
+  abbrev pub TellsEnd : Bor (List ℕ) → CutWords → End → Tally → E → E → Type 0
+  TellsEnd from words end tally old new =
+      (mid : E) × TellsFault from words.output end old mid × TellsAsked words.counted (count_told (form_of words) end tally) mid new
+
+  -- Of a refusal exactly that was reported. Of a cut that was begun its end was; or nothing, if nobody reads OUT any more.
   abbrev pub TellsOutcome : Bor (List ℕ) → CutWords → CutOutcome → E → E → Type 0
   TellsOutcome from words (Refused reason) old new = TellsOne hints failed contents form (IsRefusalReport reason) old new
-  TellsOutcome from words (Ended report) old new = TellsEnd from words.output report.end old new
+  TellsOutcome from words (Ended report) old new =
+      TellsEnd from words report.end report.tally old new ⊎ ((report.end ≡ Output Device) × (new ≡ old))
 
-  -- of a call with several: what ended their reading
+  -- ---- Several captures
+
+  -- where all went well, at most the count of the packets was printed, if it was asked for
+  abbrev pub TellsTotal : CutWords → Closed → E → E → Type 0
+  TellsTotal words end old new = WentWell end → TellsAsked words.counted (total_told (form_of words) end) old new
+
+  -- of a call with several: also what ended their reading, but for a device's fault, since nobody may read OUT any more
   abbrev pub TellsClosed : CutWords → Result Closed Refusal → E → E → Type 0
   TellsClosed words (Err reason) old new = TellsOne hints failed contents form (IsRefusalReport reason) old new
-  TellsClosed words (Ok end) old new = (split_status end ≡ status.Failed → ⊥) → TellsStop hints failed contents form words.inputs.items end.end old new
+  TellsClosed words (Ok end) old new =
+      TellsTotal words end old new × ((split_status end ≡ status.Failed → ⊥) → TellsStop hints failed contents form words.inputs.items end.end old new)
 
-  -- why a program was not printed
+  -- ---- Printing
+
+  -- that standard output failed was reported; or nothing, if nobody reads it any more
+  abbrev pub TellsUnwritten : Error → E → E → Type 0
+  TellsUnwritten error old new = (error_kind error ≡ BrokenPipe → TellsNothing old new)
+      × (error_kind error ≢ BrokenPipe → TellsOne hints failed contents form (IsDevice StandardOutput) old new)
+
+  -- why a program was not printed, and nothing more; of one that was, nothing
   abbrev pub TellsPrint : Result (Unit {0}) PrintFault → E → E → Type 0
-  TellsPrint (Ok done) old new = ⊤
-  TellsPrint (Err (print.Output error)) old new = ⊤
+  TellsPrint (Ok done) old new = TellsNothing old new
+  TellsPrint (Err (print.Output error)) old new = TellsUnwritten error old new
   TellsPrint (Err print.NoMemory) old new = TellsOne hints failed contents form IsNoMemory old new
   TellsPrint (Err (print.Expression fault)) old new = TellsOne hints failed contents form (IsExpressionReport fault) old new
 

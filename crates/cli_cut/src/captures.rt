@@ -6,11 +6,11 @@ ghost use Rattle.line_text.specs.Sending.{Takes};
 ghost use Rattle.cli_split.specs.Opened.{IsLate};
 ghost use Rattle.cli_split.specs.Statuses.{split_status, written_status};
 ghost use Rattle.cli_text.specs.declared.status.Status.TheVariants.{Failed};
-ghost use Rattle.fault_report.specs.Reports.{TellsMore};
 ghost use Rattle.cli_split.specs.Reporting.{TellsStop};
 ghost use Rattle.cli_store.specs.Files.{Keeps};
 ghost use Rattle.cli_cut.specs.Captures.{CutsAll, CutsPackets, HasSpace, IsUnopened, first_told, listing_path, part_told, total_told};
 ghost use Rattle.cli_cut.specs.Cutting.{IsUncompared, IsUnmade};
+ghost use Rattle.cli_cut.specs.Reporting.{TellsPerhaps, TellsTotal};
 
 use crate::outcome::Refusal;
 use crate::plan::program;
@@ -170,7 +170,7 @@ pub fn cut_several<'p, F: FileStore<'p>>(
 /// Reports how many of the packets were written, if OUT was written whole.
 fn report_part<W, E: FaultSink>(part: &PartEnd<W>, form: LineForm, err: &mut E) -> io::Result<()>
     ensures taken { Takes (E.contents err.old) (E.contents err.new) result (part_told form part.now) }
-    ensures more { TellsMore E.takes_hints E.failed E.contents E.fault_form err.old err.new }
+    ensures told { TellsPerhaps E.takes_hints E.failed E.contents E.fault_form (part_told form part.now) err.old err.new }
 {
     match part.written {
         Ok(()) => report_tally(part.tally, form, err),
@@ -188,7 +188,7 @@ pub fn report_total<R, W, E: FaultSink>(
     err: &mut E,
 ) -> io::Result<()>
     ensures taken { Takes (E.contents err.old) (E.contents err.new) result (total_told form end.now) }
-    ensures more { TellsMore E.takes_hints E.failed E.contents E.fault_form err.old err.new }
+    ensures told { TellsPerhaps E.takes_hints E.failed E.contents E.fault_form (total_told form end.now) err.old err.new }
 {
     if !was_begun(end.end) {
         return Ok(());
@@ -228,6 +228,7 @@ pub(crate) fn report_captures<E: HintSink>(
 ) -> Status
     ensures status { result ≡ split_status end.now }
     ensures told { TellsStop E.takes_hints E.failed E.contents E.fault_form words.now.inputs.items end.now.end err.old err.new }
+    ensures total { TellsTotal E.takes_hints E.failed E.contents E.fault_form words.now end.now err.old err.new }
 {
     let lines = [SplitLine {
         snap: words.snap,

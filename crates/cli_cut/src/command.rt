@@ -38,7 +38,7 @@ pub(crate) fn report_cut<E: HintSink>(
     err: &mut E,
 ) -> Status
     ensures status { result ≡ status_of report.now.end }
-    ensures told { TellsEnd E.takes_hints E.failed E.contents E.fault_form from.entry words.now.output report.now.end err.old err.new }
+    ensures told { TellsEnd E.takes_hints E.failed E.contents E.fault_form from.entry words.now report.now.end report.now.tally err.old err.new }
 {
     let status = report_end(report.end, from, words.output, err);
     hint_cut(report, from, err);

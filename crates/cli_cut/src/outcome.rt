@@ -1,8 +1,8 @@
 //! Why a cut is not begun, and how one ended.
 
 ghost use Rattle.std.specs.Prelude.{◌≡◌, true};
-ghost use Rattle.cli_text.specs.declared.status.Status.TheVariants.{Failed};
-ghost use Rattle.cli_cut.specs.Telling.{status_of};
+ghost use Rattle.savefile.specs.declared.fault.Fault.TheVariants.{Device};
+ghost use Rattle.pcap_cut.specs.declared.cut.End.TheVariants.{Output};
 
 use cli_files::paths::PathFault;
 use cli_filter::FilterFault;
@@ -58,7 +58,7 @@ impl CutReport {
 
     /// Whether it failed since OUT is a pipe that nobody reads any more.
     pub(crate) fn is_unread(&self) -> bool
-        ensures { result ≡ true → status_of self.now.end ≡ Failed }
+        ensures { result ≡ true → self.now.end ≡ Output Device }
     {
         match (self.end, &self.unwritten) {
             (End::Output(Fault::Device), Some(error)) => error.kind() == ErrorKind::BrokenPipe,

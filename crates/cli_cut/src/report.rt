@@ -3,9 +3,8 @@
 ghost use Rattle.std.specs.Prelude.{◌≡◌, IfOk};
 ghost use Rattle.line_text.specs.Sending.{Takes};
 ghost use Rattle.cli_text.specs.Status.{code};
-ghost use Rattle.cli_text.specs.declared.status.Status.TheVariants.{Clean};
-ghost use Rattle.fault_report.specs.Reports.{TellsMore, TellsOne};
-ghost use Rattle.cli_cut.specs.Reporting.{IsEndReport, IsRefusalReport, TellsPrint};
+ghost use Rattle.fault_report.specs.Reports.{TellsOne};
+ghost use Rattle.cli_cut.specs.Reporting.{IsRefusalReport, TellsFault, TellsPerhaps, TellsPrint};
 ghost use Rattle.cli_cut.specs.Cutting.{IsRefusalStatus};
 ghost use Rattle.cli_cut.specs.Telling.{count_told, is_counted, print_status, status_of, tally_json, tally_line, tally_text};
 
@@ -30,7 +29,7 @@ use std::io::Write;
 /// Reports how a cut from one path to another ended, and returns the exit status.
 pub fn report_end<E: FaultSink>(end: End, from: &str, to: &str, err: &mut E) -> Status
     ensures status { result ≡ status_of end }
-    ensures told { (status_of end ≡ Clean → ⊥) → TellsOne E.takes_hints E.failed E.contents E.fault_form (IsEndReport from.entry to.entry end) err.old err.new }
+    ensures told { TellsFault E.takes_hints E.failed E.contents E.fault_form from.entry to.entry end err.old err.new }
 {
     match end {
         End::Clean => Status::Clean,
@@ -119,7 +118,7 @@ pub(crate) fn report_tally<E: FaultSink>(
     err: &mut E,
 ) -> io::Result<()>
     ensures taken { Takes (E.contents err.old) (E.contents err.new) result (tally_line form tally) }
-    ensures more { TellsMore E.takes_hints E.failed E.contents E.fault_form err.old err.new }
+    ensures told { TellsPerhaps E.takes_hints E.failed E.contents E.fault_form (tally_line form tally) err.old err.new }
 {
     let line = tally_line(tally, form)?;
     err.tell_line(line.as_bytes())
@@ -135,7 +134,7 @@ pub fn report_count<E: FaultSink>(
     err: &mut E,
 ) -> io::Result<()>
     ensures taken { Takes (E.contents err.old) (E.contents err.new) result (count_told form end tally) }
-    ensures more { TellsMore E.takes_hints E.failed E.contents E.fault_form err.old err.new }
+    ensures told { TellsPerhaps E.takes_hints E.failed E.contents E.fault_form (count_told form end tally) err.old err.new }
 {
     if is_counted(end) {
         report_tally(tally, form, err)
