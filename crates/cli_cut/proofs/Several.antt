@@ -31,7 +31,7 @@ use Rattle.cli_split.specs.declared.split.SplitEnd.{SplitEnd}
 use Rattle.cli_split.specs.declared.split.Stop.{Stop}
 use Rattle.cli_split.proofs.Texts.{EndsPart, ends-parts, gives-mapped, holds-broken, holds-closed, reads-texts}
 use Rattle.cli_cut.specs.Captures.{CutsAll, CutsPackets, IsUnopened, listing_path, texts_at}
-use Rattle.cli_cut.specs.Cutting.{IsGiven, IsReason, IsShared, IsUncompared, IsUngiven, IsUnmade}
+use Rattle.cli_cut.specs.Cutting.{IsGiven, IsReason, IsShared, IsUncompared, IsUngiven, IsUnmade, SparesListing}
 use Rattle.cli_cut.specs.declared.outcome.Refusal.{Refusal}
 use Rattle.cli_cut.specs.declared.outcome.Refusal.TheVariants as refusal
 use Rattle.cli_cut.proofs.Whole.{lost_alone, uncompared_reason, ungiven_reason, unmade_reason}
@@ -59,7 +59,21 @@ pub all_front : {X : Type 0} (P : X → Type 0) (xs ys : List X) → All P (xs +
 all_front P [] ys all = λ k d within. absurd (omega (arith, within))
 all_front P (x ∷ xs) ys all = all_cons P x xs (all 0 x (omega arith)) (all_front P xs ys (all_tail P x (xs ++ ys) all))
 
+all_back : {X : Type 0} (P : X → Type 0) (xs ys : List X) → All P (xs ++ ys) → All P ys
+all_back P [] ys all = all
+all_back P (x ∷ xs) ys all = all_back P xs ys (all_tail P x (xs ++ ys) all)
+
 -- ---- The paths
+
+spares_listed : (place : Places) (listing : Option (Bor (List ℕ))) (output : Bor (List ℕ)) → All (λ path. place path.now ≢ place output.now) (listing_path listing) →
+    (path : List ℕ) → option_copied listing ≡ Some path → place path ≢ place output.now
+spares_listed place None output all path is = absurd (cc)
+spares_listed place (Some l) output all path is =
+    let same : l.now ≡ path = cc in
+    subst (λ (p : List ℕ). place p ≢ place output.now) same (all 0 l (omega arith))
+
+pub spares_all : (place : Places) (words : CutWords) → All (λ path. place path.now ≢ place words.output.now) (words.inputs.items ++ listing_path words.listing) → SparesListing place words
+spares_all place words all = spares_listed place words.listing words.output (all_back (λ (path : Bor (List ℕ)). place path.now ≢ place words.output.now) words.inputs.items (listing_path words.listing) all)
 
 listed : (place : Places) (listing : Option (Bor (List ℕ))) (output : Bor (List ℕ)) → Any (λ path. place path.now ≡ place output.now) (listing_path listing) →
     (path : List ℕ) × (option_copied listing ≡ Some path) × (place path ≡ place output.now)
@@ -195,23 +209,24 @@ module _ {R W : Type 0} (left : R → Option (List ℕ)) (broken : R → ℕ) (t
 
 module _ (failed : Bool) (denied : Option (List ℕ)) (words : CutWords) where
   by_result : {R W : Type 0} (place : Places) (old new : Texts) (result : Result (SplitEnd R W) Refusal) (program : List Insn) → IsGiven place old (option_copied words.listing) (option_copied words.expr) words.snap program →
-      All (λ input. place input.now ≢ place words.output.now) words.inputs.items → ((p : List ℕ) → p ≢ place words.output.now → new p ≡ old p) →
+      All (λ input. place input.now ≢ place words.output.now) words.inputs.items → SparesListing place words → ((p : List ℕ) → p ≢ place words.output.now → new p ≡ old p) →
       IfOk result (CutsPackets place old new failed words program) → IfErr result (λ r. (new ≡ old) × IsUnmade place denied words r) → CutsAll place old new failed denied words result
-  by_result place old new (Ok end) program given apart others cuts refused =
-      record { others = others; came_to = record { program = program; given = given; apart = apart; cuts = cuts } }
-  by_result place old new (Err r) program given apart others cuts refused =
+  by_result place old new (Ok end) program given apart spares others cuts refused =
+      record { others = others; came_to = record { program = program; given = given; apart = apart; spares = spares; cuts = cuts } }
+  by_result place old new (Err r) program given apart spares others cuts refused =
       record { others = others; came_to = (unmade_reason place old failed denied words words.inputs.items r refused.1, λ p. ap (λ (t : Texts). t p) refused.0) }
 
   pub cut_all : {R W : Type 0} (place-old place : Places) (first old new : Texts) (result : Result (SplitEnd R W) Refusal) (program : List Insn) → place ≡ place-old → old ≡ first →
-      IsGiven place-old first (option_copied words.listing) (option_copied words.expr) words.snap program → All (λ input. place-old input.now ≢ place-old words.output.now) words.inputs.items →
+      IsGiven place-old first (option_copied words.listing) (option_copied words.expr) words.snap program → All (λ input. place-old input.now ≢ place-old words.output.now) words.inputs.items → SparesListing place-old words →
       ((p : List ℕ) → p ≢ place words.output.now → new p ≡ old p) → IfOk result (CutsPackets place old new failed words program) → IfErr result (λ r. (new ≡ old) × IsUnmade place denied words r) →
       CutsAll place-old first new failed denied words result
-  cut_all place-old place first old new result program places texts given apart others cuts refused =
+  cut_all place-old place first old new result program places texts given apart spares others cuts refused =
       let given-here = subst (λ (t : Texts). IsGiven place t (option_copied words.listing) (option_copied words.expr) words.snap program) (sym texts)
       (subst (λ (pl : Places). IsGiven pl first (option_copied words.listing) (option_copied words.expr) words.snap program) (sym places) given) in
       let apart-here = subst (λ (pl : Places). All (λ input. pl input.now ≢ pl words.output.now) words.inputs.items) (sym places) apart in
+      let spares-here = subst (λ (pl : Places). SparesListing pl words) (sym places) spares in
       subst (λ (t : Texts). CutsAll place-old t new failed denied words result) texts
-      (subst (λ (pl : Places). CutsAll pl old new failed denied words result) places (by_result place old new result program given-here apart-here others cuts refused))
+      (subst (λ (pl : Places). CutsAll pl old new failed denied words result) places (by_result place old new result program given-here apart-here spares-here others cuts refused))
 
   refused_all : {R W : Type 0} (place : Places) (old new : Texts) (r : Refusal) → new ≡ old → IsReason place old failed denied words words.inputs.items r → CutsAll {R = R} {W = W} place old new failed denied words (Err r)
   refused_all place old new r texts is =

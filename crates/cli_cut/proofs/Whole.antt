@@ -7,8 +7,9 @@ use Rattle.bpfvm.specs.declared.insn.Insn.{Insn}
 use Rattle.cli_args.specs.declared.cut.CutWords.{CutWords}
 use Rattle.cli_files.specs.declared.paths.PathFault.{PathFault}
 use Rattle.cli_files.specs.declared.paths.PathFault.TheVariants as paths
-use Rattle.cli_store.specs.Files.{IsLost, IsRefusal, Places, Texts}
-use Rattle.cli_cut.specs.Cutting.{CutsFiles, CutsInto, Ends, IsDenied, IsGiven, IsReason, IsShared, IsUncompared, IsUngiven, IsUnmade}
+use Rattle.cli_files.specs.declared.paths.Opening.TheVariants.{First}
+use Rattle.cli_store.specs.Files.{IsApart, IsLost, IsRefusal, Places, Texts}
+use Rattle.cli_cut.specs.Cutting.{CutsFiles, CutsInto, Ends, IsDenied, IsGiven, IsReason, IsShared, IsUncompared, IsUngiven, IsUnmade, SparesListing}
 use Rattle.cli_cut.specs.declared.outcome.CutReport.{CutReport}
 use Rattle.cli_cut.specs.declared.outcome.CutOutcome.TheVariants.{Ended, Refused}
 use Rattle.cli_cut.specs.declared.outcome.Refusal.{Refusal}
@@ -48,27 +49,27 @@ short_front m text whole front short =
 cut_files : (place-old place-mid : Places) (old mid new : Texts) (failed : Bool) (denied : Option (List ℕ)) (words : CutWords) (input : Bor (List ℕ)) (report : CutReport) (program : List Insn) (text : List ℕ) →
     place-mid ≡ place-old → mid ≡ old → ((p : List ℕ) → p ≢ place-mid words.output.now → new p ≡ mid p) →
     IsGiven place-old old (option_copied words.listing) (option_copied words.expr) words.snap program →
-    place-old input.now ≢ place-old words.output.now → old (place-old input.now) ≡ Some text →
+    place-old input.now ≢ place-old words.output.now → SparesListing place-old words → old (place-old input.now) ≡ Some text →
     Ends mid new failed (place-mid words.output.now) text program words.snap words.order words.«unit» report.tally report.end →
     CutsFiles place-old old new failed denied words input (Ended report)
-cut_files place-old place-mid old mid new failed denied words input report program text places texts others given apart read ends =
+cut_files place-old place-mid old mid new failed denied words input report program text places texts others given apart spares read ends =
     let out = words.output.now in
     let others-here : ((p : List ℕ) → p ≢ place-old out → new p ≡ old p) =
     subst (λ (pl : Places). (p : List ℕ) → p ≢ pl out → new p ≡ old p) places (subst (λ (m : Texts). (p : List ℕ) → p ≢ place-mid out → new p ≡ m p) texts others) in
     let ends-here : Ends old new failed (place-old out) text program words.snap words.order words.«unit» report.tally report.end =
     subst (λ (pl : Places). Ends old new failed (pl out) text program words.snap words.order words.«unit» report.tally report.end) places
     (subst (λ (m : Texts). Ends m new failed (place-mid out) text program words.snap words.order words.«unit» report.tally report.end) texts ends) in
-    record { others = others-here; came_to = record { program = program; given = given; apart = apart; text = text; read = read; ends = ends-here } }
+    record { others = others-here; came_to = record { program = program; given = given; apart = apart; spares = spares; text = text; read = read; ends = ends-here } }
 
 pub cut_files_if : (place-old place-mid : Places) (old mid new : Texts) (failed : Bool) (denied : Option (List ℕ)) (words : CutWords) (input : Bor (List ℕ)) (result : Result CutReport Refusal) (program : List Insn) (text : List ℕ) →
     place-mid ≡ place-old → mid ≡ old → ((p : List ℕ) → p ≢ place-mid words.output.now → new p ≡ mid p) →
     IsGiven place-old old (option_copied words.listing) (option_copied words.expr) words.snap program →
-    place-old input.now ≢ place-old words.output.now → old (place-old input.now) ≡ Some text →
+    place-old input.now ≢ place-old words.output.now → SparesListing place-old words → old (place-old input.now) ≡ Some text →
     IfOk result (λ report. Ends mid new failed (place-mid words.output.now) text program words.snap words.order words.«unit» report.tally report.end) →
     IfOk result (λ report. CutsFiles place-old old new failed denied words input (Ended report))
-cut_files_if place-old place-mid old mid new failed denied words input (Ok report) program text places texts others given apart read ends =
-    cut_files place-old place-mid old mid new failed denied words input report program text places texts others given apart read ends
-cut_files_if place-old place-mid old mid new failed denied words input (Err reason) program text places texts others given apart read ends = tt
+cut_files_if place-old place-mid old mid new failed denied words input (Ok report) program text places texts others given apart spares read ends =
+    cut_files place-old place-mid old mid new failed denied words input report program text places texts others given apart spares read ends
+cut_files_if place-old place-mid old mid new failed denied words input (Err reason) program text places texts others given apart spares read ends = tt
 
 module _ (place : Places) (old : Texts) (failed : Bool) (denied : Option (List ℕ)) (words : CutWords) (inputs : List (Bor (List ℕ))) where
   abbrev Reason : Refusal → Type 0
@@ -164,6 +165,29 @@ apart_of_file place-old place-mid old mid input output text places texts (inl no
     absurd (cc)
 apart_of_file place-old place-mid old mid input output text places texts (inr apart) read =
     subst (λ (pl : Places). pl input ≢ pl output) places apart
+
+-- so does the listing, from which the program was read
+listing_read : (place : Places) (text : Texts) (listing expr : Option (List ℕ)) (snap : ℕ) (program : List Insn) (path : List ℕ) → listing ≡ Some path → IsGiven place text listing expr snap program →
+    (whole : List ℕ) × (text (place path) ≡ Some whole)
+listing_read place text None expr snap program path is given = absurd (cc)
+listing_read place text (Some l) (Some e) snap program path is given = absurd given
+listing_read place text (Some l) None snap program path is (whole, read, fits) =
+    let same : l ≡ path = cc in
+    (whole, subst (λ (p : List ℕ). text (place p) ≡ Some whole) same read)
+
+pub listing_apart : (place : Places) (text : Texts) (listing : Option (Bor (List ℕ))) (input output : Bor (List ℕ)) → IsApart First place text output.now (unwrap_or listing input).now →
+    (path : List ℕ) → option_copied listing ≡ Some path → IsApart First place text output.now path
+listing_apart place text None input output apart path is = absurd (cc)
+listing_apart place text (Some l) input output apart path is =
+    let same : l.now ≡ path = cc in
+    subst (λ (p : List ℕ). IsApart First place text output.now p) same apart
+
+pub spares_file : (place-old place-mid : Places) (old mid : Texts) (words : CutWords) (program : List Insn) → place-mid ≡ place-old → mid ≡ old →
+    ((path : List ℕ) → option_copied words.listing ≡ Some path → IsApart First place-mid mid words.output.now path) →
+    IsGiven place-old old (option_copied words.listing) (option_copied words.expr) words.snap program → SparesListing place-old words
+spares_file place-old place-mid old mid words program places texts apart given path is =
+    let (whole, read) = listing_read place-old old (option_copied words.listing) (option_copied words.expr) words.snap program path is given in
+    apart_of_file place-old place-mid old mid path words.output.now whole places texts (apart path is) read
 
 pub read_before : (place-old place-mid : Places) (old mid : Texts) (path text : List ℕ) → place-mid ≡ place-old → mid ≡ old → mid (place-mid path) ≡ Some text → old (place-old path) ≡ Some text
 read_before place-old place-mid old mid path text places texts read =

@@ -18,7 +18,7 @@ use Rattle.cli_split.specs.Statuses.{split_status}
 use Rattle.cli_split.specs.Texts.{HoldsPart, ReadsTexts}
 use Rattle.cli_split.specs.declared.part.PartEnd.{PartEnd}
 use Rattle.cli_split.specs.declared.split.SplitEnd.{SplitEnd}
-use Rattle.cli_cut.specs.Cutting.{IsDenied, IsGiven, IsReason, IsRefusalStatus}
+use Rattle.cli_cut.specs.Cutting.{IsDenied, IsGiven, IsReason, IsRefusalStatus, SparesListing}
 use Rattle.cli_cut.specs.Telling.{tally_line}
 use Rattle.cli_cut.specs.declared.captures.Space.{Space}
 use Rattle.cli_cut.specs.declared.outcome.Refusal.{Refusal}
@@ -60,11 +60,12 @@ pub record CutsPackets {R W : Type 0} (place : Places) (old new : Texts) (failed
   pub alone : end.parts.items ≡ part ∷ []
   pub holds : HoldsPart (is_begun words.inputs.items end.end) old new failed (place words.output.now) program words.snap words.order words.«unit» packets part.tally part.written
 
--- The same by the program that is asked for. OUT is none of the captures.
+-- The same by the program that is asked for. OUT is none of the files that are read.
 pub record CutsAllInto {R W : Type 0} (place : Places) (old new : Texts) (failed : Bool) (words : CutWords) (end : SplitEnd R W) : Type 0 where
   pub program : List Insn
   pub given : IsGiven place old (option_copied words.listing) (option_copied words.expr) words.snap program
   pub apart : All (λ input. place input.now ≢ place words.output.now) words.inputs.items
+  pub spares : SparesListing place words
   pub cuts : CutsPackets place old new failed words program end
 
 -- the captures were cut, or nothing was done and the refusal says why

@@ -73,6 +73,10 @@ IsTogether place words inputs =
     Any (λ input. place input.now ≡ place words.output.now) inputs
     ⊎ ((path : List ℕ) × (option_copied words.listing ≡ Some path) × (place path ≡ place words.output.now))
 
+-- OUT is not the listing's file
+abbrev pub SparesListing : Places → CutWords → Type 0
+SparesListing place words = (path : List ℕ) → option_copied words.listing ≡ Some path → place path ≢ place words.output.now
+
 -- why OUT may not be written
 abbrev pub IsShared : Places → Bool → CutWords → List (Bor (List ℕ)) → PathFault → Type 0
 IsShared place failed words inputs (paths.Same path taken_for) = IsTogether place words inputs
@@ -158,6 +162,7 @@ pub record CutsInto (place : Places) (old new : Texts) (failed : Bool) (words : 
   pub program : List Insn
   pub given : IsGiven place old (option_copied words.listing) (option_copied words.expr) words.snap program
   pub apart : place input ≢ place words.output.now
+  pub spares : SparesListing place words
   pub text : List ℕ
   pub read : old (place input) ≡ Some text
   pub ends : Ends old new failed (place words.output.now) text program words.snap words.order words.«unit» tally end

@@ -39,16 +39,16 @@ IsRefusalReport (refusal.Paths fault) report = IsPathReport fault report
 IsRefusalReport (refusal.File path error) report = IsFileReport error path report
 IsRefusalReport refusal.NoMemory report = IsNoMemory report
 
--- the form in which the packets are counted
+-- the form of the count
 abbrev pub form_of : CutWords → LineForm
 form_of words = if words.json then Json else Text
 
 module _ {E : Type 0} (hints failed : E → Bool) (contents : E → Option (List ℕ)) (form : E → LineForm) where
-  -- nothing was printed, if no hints are wanted
+  -- nothing was reported, if no hints are wanted
   abbrev pub TellsNothing : E → E → Type 0
   TellsNothing old new = hints old ≡ false → new ≡ old
 
-  -- this text was printed, or nothing
+  -- this text was reported, or nothing
   abbrev pub TellsPerhaps : List ℕ → E → E → Type 0
   TellsPerhaps text old new = TellsNothing old new ⊎ Tells hints failed contents form old new text
 
@@ -58,7 +58,7 @@ module _ {E : Type 0} (hints failed : E → Bool) (contents : E → Option (List
 
   -- ---- One capture
 
-  -- why a cut from one path to another ended before the end was reported, and nothing more; of one that was not, nothing
+  -- the fault that ended a cut from one path to another was reported, and nothing more; if there was none, nothing was
   abbrev pub TellsFault : Bor (List ℕ) → Bor (List ℕ) → End → E → E → Type 0
   TellsFault from to Clean old new = new ≡ old
   TellsFault from to (Input fault) old new = TellsOne hints failed contents form (IsCaptureFault fault from) old new
@@ -69,7 +69,8 @@ module _ {E : Type 0} (hints failed : E → Bool) (contents : E → Option (List
   TellsEnd from words end tally old new =
       (mid : E) × TellsFault from words.output end old mid × TellsAsked words.counted (count_told (form_of words) end tally) mid new
 
-  -- Of a refusal exactly that was reported. Of a cut that was begun its end was; or nothing, if nobody reads OUT any more.
+  -- Of a refusal exactly its reason was reported. Of a cut that was begun how it ended was; or nothing, if OUT failed: it may be a pipe that nobody
+  -- reads any more.
   abbrev pub TellsOutcome : Bor (List ℕ) → CutWords → CutOutcome → E → E → Type 0
   TellsOutcome from words (Refused reason) old new = TellsOne hints failed contents form (IsRefusalReport reason) old new
   TellsOutcome from words (Ended report) old new =
@@ -77,11 +78,11 @@ module _ {E : Type 0} (hints failed : E → Bool) (contents : E → Option (List
 
   -- ---- Several captures
 
-  -- where all went well, at most the count of the packets was printed, if it was asked for
+  -- where all went well, at most the count of the packets was reported, if it was asked for
   abbrev pub TellsTotal : CutWords → Closed → E → E → Type 0
   TellsTotal words end old new = WentWell end → TellsAsked words.counted (total_told (form_of words) end) old new
 
-  -- of a call with several: also what ended their reading, but for a device's fault, since nobody may read OUT any more
+  -- with several IN also what ended the reading was, unless the status is Failed
   abbrev pub TellsClosed : CutWords → Result Closed Refusal → E → E → Type 0
   TellsClosed words (Err reason) old new = TellsOne hints failed contents form (IsRefusalReport reason) old new
   TellsClosed words (Ok end) old new =
@@ -94,7 +95,7 @@ module _ {E : Type 0} (hints failed : E → Bool) (contents : E → Option (List
   TellsUnwritten error old new = (error_kind error ≡ BrokenPipe → TellsNothing old new)
       × (error_kind error ≢ BrokenPipe → TellsOne hints failed contents form (IsDevice StandardOutput) old new)
 
-  -- why a program was not printed, and nothing more; of one that was, nothing
+  -- why a program was not printed was reported, and nothing more; if it was printed, nothing was
   abbrev pub TellsPrint : Result (Unit {0}) PrintFault → E → E → Type 0
   TellsPrint (Ok done) old new = TellsNothing old new
   TellsPrint (Err (print.Output error)) old new = TellsUnwritten error old new

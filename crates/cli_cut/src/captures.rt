@@ -9,7 +9,7 @@ ghost use Rattle.cli_text.specs.declared.status.Status.TheVariants.{Failed};
 ghost use Rattle.cli_split.specs.Reporting.{TellsStop};
 ghost use Rattle.cli_store.specs.Files.{Keeps};
 ghost use Rattle.cli_cut.specs.Captures.{CutsAll, CutsPackets, HasSpace, IsUnopened, first_told, listing_path, part_told, total_told};
-ghost use Rattle.cli_cut.specs.Cutting.{IsUncompared, IsUnmade};
+ghost use Rattle.cli_cut.specs.Cutting.{IsUncompared, IsUnmade, SparesListing};
 ghost use Rattle.cli_cut.specs.Reporting.{TellsPerhaps, TellsTotal};
 
 use crate::outcome::Refusal;
@@ -58,6 +58,7 @@ fn check_paths<'p, F: FileStore<'p>>(
     ensures kept { Keeps (F.place files.old) (F.place files.new) (F.text files.old) (F.text files.new) (F.pending files.old) (F.pending files.new) }
     ensures opened { F.opened files.new ≡ F.opened files.old }
     ensures apart { F.known ≡ true → OnOk result (All (λ input. F.place files.old input.now ≢ F.place files.old words.now.output.now) words.now.inputs.items) }
+    ensures spares { F.known ≡ true → OnOk result (SparesListing (F.place files.old) words.now) }
     ensures refused { F.known ≡ true → IfErr result (IsUncompared (F.place files.old) (F.failed files.new) words.now words.now.inputs.items) }
 {
     let Ok(read) = read_paths(alloc, words) else {

@@ -1,7 +1,8 @@
 //! `bpftap cut` of one capture, over files that contracts can know.
 
 ghost use Rattle.std.specs.Prelude.{◌≡◌, ◌≢◌, ◌⊎◌, ℕ, List, [], ◌∷◌, true, Option, Some, None, IfOk, IfErr, All, option_copied};
-ghost use Rattle.cli_store.specs.Files.{Keeps};
+ghost use Rattle.cli_files.specs.declared.paths.Opening.TheVariants.{First};
+ghost use Rattle.cli_store.specs.Files.{IsApart, Keeps};
 ghost use Rattle.cli_cut.specs.Cutting.{CutsFiles, Ends, IsUncompared, IsUnmade};
 ghost use Rattle.cli_cut.specs.declared.outcome.CutOutcome.TheVariants.{Ended, Refused};
 
@@ -26,6 +27,7 @@ fn check_paths<'p, F: FileStore<'p>>(
     ensures kept { Keeps (F.place files.old) (F.place files.new) (F.text files.old) (F.text files.new) (F.pending files.old) (F.pending files.new) }
     ensures opened { F.opened files.new ≡ F.opened files.old }
     ensures apart { F.known ≡ true → IfOk result (λ _. (F.text files.old (F.place files.old input.now) ≡ None) ⊎ (F.place files.old input.now ≢ F.place files.old words.now.output.now)) }
+    ensures spares { F.known ≡ true → IfOk result (λ _. (path : List ℕ) → option_copied words.now.listing ≡ Some path → IsApart First (F.place files.old) (F.text files.old) words.now.output.now path) }
     ensures refused { F.known ≡ true → IfErr result (IsUncompared (F.place files.old) (F.failed files.new) words.now (input.entry ∷ [])) }
 {
     let read = [words.listing.unwrap_or(input), input];

@@ -2,6 +2,7 @@ use Rattle.std.proofs.Common.{◌≡◌, ◌≢◌, ◌++◌, ◌∙◌, [], Lis
 use Rattle.std.specs.List.{AllZip}
 use Rattle.cli_split.specs.Opened.{IsLate}
 use Rattle.cli_cut.specs.Captures.{IsUnopened}
+use Rattle.cli_cut.specs.Cutting.{SparesListing}
 use Rattle.cli_cut.proofs.Several.{cut_all, opened_apart, unopened_all}
 use Rattle.cli_cut.proofs.captures.cut_several.Goals as goal
 
@@ -44,6 +45,7 @@ returns-in-Ok-clause-cuts g c tells =
     cut_all (g.F.FileStore.failed new) (g.F.FileStore.denied new) words (place old) (place opened) (text old) (text opened) (text new) c.cut_opened.result c.in_ok-program.program
     (third.0 ∙ second.0 ∙ first.0) (third.1 ∙ second.1 ∙ first.1) (c.in_ok-program.ensures.given tells)
     (subst (λ pl. All (λ input. pl input.now ≢ pl words.output.now) words.inputs.items) first.0 (c.in_ok-check_paths.ensures.apart tells))
+    (subst (λ pl. SparesListing pl words) first.0 (c.in_ok-check_paths.ensures.spares tells))
     (c.cut_opened.ensures.others tells) (c.cut_opened.ensures.cuts tells) (c.cut_opened.ensures.refused tells)
 
 pub returns-in-Err-clause-cuts : goal.returns-in-Err-clause-cuts

@@ -1,5 +1,5 @@
 use Rattle.std.proofs.Common.{◌∙◌}
-use Rattle.cli_cut.proofs.Whole.{apart_of_file, cut_files_if, read_before}
+use Rattle.cli_cut.proofs.Whole.{apart_of_file, cut_files_if, read_before, spares_file}
 use Rattle.cli_cut.proofs.one.cut_accepted.Goals as goal
 
 pub returns-in-Ok-clause-cut : goal.returns-in-Ok-clause-cut
@@ -21,4 +21,5 @@ returns-in-Ok-clause-cut g c tells =
     (third.0 ∙ second.0 ∙ first.0) (third.1 ∙ second.1 ∙ first.1) (c.cut_opened.ensures.others tells)
     (c.in_ok-program.ensures.given tells)
     (apart_of_file (place old) (place found) (text old) (text found) input.now words.output.now bytes first.0 first.1 (c.in_ok-check_paths.ensures.apart tells) read)
+    (spares_file (place old) (place found) (text old) (text found) words c.in_ok-program.program first.0 first.1 (c.in_ok-check_paths.ensures.spares tells) (c.in_ok-program.ensures.given tells))
     read (c.cut_opened.ensures.ends tells bytes (left ∙ is))
