@@ -182,10 +182,11 @@ abbrev pub IsStatusAfter : {Path : Type 0} → Option Path → Result Sameness U
 IsStatusAfter None answer status = status ≡ answer_status answer
 IsStatusAfter (Some path) answer status = IsStatusWith (packet_of answer) answer status
 
--- an answer was printed, or not as the writer failed; or nothing was, if that is not wanted
+-- an answer was printed, or not as the writer failed; or nothing was, if that is not wanted, and then only refused memory leaves no answer
 abbrev pub Prints : (quiet json : Bool) → FilterPair → Option (List ℕ) → Option (List ℕ) → Result Sameness Unprinted → Type 0
 Prints quiet json pair old new answer =
     (quiet ≡ true → new ≡ old)
+    × (quiet ≡ true → IfErr answer (λ why. why ≡ NoMemory))
     × (quiet ≡ false → IfOk answer (λ s. PrintsAnswer (form_of json) pair 2000000 s old new))
     × (quiet ≡ false → IfErr answer (IsUnanswered (form_of json) pair 2000000 old new))
 

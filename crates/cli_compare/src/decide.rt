@@ -3,6 +3,7 @@
 ghost use Rattle.std.specs.Prelude.{◌≡◌, ◌≢◌, ℕ, List, [], true, false, All, IfOk, IfErr, OnOk};
 ghost use Rattle.fault_report.specs.Reports.{TellsAmong};
 ghost use Rattle.cli_answers.specs.Telling.{TellsUnprinted};
+ghost use Rattle.cli_answers.specs.declared.printing.Unprinted.TheVariants.{NoMemory};
 ghost use Rattle.cli_compare.specs.Comparing.{DecidesAnswer, DecidesPair, IsOut, KeepsOthers, WritesPacket, out_of};
 ghost use Rattle.cli_compare.specs.Deciding.{AnswersPair, HoldsOfPair, IsAnswerStatus, IsStatusAfter, IsUnanswered, PrintsAnswer, form_of, packet_of};
 ghost use Rattle.cli_compare.specs.Telling.{TellsWith};
@@ -66,6 +67,7 @@ fn answer<R: Screen, O: PrintSink>(
 ) -> Result<Sameness, Unprinted>
     ensures holds { IfOk result (HoldsOfPair decider.now.pair.now) }
     ensures silent { words.now.quiet ≡ true → O.contents out.new ≡ O.contents out.old }
+    ensures unanswered { words.now.quiet ≡ true → IfErr result (λ why. why ≡ NoMemory) }
     ensures printed { words.now.quiet ≡ false → IfOk result (λ s. PrintsAnswer (form_of words.now.json) decider.now.pair.now 2000000 s (O.contents out.old) (O.contents out.new)) }
     ensures fault { words.now.quiet ≡ false → IfErr result (IsUnanswered (form_of words.now.json) decider.now.pair.now 2000000 (O.contents out.old) (O.contents out.new)) }
     ensures handed_on { O.waits out.old ≡ false → OnOk result (O.waits out.new ≡ false) }
