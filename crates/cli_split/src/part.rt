@@ -13,7 +13,7 @@ ghost use Rattle.cli_split.specs.declared.part.Part.{Part};
 use bpfvm::Program;
 use pcap_cut::cut::{Tally, put_accepted};
 use savefile::laws::growing_text;
-use savefile::{Fault, Order, PacketRef, Sink, Unit, Writer, effective_snaplen};
+use savefile::{Fault, GatheringSink, Order, PacketRef, Sink, Unit, Writer, effective_snaplen};
 
 /// A capture that is to be written.
 #[derive(Drop)]
@@ -119,15 +119,15 @@ pub(crate) fn give_all<W: Sink>(outlets: &mut Vec<Outlet<W>>, packet: &PacketRef
 }
 
 /// Asks the sink of a part to hand on what it has gathered.
-fn hand_on<W: Sink>(outlet: &mut Outlet<W>)
+fn hand_on<W: GatheringSink>(outlet: &mut Outlet<W>)
     ensures { (order : Order) (unit : Unit) (packets : List Packet) (part : Part W) →
         HasTaken W.taken W.name W.failures order unit packets part outlet.old → HasHandedOn W.taken W.name W.failures W.waits order unit packets part outlet.new }
 {
-    outlet.writer.flush();
+    outlet.writer.hand_on();
 }
 
 /// Asks the sinks of all parts to hand on what they have gathered.
-pub(crate) fn hand_on_all<W: Sink>(outlets: &mut Vec<Outlet<W>>)
+pub(crate) fn hand_on_all<W: GatheringSink>(outlets: &mut Vec<Outlet<W>>)
     ensures { (order : Order) (unit : Unit) (packets : List Packet) (parts : List (Part W)) →
         AllZip (HasTaken W.taken W.name W.failures order unit packets) parts outlets.old.items →
         AllZip (HasHandedOn W.taken W.name W.failures W.waits order unit packets) parts outlets.new.items }

@@ -17,7 +17,7 @@ ghost use Rattle.cli_split.specs.declared.part.Part.{Part};
 
 use crate::part::{Outlet, Part, PartEnd, begin_all, close_all, give_all, hand_on_all, leave_all};
 use savefile::laws::given_so_far;
-use savefile::{Fault, Order, Reader, Sink, Source, Unit};
+use savefile::{Fault, GatheringSink, Order, Reader, Source, Unit};
 use std::alloc::{AllocError, Global};
 
 /// Why a capture, by its number from 0, was not read to its end.
@@ -58,7 +58,7 @@ struct Splitter<W> {
     read: u64,
 }
 
-impl<W: Sink> Splitter<W> {
+impl<W: GatheringSink> Splitter<W> {
     /// Goes on to the next packet of a capture, as [`Reader::advance`] does. All sinks are asked to hand on what they have gathered before the source
     /// is asked: so whoever reads a part along has all that it was given while the source is waited for, and files are written in large pieces. The
     /// contract can't say who is asked first, since it compares only what is before the call with what is after it: a test with a pipe and a clock
@@ -210,7 +210,7 @@ impl<R: Drop, W: Drop> Room<R, W> {
     }
 }
 
-impl<R: Source + Drop, W: Sink + Drop> Room<R, W> {
+impl<R: Source + Drop, W: GatheringSink + Drop> Room<R, W> {
     /// Reads no further capture, and starts no part.
     fn leave(
         mut self,
@@ -300,7 +300,7 @@ impl<R: Source + Drop, W: Sink + Drop> Room<R, W> {
 /// its source is as it was. After 2^64 - 1 packets no more is read, with [`Fault::CountFull`].
 ///
 /// The error is that memory runs out before anything is read or written.
-pub fn split<R: Source + Drop, W: Sink + Drop>(
+pub fn split<R: Source + Drop, W: GatheringSink + Drop>(
     alloc: Global,
     captures: Vec<R>,
     parts: Vec<Part<W>>,

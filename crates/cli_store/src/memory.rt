@@ -8,7 +8,7 @@ ghost use Rattle.cli_store.specs.Memory.{itself, lookup};
 use crate::store::FileStore;
 use cli_files::paths::{Opening, PathFault, Use};
 use cli_report::FailureProbe;
-use savefile::{Broken, Counted, Sink, Source};
+use savefile::{Broken, Counted, GatheringSink, Sink, Source};
 use std::alloc::{AllocFailed, Global};
 use std::collections::VecDeque;
 use std::io;
@@ -99,8 +99,6 @@ impl Sink for MemoryOutput<'_> {
 
     ghost failures = { λ output. output.taken.failures };
 
-    ghost waits = { λ output. output.taken.waits };
-
     fn write(&mut self, from: &[u8]) -> Result<usize, Broken> {
         if self.writes == 0 {
             self.taken.failures = self.taken.failures.wrapping_add(1);
@@ -111,7 +109,15 @@ impl Sink for MemoryOutput<'_> {
     }
 
     fn flush(&mut self) {
-        self.taken.flush();
+        self.hand_on();
+    }
+}
+
+impl GatheringSink for MemoryOutput<'_> {
+    ghost waits = { λ output. output.taken.waits };
+
+    fn hand_on(&mut self) {
+        self.taken.hand_on();
     }
 }
 

@@ -6,7 +6,7 @@ ghost use Rattle.cli_store.specs.Files.{BeginsAt, HaveOwnPlaces, IsApart, IsRefu
 
 use cli_files::paths::{Opening, PathFault};
 use cli_report::FailureProbe;
-use savefile::{Sink, Source};
+use savefile::{GatheringSink, Source};
 use std::io;
 
 /// The files that a command reads, and the one that it writes. A file is named by the place where
@@ -21,7 +21,7 @@ pub trait FileStore<'p> {
 
     /// A file that is written. Who has made one gives it back to [`FileStore::close`]:
     /// [`pending`](FileStore) counts those that were not.
-    type Output: Sink + Drop;
+    type Output: GatheringSink + Drop;
 
     /// Whether contracts know the files.
     ghost known: { Bool };

@@ -126,7 +126,7 @@ impl Stand {
         }
         let _stored = self
             .store
-            .put(packet.capture, packet.place, packet.packet, packet.kept);
+            .put_ref(packet.capture, packet.place, packet.packet, packet.kept);
         Fed::Stored
     }
 
@@ -145,7 +145,7 @@ impl Stand {
         let full = see_turn::<Brand>(link, &mut self.seat) != 0;
         let _stored = self
             .store
-            .put(packet.capture, packet.place, packet.packet, packet.kept);
+            .put_ref(packet.capture, packet.place, packet.packet, packet.kept);
         if full {
             return Fed::Stored;
         }
@@ -171,7 +171,7 @@ impl Stand {
         give_turn::<Brand>(link, &mut self.seat);
         let _stored = self
             .store
-            .put(packet.capture, packet.place, packet.packet, packet.kept);
+            .put_ref(packet.capture, packet.place, packet.packet, packet.kept);
         Fed::Rotated
     }
 

@@ -12,7 +12,7 @@ ghost use Rattle.listener.specs.RecordBytes.{fields_text, records_text};
 use crate::fault::OpenFault;
 use crate::records::Records;
 use byteorder::{ByteOrder, LittleEndian};
-use savefile::PacketRef;
+use savefile::{Packet, PacketRef};
 use std::alloc::Global;
 use std::marker::Model;
 
@@ -185,7 +185,18 @@ impl Buffer {
     /// the buffer. Else it changes nothing and returns false.
     ///
     /// `kept` is at most the packet's captured length, and at most 262,144.
-    pub fn put(&mut self, capture: u32, place: u64, packet: &PacketRef<'_>, kept: u32) -> bool
+    pub fn put(&mut self, capture: u32, place: u64, packet: &Packet, kept: u32) -> bool
+        requires captured { kept ≤ length packet.now.bytes }
+        requires writable { kept ≤ MAX_SNAP }
+        ensures fits { IsTrue result ↔ (room self.old.messages + size kept ≤ self.old.capacity) }
+        ensures stored { OnTrue result (self.new ≡ with_message self.old (cut_to kept (arrival capture place packet.now))) }
+        ensures unchanged { result ≡ false → self.new ≡ self.old }
+    {
+        self.put_ref(capture, place, &packet.as_ref(), kept)
+    }
+
+    /// Does what [`Buffer::put`] does, with a packet whose bytes lie elsewhere.
+    pub fn put_ref(&mut self, capture: u32, place: u64, packet: &PacketRef<'_>, kept: u32) -> bool
         requires captured { kept ≤ length packet.now.bytes }
         requires writable { kept ≤ MAX_SNAP }
         ensures fits { IsTrue result ↔ (room self.old.messages + size kept ≤ self.old.capacity) }

@@ -15,7 +15,7 @@ use crate::fault::OpenFault;
 use crate::filter::kept_of;
 use crate::mode::Mode;
 use bpfvm::Program;
-use savefile::{MAX_SNAP, PacketRef};
+use savefile::{MAX_SNAP, Packet, PacketRef};
 use std::alloc::Global;
 use std::marker::Model;
 use std::mem;
@@ -150,7 +150,15 @@ impl Listener {
     /// If the program accepts it, the least of the snapshot length, the program's answer and the
     /// captured length is kept of it. It takes no memory, and copies these bytes once if it stores
     /// them.
-    pub fn arrive(&mut self, capture: u32, place: u64, packet: &PacketRef<'_>) -> Fed
+    pub fn arrive(&mut self, capture: u32, place: u64, packet: &Packet) -> Fed
+        requires { self.old.list.received < 2 ^ 64 - 1 }
+        ensures { TakesStep self.old (arrived (seen_by self.old (arrival capture place packet.now)) result) self.new }
+    {
+        self.arrive_ref(capture, place, &packet.as_ref())
+    }
+
+    /// A packet arrives whose bytes lie elsewhere: else as [`Listener::arrive`].
+    pub fn arrive_ref(&mut self, capture: u32, place: u64, packet: &PacketRef<'_>) -> Fed
         requires { self.old.list.received < 2 ^ 64 - 1 }
         ensures { TakesStep self.old (arrived (seen_by self.old (arrival capture place packet.now)) result) self.new }
     {
@@ -162,7 +170,7 @@ impl Listener {
             return Fed::Passed;
         };
         self.counts.matched += 1;
-        let stored = self.store.put(capture, place, packet, kept);
+        let stored = self.store.put_ref(capture, place, packet, kept);
         if stored {
             let at_once = hands_over(self.mode, &self.hold);
             if at_once {
@@ -177,7 +185,7 @@ impl Listener {
             return Fed::Dropped;
         }
         mem::swap(&mut self.store, &mut self.hold);
-        let _moved = self.store.put(capture, place, packet, kept);
+        let _moved = self.store.put_ref(capture, place, packet, kept);
         Fed::Rotated
     }
 

@@ -218,8 +218,6 @@ pub fn advance_flushed<R: Source, W: Sink>(
     ensures sink_works { W.failures writer.new.sink ≡ W.failures writer.old.sink }
     ensures named { W.name writer.new.sink ≡ W.name writer.old.sink }
     ensures ahead { IsAhead reader.old → writer.new ≡ writer.old }
-    // If no whole record is ahead, nothing waits in the sink afterwards.
-    ensures handed_on { (IsAhead reader.old → ⊥) → W.waits writer.new.sink ≡ false }
 {
     given_so_far(reader);
     if reader.advance_ahead() {

@@ -28,8 +28,6 @@ impl Sink for Nowhere {
     fn write(&mut self, from: &[u8]) -> Result<usize, Broken> {
         Ok(from.len())
     }
-
-    fn flush(&mut self) {}
 }
 
 /// Writes a text.

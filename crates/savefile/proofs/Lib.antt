@@ -3,6 +3,7 @@ pub mod Contents
 pub mod Encoding
 pub mod EveryText
 pub mod Filling
+pub mod Gathering
 pub mod Given
 pub mod Headers
 pub mod Joining

@@ -38,10 +38,6 @@ pub trait Sink {
     /// How often it failed so far, modulo 2^64.
     ghost failures: { Self → ℕ };
 
-    /// Whether bytes may wait in it that it took since it was last asked to hand on. In a sink that
-    /// gathers none they never do.
-    ghost waits: { Self → Bool } = { λ _. false };
-
     /// Takes bytes from the front of a slice, at least one if there is one, and answers how many.
     /// [`Broken`] comes if the device failed: no byte was moved, and the failures grew by one.
     fn write(&mut self, from: &[u8]) -> Result<usize, Broken>
@@ -51,13 +47,27 @@ pub trait Sink {
         ensures named { name self.new ≡ name self.old }
         ensures failures { CountsFailure (failures self.old) (failures self.new) result };
 
-    /// Asks the sink to hand on what it has gathered; one that gathers none does nothing. What
-    /// can't be handed on stays gathered, and no failure is reported here: whoever empties the sink
-    /// at the end finds it.
+    /// Asks the sink to hand on what it has gathered. One that gathers none does nothing, and this
+    /// is the default. What can't be handed on stays gathered, and no failure is reported here:
+    /// whoever empties the sink at the end finds it.
+    #[tactic(auto, using(crate::proofs::Gathering::keeps_itself))]
     fn flush(&mut self)
         ensures bytes { Keeps (taken self.old) (taken self.new) }
         ensures failures { failures self.new ≡ failures self.old }
         ensures named { name self.new ≡ name self.old }
+    {}
+}
+
+/// A [`Sink`] that may gather what it took, and says when nothing is left to be handed on.
+pub trait GatheringSink: Sink {
+    /// Whether bytes may wait in it that it took since it was last asked to hand on.
+    ghost waits: { Self → Bool };
+
+    /// Hands on what it has gathered, as [`Sink::flush`] does.
+    fn hand_on(&mut self)
+        ensures bytes { Keeps (Self.taken self.old) (Self.taken self.new) }
+        ensures failures { Self.failures self.new ≡ Self.failures self.old }
+        ensures named { Self.name self.new ≡ Self.name self.old }
         ensures handed_on { waits self.new ≡ false };
 }
 
@@ -131,8 +141,6 @@ impl<T: Write> Sink for Counted<T> {
 
     ghost failures = { λ s. s.failures };
 
-    ghost waits = { λ s. s.waits };
-
     fn write(&mut self, from: &[u8]) -> Result<usize, Broken> {
         self.waits = true;
         match self.inner.write(from) {
@@ -145,6 +153,14 @@ impl<T: Write> Sink for Counted<T> {
     }
 
     fn flush(&mut self) {
+        self.hand_on();
+    }
+}
+
+impl<T: Write> GatheringSink for Counted<T> {
+    ghost waits = { λ s. s.waits };
+
+    fn hand_on(&mut self) {
         let _ = self.inner.flush();
         self.waits = false;
     }

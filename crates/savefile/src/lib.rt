@@ -28,7 +28,7 @@ mod reading;
 mod record;
 mod writing;
 
-pub use device::{Broken, Counted, Sink, Source};
+pub use device::{Broken, Counted, GatheringSink, Sink, Source};
 pub use fault::Fault;
 pub use header::{HEADER_LEN, Header, Order, Unit, header_of};
 pub use packet::{Data, Packet, PacketRef};

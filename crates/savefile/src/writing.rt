@@ -10,7 +10,7 @@ ghost use Rattle.savefile.specs.Savefile.{bytes_in, header_text, nanos_in, packe
 ghost use Rattle.savefile.specs.Sending.{Sends, SendsPart};
 ghost use Rattle.savefile.specs.Writer.{HasWritten, HasWrittenPart};
 
-use crate::device::{Broken, Sink};
+use crate::device::{Broken, GatheringSink, Sink};
 use crate::fault::Fault;
 use crate::header::{ETHERNET, HEADER_LEN, MAJOR, MINOR, Order, Unit};
 use crate::record::RECORD_HEADER_LEN;
@@ -274,7 +274,6 @@ impl<W: Sink> Writer<W> {
         ensures bytes { Keeps (W.taken self.old.sink) (W.taken self.new.sink) }
         ensures failures { W.failures self.new.sink ≡ W.failures self.old.sink }
         ensures named { W.name self.new.sink ≡ W.name self.old.sink }
-        ensures handed_on { W.waits self.new.sink ≡ false }
     {
         self.sink.flush();
     }
@@ -299,5 +298,18 @@ impl<W: Sink> Writer<W> {
             failed: _,
         } = self;
         (sink, sent)
+    }
+}
+
+impl<W: GatheringSink> Writer<W> {
+    /// Has the sink hand on what it has gathered: after this nothing waits in it.
+    pub fn hand_on(&mut self)
+        ensures same { (self.new.order ≡ self.old.order) × (self.new.unit ≡ self.old.unit) × (self.new.sent ≡ self.old.sent) × (self.new.failed ≡ self.old.failed) }
+        ensures bytes { Keeps (W.taken self.old.sink) (W.taken self.new.sink) }
+        ensures failures { W.failures self.new.sink ≡ W.failures self.old.sink }
+        ensures named { W.name self.new.sink ≡ W.name self.old.sink }
+        ensures handed_on { W.waits self.new.sink ≡ false }
+    {
+        self.sink.hand_on();
     }
 }

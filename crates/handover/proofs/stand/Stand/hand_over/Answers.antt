@@ -28,8 +28,8 @@ pub returns-then-full : goal.returns-then-full
 returns-then-full g c =
     let o = opened (known c.args.self.now.seat.me) _ c.args.self.now.store (Arrive (Some g.message) Closed) _ c.requires.0.stand.feeder c.see_closed.ensures.step c.if-see_closed-ne0.false c.see_closed.ensures.own in
     let cap = capacity_is (known c.args.self.now.seat.me) c.args.self.now.store c.requires.0.stand.feeder in
-    let put = was_put c.put-stored.result c.args.self.now.store _ (arrival c.args.packet.now.capture c.args.packet.now.place c.args.packet.now.packet.now) c.args.packet.now.kept g.message c.requires.0.message c.requires.0.captured
-    (omega (arith, cap, c.requires.1.0)) c.put-stored.ensures.fits.1 c.put-stored.ensures.stored in
+    let put = was_put c.put_ref-stored.result c.args.self.now.store _ (arrival c.args.packet.now.capture c.args.packet.now.place c.args.packet.now.packet.now) c.args.packet.now.kept g.message c.requires.0.message c.requires.0.captured
+    (omega (arith, cap, c.requires.1.0)) c.put_ref-stored.ensures.fits.1 c.put_ref-stored.ensures.stored in
     let went = went_busy _ _ _ _ _ (Arrive (Some g.message) Stored) _ o c.see_turn-full.ensures.step c.if-full.true c.see_turn-full.ensures.own put in record {
       pair = c.see_turn-full.ensures.pair ∙ c.see_closed.ensures.pair;
       went = stored_so _ _ _ _ _ _ c.requires.1.1 went;
@@ -45,8 +45,8 @@ pub give_turn-requires-clause-giving : goal.give_turn-requires-clause-giving
 give_turn-requires-clause-giving g c =
     let o = opened (known c.args.self.now.seat.me) _ c.args.self.now.store (Arrive (Some g.message) Closed) _ c.requires.0.stand.feeder c.see_closed.ensures.step c.if-see_closed-ne0.false c.see_closed.ensures.own in
     let cap = capacity_is (known c.args.self.now.seat.me) c.args.self.now.store c.requires.0.stand.feeder in
-    let put = was_put c.put-stored.result c.args.self.now.store _ (arrival c.args.packet.now.capture c.args.packet.now.place c.args.packet.now.packet.now) c.args.packet.now.kept g.message c.requires.0.message c.requires.0.captured
-    (omega (arith, cap, c.requires.1.0)) c.put-stored.ensures.fits.1 c.put-stored.ensures.stored in
+    let put = was_put c.put_ref-stored.result c.args.self.now.store _ (arrival c.args.packet.now.capture c.args.packet.now.place c.args.packet.now.packet.now) c.args.packet.now.kept g.message c.requires.0.message c.requires.0.captured
+    (omega (arith, cap, c.requires.1.0)) c.put_ref-stored.ensures.fits.1 c.put_ref-stored.ensures.stored in
     let h = handing _ _ _ _ _ _ (Arrive (Some g.message) Stored) _ o c.see_turn-full.ensures.step c.if-full.false (ap known c.swap_out.ensures.seat) in
     gives _ _ _ _ (Arrive (Some g.message) Held) h put
 

@@ -62,8 +62,8 @@ returns g c =
     let cap = capacity_is (known c.args.self.now.seat.me) b c.requires.0.stand.feeder in
     let fresh = fresh_is _ _ _ _ _ (Arrive (Some g.message) Dropped) _ o c.see_turn.ensures.step c.if-see_turn-ne0.false c.swap_out.ensures.store in
     let fits = first_fits b _ g.message fresh (omega (arith, cap, c.requires.0.small)) in
-    let put = was_put c.put-stored.result c.swap_out.new.self.store _ (arrival c.args.packet.now.capture c.args.packet.now.place c.args.packet.now.packet.now) c.args.packet.now.kept g.message c.requires.0.message c.requires.0.captured
-    fits c.put-stored.ensures.fits.1 c.put-stored.ensures.stored in record {
+    let put = was_put c.put_ref-stored.result c.swap_out.new.self.store _ (arrival c.args.packet.now.capture c.args.packet.now.place c.args.packet.now.packet.now) c.args.packet.now.kept g.message c.requires.0.message c.requires.0.captured
+    fits c.put_ref-stored.ensures.fits.1 c.put_ref-stored.ensures.stored in record {
       pair = c.give_turn.ensures.pair ∙ c.swap_out.ensures.pair ∙ c.see_turn.ensures.pair ∙ c.see_closed.ensures.pair;
       went = went_loud _ _ _ _ _ _ _ _ (Arrive (Some g.message) Rotated) (Arrive (Some g.message) Dropped) _ o c.see_turn.ensures.step c.if-see_turn-ne0.false (ap known c.swap_out.ensures.seat) c.give_turn.ensures.step c.give_turn.ensures.own
           (first_put b _ _ g.message fresh put);

@@ -8,7 +8,7 @@ use Rattle.listener.specs.RecordBytes.{record_text}
 use Rattle.listener.specs.Decoded.{IsStored, AreRecords, messages_in}
 use Rattle.listener.proofs.Rooms.{room_least}
 use Rattle.listener.proofs.Decoding.{put_message, put_records, put_text, room_is, length_record}
-use Rattle.listener.proofs.buffer.Buffer.put.Goals as goal
+use Rattle.listener.proofs.buffer.Buffer.put_ref.Goals as goal
 
 pub returns-then-size-self-clause-fits : goal.returns-then-size-self-clause-fits
 returns-then-size-self-clause-fits c =
