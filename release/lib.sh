@@ -13,6 +13,8 @@ case ${XDG_CACHE_HOME-} in /*) cache=$XDG_CACHE_HOME/bpftap home=${XDG_CACHE_HOM
 # What of glibc starts a program. A clone may be shared with a machine that has an older one, or none.
 loader=/lib64/ld-linux-x86-64.so.2
 [ -e "$loader" ] || loader=
+# What a user sets for archives of his own is not for those of release/.
+unset XZ_OPT XZ_DEFAULTS TAR_OPTIONS
 
 # One line, and a status that is none of the program's own.
 refuse() { printf 'bpftap: %s\n' "$*" >&2; exit 125; }
@@ -174,7 +176,8 @@ choose_released() {
     unpack "$archive"
     name=released/$sum/bin/bpftap
     case $archive in "$main") origin='released, reproduced by the gate' ;; *) origin="released, of $archive" ;; esac
-    "$place/$name" --version >/dev/null 2>&1 && return
+    answer=$("$place/$name" --version 2>&1) && return
+    case $answer in *'not UTF-8'*) refuse "the program runs in no folder whose path is not UTF-8, as that of $place: rename the folder" ;; esac
   done
   case $archive in
     "$main") refuse "the released program does not run here: that for x86-64 needs glibc 2.34 or later, and a processor of x86-64-v2. $build" ;;
@@ -212,6 +215,7 @@ unpack() { # ARCHIVE
   sum=$(sum_of "$archive")
   { may_make "$root/out" && unpack_in "$root/out"; } || unpack_in "$cache" || unpack_in "$root/out" || {
     { command -v xz || command -v dpkg-deb || command -v python3; } >/dev/null || refuse "release/$1 is packed by xz, which is not here: install xz-utils"
+    answer=$(tar_in "$root/release/$1" 2>&1 >/dev/null) || refuse "release/$1 cannot be unpacked here: $(printf '%s\n' "$answer" | tail -n 1)"
     refuse "no program can be put in $root/out or ${cache:-a cache}: set XDG_CACHE_HOME to a folder that only you can write to"
   }
   [ "$(contents "$unpacked")" = "$(listed "$archive")" ] || refuse "$unpacked is not what $sums says: remove it"

@@ -298,6 +298,18 @@ def a_clone_that_is_installed_may_have_any_path(scene):
 
 
 @case
+def a_path_that_is_not_utf_8_is_the_reason(scene):
+    """The program takes no word that is not UTF-8, its own path neither: in a clone below such a folder the launcher and `./install` say so."""
+    top = scene.folder / os.fsdecode(b"caf\xe9")
+    top.mkdir()
+    source = source_in(Within(scene, top), program=pathlib.Path(PROGRAM).read_bytes())
+    line = b"bpftap: the program runs in no folder whose path is not UTF-8, as that of %s/out: rename the folder\n" % os.fsencode(source.folder)
+    scene.check("launcher", source.call("check", "ip"), Seen(b"", line, 125))
+    nothing = b"install: nothing was put under %s/there\n" % os.fsencode(scene.folder)
+    scene.check("install", install(scene, source, str(scene.folder / "there")), Seen(b"", line + nothing, 1))
+
+
+@case
 def bad_usage_has_the_usage(scene):
     """No prefix, an option that does not exist, an empty prefix and two of them have the usage on standard error, with status 2."""
     source = source_in(scene)

@@ -299,6 +299,16 @@ def each_machine_runs_the_program_for_it(scene):
     scene.check("another old machine", seen, Seen(b"", f"bpftap: the released program does not run here. {build}\n".encode(), 125))
 
 
+def tools_without(scene, *names):
+    """A folder with the system's tools but these."""
+    tools = scene.folder / f"without {' '.join(names) or 'none'}"
+    tools.mkdir()
+    for path in pathlib.Path("/usr/bin").iterdir():
+        if path.name not in names:
+            (tools / path.name).symlink_to(path)
+    return tools
+
+
 # What unpacks an archive, the one that is tried first before the others.
 UNPACKERS = ["xz", "dpkg-deb", "python3"]
 
@@ -308,18 +318,29 @@ def an_archive_is_unpacked_by_what_is_there(scene):
     """By xz; in a container without it by dpkg, or by Python; and if none is there, one line says what to install."""
     clone = Clone(scene)
     for place, name in enumerate([*UNPACKERS, None]):
-        tools = scene.folder / f"without {place}"
-        tools.mkdir()
-        for path in pathlib.Path("/usr/bin").iterdir():
-            if path.name not in UNPACKERS[:place]:
-                (tools / path.name).symlink_to(path)
         shutil.rmtree(clone.folder / "out", ignore_errors=True)
-        there = {**clone.bare(), "PATH": str(tools)}
+        there = {**clone.bare(), "PATH": str(tools_without(scene, *UNPACKERS[:place]))}
         if name is None:
             line = f"bpftap: {ARCHIVE} is packed by xz, which is not here: install xz-utils\n"
             scene.check("by none", clone.run(program="bpftap", env=there), Seen(b"", line.encode(), 125))
         elif scene.has(name):
             scene.check(f"by {name}", clone.run("-c", program="bpftap", env=there), clone.answer("-c"))
+
+
+@case
+def what_a_user_sets_for_archives_is_not_for_these(scene):
+    """Variables that limit xz or leave files out of an archive change nothing. If an archive cannot be unpacked, the line has the reason."""
+    clone = Clone(scene)
+    for name, value in [("XZ_OPT", "--memlimit=1"), ("XZ_DEFAULTS", "--memlimit=1"), ("TAR_OPTIONS", "--exclude=bin")]:
+        scene.check(name, clone.run("-c", program="bpftap", env={**clone.bare(), name: value}), clone.answer("-c"))
+        shutil.rmtree(clone.folder / "out", ignore_errors=True)
+    tools = scene.folder / "tools"
+    tools.mkdir()
+    (tools / "xz").write_text("#!/bin/sh\necho 'xz: (stdin): Cannot allocate memory' >&2\nexit 1\n")
+    (tools / "xz").chmod(0o755)
+    line = f"bpftap: {ARCHIVE} cannot be unpacked here: xz: (stdin): Cannot allocate memory\n"
+    there = {**clone.bare(), "PATH": f"{tools}:/usr/bin:/bin"}
+    scene.check("without memory", clone.run(program="bpftap", env=there), Seen(b"", line.encode(), 125))
 
 
 @case
