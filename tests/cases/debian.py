@@ -8,6 +8,7 @@ from .common import KIND, LIMIT, PROGRAM, ROOT, case
 from .install import install, source_in
 from .library import ARCHIVE, LIBRARY, done, is_there
 from .linking import TOOL, version, version_line
+from .release import also_released, tools_without
 from .targets import in_root, root_of
 
 NAMES = ["bpftap", "libbpftap1", "libbpftap-dev", "python3-bpftap"]
@@ -113,7 +114,7 @@ def only_a_program_for_glibc_depends_on_it(scene):
         archive = ROOT / "release" / f"bpftap-{name}.tar.xz"
         if not archive.is_file():
             scene.leave(f"no {archive.name} is released")
-        elif scene.has("dpkg-deb", f"{tool}strip", f"{tool}readelf"):
+        elif scene.has("dpkg-deb", f"{tool}strip"):
             subprocess.run(["tar", "-xJf", archive, "-C", stage / "usr"], check=True, timeout=LIMIT)
             words = [clone.folder / "packaging" / "deb", stage, number, scene.folder]
             made, status = done(scene, words, env={**os.environ, "SOURCE_DATE_EPOCH": "946684800"})
@@ -126,6 +127,32 @@ def only_a_program_for_glibc_depends_on_it(scene):
             if "libbpftap1_" in made:
                 scene.check(f"{name}: the library", fields(scene.folder / f"libbpftap1_{number}_{kind}.deb"), f"Architecture: {kind}\nMulti-Arch: same\n")
             shutil.rmtree(stage / "usr" / "lib", ignore_errors=True)
+
+
+@case
+def a_missing_tool_is_named(scene):
+    """Without the processor's `strip` no Debian package is made, and a line says what to install; without `readelf` the package depends on the same as with it."""
+    if KIND != "dynamic":
+        return scene.leave("the program that is tested is not the one that is packaged")
+    source, number = source_in(scene, program=pathlib.Path(PROGRAM).read_bytes()), version()
+    shutil.copytree(ROOT / "bindings" / "python", source.folder / "bindings" / "python", ignore=shutil.ignore_patterns("__pycache__"))
+    release = ROOT / "release" / "bpftap-aarch64-linux.tar.xz"
+    if not scene.has("dpkg-deb", "strip"):
+        return
+    tools = tools_without(scene, "x86_64-linux-gnu-readelf", "readelf")
+    seen = install(scene, source, "first", program="package", path=str(tools))
+    fields = subprocess.run(["dpkg-deb", "-f", scene.folder / "first" / f"bpftap_{number}_amd64.deb", "Depends"], stdout=subprocess.PIPE, text=True).stdout
+    scene.check("without readelf", (seen.err, seen.status, fields), (b"", 0, "libc6 (>= 2.34)\n"))
+    rows = [("strip", "binutils", [])]
+    if release.is_file():
+        also_released(source, {"aarch64-linux": release})
+        rows.append(("aarch64-linux-gnu-strip", "binutils-aarch64-linux-gnu", ["--machine", "aarch64-linux"]))
+    else:
+        scene.leave(f"no {release.name} is released")
+    for name, package, words in rows:
+        seen = install(scene, source, *words, name, program="package", path=str(tools_without(scene, name)))
+        line = f"packaging/deb: {name} is not here, so no Debian package was made: install {package}\n"
+        scene.check(f"without {name}", (".deb" in seen.out.decode(), seen.err, seen.status), (False, line.encode(), 1))
 
 
 @case

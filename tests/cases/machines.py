@@ -225,11 +225,10 @@ def installs(scene, found):
 def its_packages_are_made_on_another_machine(scene):
     """`./package --machine` makes the packages of what is released for aarch64. lintian finds no error and no warning; dpkg installs them, and removes them. What is
     not released of these sources is refused."""
-    tools = [f"aarch64-linux-gnu-{name}" for name in ("strip", "readelf")]
     archive = ROOT / "release" / f"bpftap-{TARGET.name}.tar.xz"
     if KIND != "dynamic" or not archive.is_file():
         return scene.leave(f"no {archive.name} is released" if KIND == "dynamic" else "the program that is tested is not the one that is packaged")
-    if not scene.has("dpkg-deb", *tools):
+    if not scene.has("dpkg-deb", "aarch64-linux-gnu-strip"):
         return
     scene.start({})
     source = source_in(scene, program=pathlib.Path(PROGRAM).read_bytes())
