@@ -73,10 +73,22 @@ is_release_of() { [ "$1" = "$(said sources)" ] && set -- "$root"/release/*.tar.x
 # Shows that no file of the sources and of the release was changed since this was noted, and first of a program if one is named.
 state() { texts looks "$@" crates.txt release $(others); }
 
+# Whether a folder is a link that another user made, or below one: what is written there would go where that user wants it. Links of the caller, of root and
+# of the owner of this script are followed.
+is_led_away() { # FOLDER
+  step=$1
+  while [ -n "$step" ] && [ "$step" != "$root" ]; do
+    [ ! -L "$step" ] || [ -z "$(find "$step" -maxdepth 0 ! -type l $(of_others) 2>&1)" ] || return 0
+    step=${step%/*}
+  done
+  false
+}
+
 # Sets `place` to the real path of `out` or the cache: who can write to a folder above what a link leads to can change that.
 real_place() { # FOLDER
   place=$1
   [ "$1" != "$root/out" ] || [ -L "$1" ] || return 0
+  ! is_led_away "$1" || return
   place=$(cd -P -- "$1" 2>/dev/null && printf '%s\n' "$PWD")
   [ -n "$place" ]
 }
@@ -84,6 +96,7 @@ real_place() { # FOLDER
 # Whether the caller may make something in a folder, or make that: if the nearest one that exists is his own, or as /tmp. Root makes none in the
 # home or the clone of another user, who could not write there then.
 may_make() { # FOLDER
+  ! is_led_away "$1" || return
   nearest=$1
   until [ -e "$nearest" ] || [ -L "$nearest" ] || [ -z "$nearest" ]; do nearest=${nearest%/*}; done
   [ -O "${nearest:-/}" ] || [ -k "${nearest:-/}" ]

@@ -5,13 +5,16 @@ import os
 import pathlib
 import re
 import shutil
+import signal
 import subprocess
+import tempfile
+import time
 
 from .build import MADE
 from .common import LIMIT, PROGRAM, ROOT, Seen, case
 from .manual import PAGES, examples
 from .pages import links
-from .release import OLD, Clone, Within, also_released
+from .release import OLD, OTHER, Clone, Within, also_released, are_followed
 
 TEXTS = ["CHANGELOG.md", "LICENSE-APACHE", "LICENSE-MIT", "NOTICES", "README.md"]
 
@@ -214,7 +217,174 @@ def a_list_leads_to_nothing_outside_of_the_prefix(scene):
     scene.check("the copy", put_below(copy), set())
     scene.check("what is outside", (outside.read_text(), put_below(prefix)), ("kept\n", put))
     (prefix / "share" / "doc" / "bpftap" / ".installed").chmod(0o666)
-    scene.check("a list that others can write", (install(scene, source, "--remove", str(prefix)).status, put_below(prefix)), (0, set()))
+    scene.check("a list that others can write", install(scene, source, "--remove", str(prefix)), unlisted(prefix))
+    scene.check("left", put_below(prefix), put)
+
+
+def unlisted(prefix):
+    """What `--remove` says if files are there and no list."""
+    lines = [f"no list of yours says what ./install put under {prefix}, so nothing was removed",
+             f"if it put files there, run ./install {prefix} once more, which lists them, and then --remove"]
+    return Seen(b"", "".join(f"install: {line}\n" for line in lines).encode(), 1)
+
+
+@case
+def without_a_list_nothing_is_removed(scene):
+    """`--remove` takes no file that `./install` did not put, whatever its name; after a second call, which says that it replaces them, it takes all."""
+    source, prefix = source_in(scene), scene.folder / "there"
+    own = {"bin/bpftap": "#!/bin/sh\n", "share/man/man1/bpftap.1": "a page\n"}
+    for name, text in own.items():
+        (prefix / name).parent.mkdir(parents=True)
+        (prefix / name).write_text(text)
+    scene.check("nothing was installed", install(scene, source, "--remove", str(prefix)), unlisted(prefix))
+    scene.check("left", {name: (prefix / name).read_text() for name in put_below(prefix)}, own)
+    replaced = f"install: {prefix}/bin/bpftap and 1 more are replaced: no list of yours says that ./install put them there\n"
+    missing = f"install: {prefix}/bin is not on the PATH\n"
+    scene.check("installed", install(scene, source, str(prefix)).err.decode(), replaced + missing)
+    scene.check("again", install(scene, source, str(prefix)).err.decode(), missing)
+    scene.check("remove", (install(scene, source, "--remove", str(prefix)).status, put_below(prefix)), (0, set()))
+    (prefix / "bin" / "bpftap").symlink_to("nowhere")
+    scene.check("only its program", install(scene, source, "--remove", str(prefix)), unlisted(prefix))
+    replaced = f"install: {prefix}/bin/bpftap is replaced: no list of yours says that ./install put it there\n"
+    scene.check("a link in its place", install(scene, source, str(prefix)).err.decode(), replaced + missing)
+
+
+@case
+def it_needs_no_proc(scene):
+    """In a container or a chroot without /proc files are put and removed, and without a list that is said."""
+    own = ["unshare", "--mount"] if os.geteuid() == 0 else ["unshare", "--user", "--map-root-user", "--mount"]
+    hidden = [*own, "sh", "-c", 'mount -t tmpfs none /proc && exec "$@"', "sh"]
+    if not scene.has("unshare") or subprocess.run([*hidden, "true"], stderr=subprocess.DEVNULL).returncode:
+        return scene.leave("no namespace of files can be made")
+    source, prefix = source_in(scene), scene.folder / "there"
+
+    def call(*words):
+        done = subprocess.run([*hidden, source.folder / "install", *words], env=source.bare(), capture_output=True, timeout=LIMIT)
+        return Seen(done.stdout, done.stderr, done.returncode)
+
+    (prefix / "bin").mkdir(parents=True)
+    (prefix / "bin" / "bpftap").touch()
+    scene.check("without a list", call("--remove", prefix), unlisted(prefix))
+    (prefix / "bin" / "bpftap").unlink()
+    scene.check("install", (call(prefix).status, put_below(prefix)), (0, set(PUT)))
+    scene.check("remove", (call("--remove", prefix).status, put_below(prefix)), (0, set()))
+
+
+@case
+def what_an_interrupted_call_put_is_removed(scene):
+    """If `./install` is killed in the middle, `--remove` takes what was put and the folders that were made, and no file that was not reached."""
+    source = source_in(scene)
+    tools = scene.folder / "tools"
+    tools.mkdir()
+    (tools / "install").touch(0o755)
+    for name in ["KILL", "TERM", "INT"]:
+        stops = f"kill -{name} $PPID; kill -{name} $$"
+        (tools / "install").write_text(f'#!/bin/sh\ncase $* in *bpftap-cut.1) {stops} ;; esac\nexec /usr/bin/install "$@"\n')
+        prefix = scene.folder / f"by {name}"
+        seen = install(scene, source, str(prefix), path=f"{tools}:/usr/bin:/bin")
+        scene.check(f"{name}: put", (seen.status, "bin/bpftap" in put_below(prefix), "share/man/man1/bpftap-cut.1" in put_below(prefix)), (
+            -signal.Signals[f"SIG{name}"], True, False))
+        own = prefix / "share" / "man" / "man1" / "bpftap-split.1"
+        own.write_text("kept\n")
+        scene.check(f"{name}: remove", (install(scene, source, "--remove", str(prefix)).status, put_below(prefix)), (0, {"share/man/man1/bpftap-split.1"}))
+        own.unlink(missing_ok=True)
+        scene.check(f"{name}: a folder of the user's is left", sorted(path.name for path in prefix.rglob("*")), ["man", "man1", "share"])
+        shutil.rmtree(prefix)
+        install(scene, source, str(prefix), path=f"{tools}:/usr/bin:/bin")
+        scene.check(f"{name}: all", (install(scene, source, "--remove", str(prefix)).status, prefix.exists()), (0, False))
+
+
+@case
+def nothing_is_made_before_a_program_is_chosen(scene):
+    """If `./install` is killed while the program is built or tried, no folder is left."""
+    source, prefix = source_in(scene, program='#!/bin/sh\n: >"$HOME/begun"\nsleep 60\n'), scene.folder / "there"
+    begun, words = source.home / "begun", [source.folder / "install", prefix]
+    called = subprocess.Popen(words, env=source.bare(), stdout=subprocess.DEVNULL, stderr=subprocess.DEVNULL, start_new_session=True)
+    until = time.monotonic() + LIMIT
+    while not begun.exists() and time.monotonic() < until:
+        time.sleep(0.02)
+    os.killpg(called.pid, signal.SIGKILL)
+    called.wait()
+    scene.check("begun, and made", (begun.exists(), prefix.exists()), (True, False))
+
+
+@case
+def a_folder_below_the_root_is_a_prefix(scene):
+    """A prefix whose every folder is missing is refused if `/` cannot be written."""
+    if os.geteuid() == 0 and not scene.has("setpriv"):
+        return
+    as_other = ["setpriv", f"--reuid={OTHER}", "--clear-groups"] if os.geteuid() == 0 else []
+    with tempfile.TemporaryDirectory() as top:
+        os.chmod(top, 0o755)
+        scene.folder = pathlib.Path(top)
+        source = source_in(scene)
+        done = subprocess.run([*as_other, source.folder / "install", "/lacks"], env=source.bare(), capture_output=True, timeout=LIMIT // 6)
+        line = b"install: /lacks/bin cannot be written, so nothing was put under /lacks\n"
+        scene.check("refused", (done.stdout, done.stderr.startswith(line), done.returncode), (b"", True, 1))
+
+
+def shared_prefix(folder, mode):
+    """A prefix with its folder of documents, in each of which others can make files."""
+    documents = folder / "share" / "doc" / "bpftap"
+    documents.mkdir(parents=True)
+    for path in [folder, *documents.parents, documents]:
+        if path.is_relative_to(folder):
+            path.chmod(mode)
+    return documents
+
+
+def link_of_another(path, target):
+    """Makes a link that another user has put there."""
+    path.symlink_to(target)
+    os.lchown(path, OTHER, OTHER)
+
+
+@case
+def links_of_another_user_are_replaced(scene):
+    """In a prefix that others can write to, what one of them put in the place of the list is written over: nothing is written where it leads."""
+    if os.geteuid() != 0:
+        return scene.leave("only root can make links of another user")
+    source = source_in(scene)
+    for mode in [0o2775, 0o1777]:
+        prefix, kept = scene.folder / f"shared {mode:o}", scene.folder / f"kept {mode:o}"
+        documents = shared_prefix(prefix, mode)
+        kept.write_text("kept\n")
+        for name in [".installed", ".installed.new", "README.md"]:
+            link_of_another(documents / name, kept)
+        if are_followed(scene, mode):
+            scene.check(f"status, {mode:o}", install(scene, source, str(prefix)).status, 0)
+            scene.check(f"where they lead, {mode:o}", kept.read_text(), "kept\n")
+            scene.check(f"the list, {mode:o}", ((documents / ".installed").is_symlink(), (documents / ".installed").is_file()), (False, True))
+            scene.check(f"remove, {mode:o}", (install(scene, source, "--remove", str(prefix)).status, put_below(prefix)), (
+                0, {"share/doc/bpftap/.installed.new"}))
+
+
+@case
+def a_link_of_another_user_is_no_folder(scene):
+    """Nothing is put or removed through a link to a folder that another user put in the place of one below the prefix."""
+    if os.geteuid() != 0:
+        return scene.leave("only root can make links of another user")
+    source, kept = source_in(scene), scene.folder / "kept"
+    kept.mkdir()
+    (kept / "README.md").write_text("kept\n")
+    for mode in [0o2775, 0o1777]:
+        prefix = scene.folder / f"shared {mode:o}"
+        documents = shared_prefix(prefix, mode)
+        documents.rmdir()
+        link_of_another(documents, kept)
+        if not are_followed(scene, mode):
+            continue
+        line = f"install: {documents} is another user's link, or below one, so nothing was put under {prefix}\n"
+        scene.check(f"install, {mode:o}", install(scene, source, str(prefix)), Seen(b"", line.encode(), 1))
+        documents.unlink()
+        scene.check(f"without it, {mode:o}", install(scene, source, str(prefix)).status, 0)
+        shutil.rmtree(documents / "examples")
+        link_of_another(documents / "examples", kept)
+        line = f"install: {documents}/examples/README.md is left: it is below another user's link\n"
+        seen = install(scene, source, "--remove", str(prefix))
+        scene.check(f"remove, {mode:o}", (line in seen.err.decode(), seen.status), (True, 1))
+        scene.check(f"again, {mode:o}", (install(scene, source, "--remove", str(prefix)).status, put_below(prefix)), (0, set()))
+    scene.check("where it leads", (put_below(kept), (kept / "README.md").read_text()), ({"README.md"}, "kept\n"))
 
 
 @case
@@ -361,7 +531,7 @@ def what_manual_and_help_show_runs_once_installed(scene):
 @case
 def packages_have_what_is_installed(scene):
     """The Debian package and the tar archive hold the installed files, and run where they are unpacked. The same files give the same
-    packages."""
+    packages, which replace links, as of another user."""
     if not scene.has("dpkg-deb", "strip"):
         return
     source = source_in(scene, program=pathlib.Path(PROGRAM).read_bytes())
@@ -387,9 +557,17 @@ def packages_have_what_is_installed(scene):
     scene.check("owners", {line.split()[1] for line in owners.splitlines()}, {"root/root"})
     subprocess.run(["tar", "-xzf", packages / names[0], "-C", scene.folder], check=True)
     scene.check("files of the archive", put_below(scene.folder / f"bpftap-{version}"), set(PUT))
-    again = scene.folder / "again"
+    again, kept = scene.folder / "again", scene.folder / "kept"
+    again.mkdir()
+    again.chmod(0o2775)
+    kept.write_text("kept\n")
+    for name in names:
+        (again / name).symlink_to(kept)
+        if os.geteuid() == 0:
+            os.lchown(again / name, OTHER, OTHER)
     seen = install(scene, source, "again", program="package")
     scene.check("printed for a relative folder", seen, Seen("".join(f"{again}/{name}\n" for name in names).encode(), b"", 0))
+    scene.check("where links in their place lead", (kept.read_bytes(), [name for name in names if (again / name).is_symlink()]), (b"kept\n", []))
     scene.check("the same again", [name for name in names if (again / name).read_bytes() != (packages / name).read_bytes()], [])
     made_of = json.loads((packages / names[1]).read_text())
     known = {"SPDXRef-DOCUMENT", *(each["SPDXID"] for each in [*made_of["packages"], *made_of["files"]])}

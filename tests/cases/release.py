@@ -395,6 +395,14 @@ def give(*paths, user=OTHER):
             os.chown(path, user, user)
 
 
+def are_followed(scene, mode):
+    """Whether the system follows another user's links in a folder of this mode."""
+    setting = pathlib.Path("/proc/sys/fs/protected_symlinks")
+    if mode & 0o1000 and not (setting.exists() and setting.read_text() == "0\n"):
+        return scene.leave("fs.protected_symlinks is set: the system follows no link of another user in a folder as /tmp")
+    return True
+
+
 def has_run(clone):
     """Whether the planted program has run since the last time."""
     mark = clone.home / "ran"
@@ -495,6 +503,34 @@ def a_link_is_asked_where_it_leads(scene):
     planted.rename(scene.folder / "released")
     planted.symlink_to(scene.folder / "released")
     scene.check("a link within", (clone.call("--version"), has_run(clone)), (no_place(clone, cache), False))
+
+
+@case
+def a_cache_that_is_a_link_of_another_user_is_none(scene):
+    """Where others can add to XDG_CACHE_HOME, one of them may have put a link `bpftap` there to a folder of the caller's: nothing is written or run in it."""
+    if os.geteuid() != 0:
+        return scene.leave("only root can make links of another user")
+    clone = Clone(scene)
+    (clone.folder / "out").write_text("in the way\n")
+    for mode in [0o777, 0o1777]:
+        shared, own = scene.folder / f"shared {mode:o}", scene.folder / f"own {mode:o}"
+        shared.mkdir()
+        shared.chmod(mode)
+        own.mkdir()
+        (own / "noted").write_text("kept\n")
+        link = shared / "bpftap"
+        link.symlink_to(own)
+        call = lambda: clone.run("--version", program="bpftap", env={**clone.bare(), "XDG_CACHE_HOME": str(shared)})
+        if are_followed(scene, mode):
+            os.lchown(link, OTHER, OTHER)
+            scene.check(f"another user's link, {mode:o}", call(), no_place(clone, link))
+            left = [path.name for path in own.iterdir()], (own / "noted").read_text()
+            scene.check(f"left, {mode:o}", left, (["noted"], "kept\n"))
+            plant(clone, own)
+            scene.check(f"a note of the caller's there, {mode:o}", (call(), has_run(clone)), (no_place(clone, link), False))
+            os.lchown(link, 0, 0)
+        plant(clone, own)
+        scene.check(f"the caller's own link, {mode:o}", (call().status, has_run(clone)), (0, True))
 
 
 @case
