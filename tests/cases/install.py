@@ -295,6 +295,22 @@ def what_an_interrupted_call_put_is_removed(scene):
 
 
 @case
+def what_cannot_be_removed_is_listed_on(scene):
+    """If a file cannot be removed `--remove` takes all others, and a later call takes that one."""
+    source, prefix = source_in(scene), scene.folder / "there"
+    tools = scene.folder / "tools"
+    tools.mkdir()
+    (tools / "rm").write_text('#!/bin/sh\ncase $* in *bpftap-cut.1) exit 1 ;; esac\nexec /usr/bin/rm "$@"\n')
+    (tools / "rm").chmod(0o755)
+    install(scene, source, str(prefix))
+    seen = install(scene, source, "--remove", str(prefix), path=f"{tools}:/usr/bin:/bin")
+    line = f"install: not all was done under {prefix}\n".encode()
+    scene.check("remove", (seen.err, seen.status, put_below(prefix)), (line, 1, {"share/man/man1/bpftap-cut.1"}))
+    scene.check("folders", sorted(path.name for path in prefix.rglob("*") if path.is_dir()), ["bpftap", "doc", "man", "man1", "share"])
+    scene.check("again", (install(scene, source, "--remove", str(prefix)).status, prefix.exists()), (0, False))
+
+
+@case
 def nothing_is_made_before_a_program_is_chosen(scene):
     """If `./install` is killed while the program is built or tried, no folder is left."""
     source, prefix = source_in(scene, program='#!/bin/sh\n: >"$HOME/begun"\nsleep 60\n'), scene.folder / "there"
