@@ -7,11 +7,13 @@ import (
 	"encoding/binary"
 	"encoding/hex"
 	"errors"
+	"fmt"
 	"io"
 	"os"
 	"os/exec"
 	"reflect"
 	"runtime"
+	"runtime/debug"
 	"strings"
 	"sync"
 	"testing"
@@ -97,7 +99,9 @@ func TestPacketsAreFiltered(t *testing.T) {
 	}
 	// tcpdump counts 67 with UDP port 5353.
 	same(t, "packets", [2]int{len(all), count}, [2]int{253, 67})
-	same(t, "RunEach", dns.RunEach(all), answers)
+	for n := range all {
+		same(t, "RunEach", dns.RunEach(all[n:]), answers[n:])
+	}
 	reader, _ := bpftap.NewReader(capture(t, ""))
 	spans, err := reader.Spans()
 	same(t, "RunSpans", dns.RunSpans(capture(t, ""), spans), answers)
@@ -271,6 +275,110 @@ func TestProgramsAndListings(t *testing.T) {
 	same(t, "no expression", []bool{errors.Is(err, bpftap.NotText), errors.Is(other2, bpftap.NotText)}, []bool{true, true})
 }
 
+// The copies are all that is left of their filters when others take the memory that is free.
+func TestCopiesOutliveTheirFilters(t *testing.T) {
+	var copies [100]bpftap.Filter
+	for n := range copies {
+		copies[n] = *compiled(t, "udp port 53")
+	}
+	for round := 0; round < 2; round++ {
+		runtime.GC()
+		time.Sleep(20 * time.Millisecond)
+	}
+	var others [100]*bpftap.Filter
+	for n := range others {
+		others[n] = compiled(t, "udp port 54")
+	}
+	for n := range copies {
+		spans := copies[n].RunSpans(udp, []bpftap.Span{{Captured: 38, Wire: 38}})
+		each := copies[n].RunEach([]bpftap.Packet{{Data: udp, Wire: 38}})
+		seen := []uint32{copies[n].Run(udp, 38), spans[0], each[0], others[n].Run(udp, 38)}
+		same(t, "a copy, and another filter", seen, []uint32{bpftap.MaxSnap, bpftap.MaxSnap, bpftap.MaxSnap, 0})
+	}
+}
+
+// Go collects garbage all the time, also while C runs, and the memory that is free is overwritten.
+func TestFiltersAreUsedWhileGarbageIsCollected(t *testing.T) {
+	defer debug.SetGCPercent(debug.SetGCPercent(1))
+	var group sync.WaitGroup
+	for n := 0; n < 8; n++ {
+		group.Add(1)
+		go func(n int) {
+			defer group.Done()
+			// A packet of its own, on the stack if Go may have it there.
+			packet := [38]byte{}
+			copy(packet[:], udp)
+			packet[37] = byte(n)
+			for round := 0; round < 20; round++ {
+				filter, err := bpftap.Compile(fmt.Sprintf("udp dst port %d", n))
+				for run := 0; run < 20; run++ {
+					bytes.Repeat([]byte{255}, 6704)
+					if err != nil || filter.Run(packet[:], 38) == 0 || filter.RunEach([]bpftap.Packet{{}, {Data: packet[:], Wire: 38}})[1] == 0 {
+						t.Errorf("goroutine %d: %v", n, err)
+						return
+					}
+				}
+			}
+		}(n)
+	}
+	group.Wait()
+}
+
+func TestAFilterThatWasNotMadeAcceptsNothing(t *testing.T) {
+	var none bpftap.Filter
+	same(t, "Run", []any{none.Run(udp, 38), none.Run(nil, 0), none.Matches(udp, 38)}, []any{uint32(0), uint32(0), false})
+	same(t, "RunEach", none.RunEach([]bpftap.Packet{{Data: udp, Wire: 38}, {}}), []uint32{0, 0})
+	same(t, "RunSpans", none.RunSpans(udp, []bpftap.Span{{Captured: 38, Wire: 38}}), []uint32{0})
+	_, err := none.Trace(udp, 38)
+	refused(t, err, bpftap.Empty, 0, "Empty")
+	_, err = none.Listing()
+	refused(t, err, bpftap.Empty, 0, "Empty")
+	_, err = none.Image()
+	refused(t, err, bpftap.Empty, 0, "Empty")
+	_, err = bpftap.Cut(capture(t, ""), &none, 0)
+	refused(t, err, bpftap.Empty, 0, "Empty")
+	_, _, err = none.Why(udp, 38)
+	refused(t, err, bpftap.NotText, 0, "NotText 0")
+	_, err = none.Looks(udp, 38)
+	refused(t, err, bpftap.NotText, 0, "NotText 0")
+	_, err = none.Canonical()
+	refused(t, err, bpftap.NotText, 0, "NotText 0")
+	same(t, "what it has", []any{none.Expression(), len(none.Insns())}, []any{"", 0})
+	var reader bpftap.Reader
+	_, err = reader.Next()
+	same(t, "a reader of nothing", err, io.EOF)
+}
+
+func TestRunsTakeNoMemory(t *testing.T) {
+	dns, all := compiled(t, "udp port 5353"), packets(t, capture(t, ""))
+	same(t, "Run", testing.AllocsPerRun(100, func() { dns.Run(all[0].Data, all[0].Wire) }), 0.0)
+	same(t, "RunEach, but for its answers", testing.AllocsPerRun(100, func() { dns.RunEach(all) }), 1.0)
+}
+
+// The least time of many, since other programs run too.
+func TestRunEachTakesHalfTheTimeOfRuns(t *testing.T) {
+	dns, all := compiled(t, "udp port 5353"), packets(t, capture(t, ""))
+	runs, each := time.Hour, time.Hour
+	for n := 0; n < 1000 && (n < 20 || 2*each > runs); n++ {
+		began := time.Now()
+		for _, packet := range all {
+			dns.Run(packet.Data, packet.Wire)
+		}
+		between := time.Now()
+		dns.RunEach(all)
+		ended := time.Now()
+		if took := between.Sub(began); took < runs {
+			runs = took
+		}
+		if took := ended.Sub(between); took < each {
+			each = took
+		}
+	}
+	if 2*each > runs {
+		t.Errorf("RunEach takes %v, a loop of Run %v", each, runs)
+	}
+}
+
 func TestRunsAreTraced(t *testing.T) {
 	listed, _ := bpftap.FromListing(listing)
 	traced, err := listed.Trace(udp, 38)
@@ -441,4 +549,32 @@ func TestGoroutinesShareAFilter(t *testing.T) {
 	}
 	group.Wait()
 	same(t, "counts", counts, []int{67, 67, 67, 67, 67, 67, 67, 67})
+}
+
+// Each takes the packets of a capture; a time is that of all 253.
+func BenchmarkFilter(b *testing.B) {
+	content, err := os.ReadFile("../../examples/veth.pcap")
+	if err != nil {
+		b.Fatal(err)
+	}
+	reader, _ := bpftap.NewReader(content)
+	all, _ := reader.All()
+	reader, _ = bpftap.NewReader(content)
+	spans, _ := reader.Spans()
+	web, _ := bpftap.Compile("tcp port 80")
+	for name, call := range map[string]func(){
+		"Run": func() {
+			for _, packet := range all {
+				web.Run(packet.Data, packet.Wire)
+			}
+		},
+		"RunEach":  func() { web.RunEach(all) },
+		"RunSpans": func() { web.RunSpans(content, spans) },
+	} {
+		b.Run(name, func(b *testing.B) {
+			for n := 0; n < b.N; n++ {
+				call()
+			}
+		})
+	}
 }

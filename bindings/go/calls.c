@@ -143,3 +143,22 @@ struct bpftap_comparison calls_compare(const char *first, size_t first_size, con
     deeply(compare, &call);
     return call.comparison;
 }
+
+uint32_t calls_prepare(uint8_t *program, const struct bpftap_insn *insns, size_t size) {
+    return bpftap_program_init((struct bpftap_program *)program, insns, size);
+}
+
+uint32_t calls_run(const uint8_t *program, const uint8_t *packet, size_t captured, uint32_t wire) {
+    return bpftap_program_run((const struct bpftap_program *)program, packet, captured, wire);
+}
+
+void calls_run_spans(const uint8_t *program, const uint8_t *memory, size_t memory_size, const struct bpftap_span *spans, uint32_t *answers, size_t count) {
+    bpftap_program_run_spans((const struct bpftap_program *)program, memory, memory_size, spans, count, answers, count);
+}
+
+#define PACKET(n) {bytes##n, captured##n, wire##n}
+void calls_run_eight(const uint8_t *program, uint32_t *answers, CALLS_PACKET(0), CALLS_PACKET(1), CALLS_PACKET(2), CALLS_PACKET(3),
+                     CALLS_PACKET(4), CALLS_PACKET(5), CALLS_PACKET(6), CALLS_PACKET(7)) {
+    struct bpftap_packet packets[] = {PACKET(0), PACKET(1), PACKET(2), PACKET(3), PACKET(4), PACKET(5), PACKET(6), PACKET(7)};
+    bpftap_program_run_each((const struct bpftap_program *)program, packets, 8, answers, 8);
+}

@@ -109,7 +109,7 @@ func (r *Reader) Spans() ([]Span, error) {
 	return spans, nil
 }
 
-// A Writer writes a capture.
+// A Writer writes a capture. NewWriter makes it; it is one goroutine's.
 type Writer struct {
 	to    io.Writer
 	form  Form

@@ -2,12 +2,10 @@
 
 package bpftap
 
-// #include <stdlib.h>
 // #include "calls.h"
 import "C"
 
 import (
-	"runtime"
 	"strings"
 	"unsafe"
 )
@@ -31,12 +29,14 @@ const (
 
 func (v Verdict) String() string { return [...]string{"No", "Yes", "Abort"}[v] }
 
-// A Filter is a compiled expression, or a program. Goroutines may share it.
+// A Filter is a compiled expression, or a program. Goroutines may share it, and a copy of it answers as it does. The zero value has no
+// program: it accepts no packet, and each of its calls that may return an error does.
 type Filter struct {
 	expression string
 	compiled   bool
 	insns      []Insn
-	program    *C.struct_bpftap_program
+	// What C prepared of insns. Nobody writes there again, so copies of the filter share it.
+	program []byte
 }
 
 // Compile compiles an expression (docs/LANGUAGE.md). The filter keeps whole packets.
@@ -71,16 +71,19 @@ func FromListing(listing string) (*Filter, error) {
 
 // FromInsns takes a program as instructions, which it copies.
 func FromInsns(insns []Insn) (*Filter, error) {
-	if err := Check(insns); err != nil {
+	filter := &Filter{insns: append([]Insn(nil), insns...)}
+	if err := Check(filter.insns); err != nil {
 		return nil, err
 	}
-	memory := C.malloc(C.bpftap_program_size())
-	if memory == nil {
-		return nil, &Error{Fault: NoMemory}
-	}
-	filter := &Filter{insns: append([]Insn(nil), insns...), program: (*C.struct_bpftap_program)(memory)}
-	runtime.SetFinalizer(filter, func(filter *Filter) { C.free(unsafe.Pointer(filter.program)) })
-	return filter, errorOf(C.bpftap_program_init(filter.program, insnsOf(insns), C.size_t(len(insns))), 0)
+	filter.program = programRoom()
+	return filter, errorOf(C.calls_prepare(bytesOf(filter.program), insnsOf(filter.insns), C.size_t(len(filter.insns))), 0)
+}
+
+// programRoom is memory for a prepared program, aligned as malloc aligns. It stays where it is, since Go does not move what is on its heap.
+func programRoom() []byte {
+	const align = 16
+	memory := make([]byte, C.bpftap_program_size()+align)
+	return memory[align-uintptr(unsafe.Pointer(&memory[0]))%align:]
 }
 
 // Check says whether instructions are a program, and if not why.
@@ -98,9 +101,10 @@ func insnsOf(insns []Insn) *C.struct_bpftap_insn {
 
 // Run is how many bytes of a packet the filter keeps, 0 if it rejects it. wire is the packet's length on the wire.
 func (f *Filter) Run(packet []byte, wire uint32) uint32 {
-	answer := C.bpftap_program_run(f.program, bytesOf(packet), C.size_t(len(packet)), C.uint32_t(wire))
-	runtime.KeepAlive(f)
-	return uint32(answer)
+	if f.program == nil {
+		return 0
+	}
+	return uint32(C.calls_run(bytesOf(f.program), bytesOf(packet), C.size_t(len(packet)), C.uint32_t(wire)))
 }
 
 // Matches is whether the filter accepts a packet.
@@ -115,23 +119,30 @@ type Span struct {
 // RunSpans is what the filter answers to each packet of a memory, in one call.
 func (f *Filter) RunSpans(memory []byte, spans []Span) []uint32 {
 	answers := make([]uint32, len(spans))
-	if len(spans) > 0 {
-		C.bpftap_program_run_spans(f.program, bytesOf(memory), C.size_t(len(memory)), (*C.struct_bpftap_span)(unsafe.Pointer(&spans[0])),
-			C.size_t(len(spans)), (*C.uint32_t)(unsafe.Pointer(&answers[0])), C.size_t(len(answers)))
-		runtime.KeepAlive(f)
+	if len(spans) > 0 && f.program != nil {
+		C.calls_run_spans(bytesOf(f.program), bytesOf(memory), C.size_t(len(memory)), (*C.struct_bpftap_span)(unsafe.Pointer(&spans[0])),
+			(*C.uint32_t)(unsafe.Pointer(&answers[0])), C.size_t(len(spans)))
 	}
 	return answers
 }
 
-// RunEach is what the filter answers to each packet, in one call. The packets are copied into one memory first: RunSpans needs no copy.
+// RunEach is what the filter answers to each packet. Nothing is copied. C is called once for eight packets; RunSpans calls it once for all.
 func (f *Filter) RunEach(packets []Packet) []uint32 {
-	var memory []byte
-	spans := make([]Span, len(packets))
-	for place, packet := range packets {
-		spans[place] = Span{uint64(len(memory)), uint32(len(packet.Data)), packet.Wire}
-		memory = append(memory, packet.Data...)
+	answers := make([]uint32, (len(packets)+7)/8*8)
+	for at := 0; at < len(packets) && f.program != nil; at += 8 {
+		var p [8]Packet // the last ones may be fewer
+		copy(p[:], packets[at:])
+		C.calls_run_eight(bytesOf(f.program), (*C.uint32_t)(unsafe.Pointer(&answers[at])),
+			bytesOf(p[0].Data), C.size_t(len(p[0].Data)), C.uint32_t(p[0].Wire),
+			bytesOf(p[1].Data), C.size_t(len(p[1].Data)), C.uint32_t(p[1].Wire),
+			bytesOf(p[2].Data), C.size_t(len(p[2].Data)), C.uint32_t(p[2].Wire),
+			bytesOf(p[3].Data), C.size_t(len(p[3].Data)), C.uint32_t(p[3].Wire),
+			bytesOf(p[4].Data), C.size_t(len(p[4].Data)), C.uint32_t(p[4].Wire),
+			bytesOf(p[5].Data), C.size_t(len(p[5].Data)), C.uint32_t(p[5].Wire),
+			bytesOf(p[6].Data), C.size_t(len(p[6].Data)), C.uint32_t(p[6].Wire),
+			bytesOf(p[7].Data), C.size_t(len(p[7].Data)), C.uint32_t(p[7].Wire))
 	}
-	return f.RunSpans(memory, spans)
+	return answers[:len(packets)]
 }
 
 // Why is what an expression answers to a packet, and the primitive or relation that decides: No and "tcp port 80". Of a program without an

@@ -246,18 +246,21 @@ def ship_builds_nothing(scene):
 
 @case
 def module_of_go_passes_its_tests(scene):
-    """`go vet`, `go test` with the examples of its documentation, gofmt, the example, and the page's program in a project of its own."""
+    """`go vet`, `go test` with the examples of its documentation, also with the race detector and where C overwrites what is freed, gofmt, the
+    example, and the page's program in a project of its own."""
     if not is_there(scene) or not scene.has("go", "gcc"):
         return
     scene.start({})
     top = repository(scene)
-    go = lambda folder, *words: done(scene, ["go", *words], at=folder, limit=5 * LIMIT, env={**os.environ, "GOFLAGS": "-count=1" if "test" in words else "", "GOPROXY": "off"})
+    go = lambda folder, *words, **more: done(scene, ["go", *words], at=folder, limit=5 * LIMIT, env={
+        **os.environ, "GOFLAGS": "-count=1" if "test" in words else "", "GOPROXY": "off", **more})
     module, example = top / "bindings" / "go", top / "examples" / "go"
     for folder in (module, example):
         scene.check(f"gofmt of {folder.name}", done(scene, ["gofmt", "-l", "."], at=folder), ("", 0))
         scene.check("go vet", go(folder, "vet", "./..."), ("", 0))
-    said, status = go(module, "test", "./...")
-    scene.check("go test", (said.split()[:2], status), (["ok", "bpftap"], 0))
+    for way in ([], ["-race"]):
+        said, status = go(module, "test", *way, "./...", MALLOC_PERTURB_="165")
+        scene.check(f"go test {way}", (said.split()[:2], status), (["ok", "bpftap"], 0))
     scene.check("the example", go(example, "run", ".", "udp port 5353", "../veth.pcap"), ("67 of 253 packets\n186 rejected by udp port 5353\n", 0))
     scene.check("its fault", go(example, "run", ".", "port http", "../veth.pcap"), ("count: port http: BadWord 5\nexit status 1\n", 1))
     # As the page says, in a folder that knows nothing of the repository.
