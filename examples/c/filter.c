@@ -17,6 +17,13 @@ static int fail(const char *what, uint32_t fault, size_t place) {
     return 1;
 }
 
+/* OUT is not written, for the reason that errno has. */
+static int fail_to_write(const char *path) {
+    fprintf(stderr, "filter: ");
+    perror(path);
+    return 1;
+}
+
 int main(int argc, char **argv) {
     if (argc != 4) return fprintf(stderr, "usage: filter EXPRESSION IN OUT\n"), 1;
     struct bpftap_insn insns[BPFTAP_MAX_INSNS];
@@ -32,23 +39,24 @@ int main(int argc, char **argv) {
     if (reader.fault) return fail(argv[2], reader.fault, 0);
     /* Only now, so that OUT is not lost if IN is no capture. */
     FILE *out = fopen(argv[3], "wb");
-    if (!out) return perror("filter"), 1;
+    if (!out) return fail_to_write(argv[3]);
     uint8_t header[24];
     bpftap_put_header(reader.order, reader.unit, reader.snap, header, sizeof header);
-    fwrite(header, 1, sizeof header, out);
+    if (fwrite(header, sizeof header, 1, out) != 1) return fail_to_write(argv[3]);
     struct bpftap_record record;
     unsigned long kept = 0;
     while ((record = bpftap_next(memory, size, &reader)).fault == BPFTAP_OK) {
         const uint8_t *packet = memory + record.offset;
         if (bpftap_program_run(program, packet, record.captured, record.wire)) {
             /* The whole record: its header of 16 bytes and the captured bytes. */
-            fwrite(packet - 16, 1, 16 + record.captured, out);
+            if (fwrite(packet - 16, 16 + record.captured, 1, out) != 1) return fail_to_write(argv[3]);
             kept++;
         }
     }
-    if (record.fault != BPFTAP_END) fail(argv[2], record.fault, record.place);
+    /* What is in its buffer is written here. */
+    if (fclose(out) != 0) return fail_to_write(argv[3]);
     printf("%lu of %llu packets\n", kept, (unsigned long long)record.place);
     free(memory);
     free(program);
-    return fclose(out) != 0 || record.fault != BPFTAP_END;
+    return record.fault == BPFTAP_END ? 0 : fail(argv[2], record.fault, record.place);
 }

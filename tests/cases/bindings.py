@@ -109,7 +109,14 @@ def takes_long_captures(scene):
     for words, wanted in ((["text", "kept"], "filter: text: NotSavefile\n"), (["none", "kept"], "filter: No such file or directory\n")):
         scene.check(f"filter: {words[0]}", done(scene, ["./filter", "ip", *words]), (wanted, 1))
     scene.check("what OUT had", scene.read("kept"), b"kept")
-    scene.check("filter: a torn capture", done(scene, ["./filter", "ip", "part.pcap", "dns.pcap"])[1], 1)
+    # The torn record is a packet of mDNS.
+    said, status = done(scene, ["./filter", "udp port 5353", "part.pcap", "dns.pcap"])
+    scene.check("filter: a torn capture", (sorted(said.splitlines()), status), (["6699 of 25299 packets", "filter: part.pcap: TornRecord 25299"], 1))
+    # One capture is written when OUT is closed, the other one before.
+    for capture in (VETH, "long.pcap"):
+        full = done(scene, ["./filter", "udp port 5353", capture, "/dev/full"])
+        scene.check(f"filter: {capture} on a full disk", full, ("filter: /dev/full: No space left on device\n", 1))
+    scene.check("filter: a folder", done(scene, ["./filter", "ip", VETH, "."]), ("filter: .: Is a directory\n", 1))
 
 
 def loses_what_steps_loses(scene):
