@@ -149,8 +149,9 @@ struct bpftap_result bpftap_check(const BPFTAP_INSN *insns, size_t size);
 /* Reads a listing, the form of `tcpdump -ddd`, into `insns`. Faults: BAD_LINE, COUNT, those of instructions, NO_ROOM. */
 struct bpftap_result bpftap_read_listing(const char *text, size_t text_size, BPFTAP_INSN *insns, size_t room);
 
-/* Write a program as text: its listing, or its instructions by their names, as `tcpdump -d` prints them. 16 KiB are always room enough
- * for a listing, 64 KiB for an image. Faults: those of instructions, NO_ROOM, NO_MEMORY. */
+/* Write a program as text: its listing, or its instructions by their names, as `tcpdump -d` prints them; but of code 0x81, for which libpcap
+ * prints `unimp 0x81`, bpftap_image writes `ldx #pktlen`. 16 KiB are always room enough for a listing, 64 KiB for an image.
+ * Faults: those of instructions, NO_ROOM, NO_MEMORY. */
 struct bpftap_result bpftap_write_listing(const BPFTAP_INSN *insns, size_t size, char *to, size_t room);
 struct bpftap_result bpftap_image(const BPFTAP_INSN *insns, size_t size, char *to, size_t room);
 
@@ -250,17 +251,21 @@ struct bpftap_result bpftap_looks(const char *text, size_t text_size, const uint
 
 /* ---- Why ---- */
 
-enum bpftap_verdict { BPFTAP_NO = 0, BPFTAP_YES = 1, BPFTAP_ABORT = 2 };
+/* What an expression answers to a packet. */
+enum bpftap_verdict {
+    BPFTAP_NO = 0,   /* it rejects the packet */
+    BPFTAP_YES = 1,  /* it accepts the packet */
+    BPFTAP_ABORT = 2 /* a byte past the captured ones was wanted, or a divisor was 0; a filter rejects the packet then */
+};
 
 struct bpftap_reason {
     uint32_t fault;
-    uint32_t verdict; /* BPFTAP_NO with a fault other than BPFTAP_NO_ROOM */
+    uint32_t verdict; /* enum bpftap_verdict; BPFTAP_NO with a fault other than BPFTAP_NO_ROOM */
     size_t size;
     size_t place;
 };
 
 /* Says what an expression answers to a packet, and why. It writes the answer and the primitive or relation that decides: `No tcp port 80`.
- * ABORT means that a byte past the captured ones was wanted, or that a divisor was 0; a filter rejects the packet then.
  * The expression may be one that is too long or too deep to compile. Faults: those of bpftap_print. */
 struct bpftap_reason bpftap_why(const char *text, size_t text_size, const uint8_t *packet, size_t captured, uint32_t wire, char *to,
                                 size_t room);
@@ -284,8 +289,8 @@ enum bpftap_cause {
     BPFTAP_BUDGET = 2,   /* the budget is spent, and nothing of PRODUCT, QUOTIENT and LOAD stands in the expressions */
     BPFTAP_RELATION = 3, /* no call gives it since 2.3.0: versions before did not decide some kinds of relations */
     BPFTAP_PRODUCT = 4,  /* the budget is spent, and an expression has a product of two values that are no constants */
-    BPFTAP_QUOTIENT = 5, /* the same with a quotient or a remainder by a value that is no constant */
-    BPFTAP_LOAD = 6,     /* the same with bytes at an index that is no constant */
+    BPFTAP_QUOTIENT = 5, /* the budget is spent, and an expression has a quotient or a remainder by a value that is no constant */
+    BPFTAP_LOAD = 6,     /* the budget is spent, and an expression has bytes at an index that is no constant */
     BPFTAP_FAR = 7,      /* a byte may be looked at that is 131,072 bytes or more from the first one */
     BPFTAP_LEVELS = 8    /* an expression has more than 1,000 levels, of which one of a value counts as 8, or a value of it more than 64 */
 };
@@ -414,8 +419,9 @@ struct bpftap_buffer {
     size_t size;
 };
 
+/* When the store becomes the hold. */
 enum bpftap_mode {
-    BPFTAP_BUFFERED = 0, /* the store becomes the hold if a packet finds no room in it, and by a flush */
+    BPFTAP_BUFFERED = 0, /* if a packet finds no room in it, and by a flush */
     BPFTAP_IMMEDIATE = 1 /* also after each packet that is stored while the hold is empty */
 };
 
@@ -540,8 +546,9 @@ struct bpftap_result bpftap_fault_text(uint32_t fault, size_t place, char *to, s
 
 /* Writes what helps to fix an expression that is refused: the sentence that the program prints below the line of such a fault. `fault` and
  * `place` are those that bpftap_compile, or another call that reads expressions, returned for this text. If libpcap's compiler may make a
- * program where this one makes none, a line feed and a second line follow. That line says how, and speaks of the program's command line
- * (`-f FILE`). The text is empty, and `size` is 0, if `fault` is BPFTAP_BAD_SNAP or no fault of an expression; at every other fault there is a
+ * program where this one makes none, a line feed and a second line follow, which says how. Both lines speak to a user of the program: some
+ * name its commands and options (`bpftap cut`, `-f FILE`), other programs, or the shell and its quotes. A caller whose users type an
+ * expression elsewhere may show the fault and its place instead. The text is empty, and `size` is 0, if `fault` is BPFTAP_BAD_SNAP or no fault of an expression; at every other fault there is a
  * sentence. In place of a control character of the text a sentence has a blank or `?`; other characters stay as they are, those that turn the
  * direction of a line too, as U+202E. 1,024 bytes are room enough in every test, which is not proved.
  * Faults: NOT_TEXT, NO_ROOM, NO_MEMORY. */

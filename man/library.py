@@ -33,7 +33,7 @@ def filled(text):
 
 def paragraphs(comment):
     """The paragraphs of a comment: texts, and lists of lines of code."""
-    lines = [re.sub(r"^ \* ?", "", line) for line in comment.splitlines()]
+    lines = [re.sub(r"^ \* ?", "", line) for line in comment.rstrip().splitlines()]
     for part in re.split(r"\n\s*\n", "\n".join(lines)):
         if all(line.startswith("    ") for line in part.splitlines()):
             yield [line[4:] for line in part.splitlines()]
@@ -60,6 +60,16 @@ def structures(header):
     return found
 
 
+def enumerations(header):
+    """The comment above each enum but that of faults, and its enumerators: a name, a number and what it means."""
+    found = {}
+    for comment, name, body in re.findall(r"^/\*((?:(?!\*/).)*)\*/\n^enum (bpftap_\w+) \{\n(.*?)^\};", header, re.S | re.M):
+        if name != "bpftap_fault":
+            rows = re.findall(r"^ +(BPFTAP_\w+) = (\d+),?\s*/\* ((?:(?!\*/).)*) \*/", body, re.S | re.M)
+            found[name] = comment, [(value, number, " ".join(said.split())) for value, number, said in rows]
+    return found
+
+
 def synopsis(functions):
     yield ".In bpftap.h"
     for kind, name, arguments in functions:
@@ -73,7 +83,7 @@ def synopsis(functions):
 def written(parts):
     """Paragraphs, of texts and of lines of code."""
     for number, part in enumerate(parts):
-        yield from [".Pp"] if number else []
+        yield from [".Pp"] if number and isinstance(part, str) else []
         yield from filled(words(part)) if isinstance(part, str) else [".Bd -literal", *(line.replace("\\", "\\e") for line in part), ".Ed"]
 
 
@@ -87,7 +97,23 @@ def structure(name, comment, members):
     yield ".El"
 
 
-def page(date, functions, comment, used, others):
+def enumeration(name, comment, rows):
+    yield f".Vt enum {name} :"
+    yield from written(paragraphs(comment))
+    yield '.Bl -tag -width "captured" -compact'
+    for value, number, said in rows:
+        yield from [f".It Dv {value} No ({number})", *filled(words(said))]
+    yield ".El"
+
+
+def separated(parts):
+    """Lines of several parts, with space between them."""
+    for number, part in enumerate(parts):
+        yield from [".Pp"] if number else []
+        yield from part
+
+
+def page(date, functions, comment, used, numbers, others):
     """The lines of a page. What follows `Faults:` in the comment is its section of errors."""
     names = [name for _, name, _ in functions]
     parts, faults = [], None
@@ -102,10 +128,9 @@ def page(date, functions, comment, used, others):
     yield from [".Sh SYNOPSIS", *synopsis(functions), ".Sh DESCRIPTION"]
     yield from written(parts)
     if used:
-        yield ".Sh STRUCTURES"
-        for number, (name, (comment, members)) in enumerate(used):
-            yield from [".Pp"] if number else []
-            yield from structure(name, comment, members)
+        yield from [".Sh STRUCTURES", *separated(structure(name, *about) for name, about in used)]
+    if numbers:
+        yield from [".Sh ENUMERATIONS", *separated(enumeration(name, *about) for name, about in numbers)]
     if faults:
         yield from [".Sh ERRORS", *filled(words(faults)), "They are the numbers of", ".Vt enum bpftap_fault ,", "here without", ".Li BPFTAP_ ."]
     also = ["bpftap", *sorted(others)]
@@ -116,7 +141,7 @@ def pages():
     """The text of each page, by its name."""
     header = HEADER.read_text().replace("BPFTAP_INSN *", "struct bpftap_insn *")
     date = re.search(r"^\.Dd (.+)$", (MAN / "bpftap.3").read_text(), re.M)[1]
-    known, made = structures(header), {}
+    known, enums, made = structures(header), enumerations(header), {}
     found = [(heading, comment, FUNCTION.findall(code)) for heading, comment, code in blocks(header)]
     for heading, comment, functions in found:
         if not functions:
@@ -125,7 +150,9 @@ def pages():
         others = [name for under, _, calls in found if under == heading for _, name, _ in calls if name not in names]
         text = " ".join(kind + arguments for kind, _, arguments in functions)
         used = [(name, members) for name, members in known.items() if re.search(rf"\b{name}\b", text)]
-        made[f"{names[0]}.3"] = "".join(f"{line}\n" for line in page(date, functions, comment, used, others))
+        said = " ".join([comment, *(member[2] for _, (_, members) in used for member in members)])
+        numbers = [(name, about) for name, about in enums.items() if re.search(rf"\benum {name}\b", said)]
+        made[f"{names[0]}.3"] = "".join(f"{line}\n" for line in page(date, functions, comment, used, numbers, others))
         made.update({f"{name}.3": f".so man3/{names[0]}.3\n" for name in names[1:]})
     return made
 

@@ -188,6 +188,28 @@ def pages_are_well_formed(scene):
         scene.check(f"complaints of {page.name}", complaints(scene, page), [])
 
 
+# The page that explains the numbers of each enumeration of bpftap.h, but those of faults.
+EXPLAINED = {"bpftap_verdict": "bpftap_why", "bpftap_sameness": "bpftap_compare", "bpftap_cause": "bpftap_compare",
+             "bpftap_mode": "bpftap_listener_open", "bpftap_fed": "bpftap_listener_arrive"}
+
+
+@case
+def pages_of_the_library_name_each_number(scene):
+    """bpftap(3) has the name of each number of bpftap.h, and the page of a call has those that it takes or returns."""
+    scene.start({})
+    overview = " ".join((MAN / "bpftap.3").read_text().split())
+    found = re.findall(r"^enum (bpftap_\w+) \{(.*?)\};", (ROOT / "include" / "bpftap.h").read_text(), re.S | re.M)
+    scene.check("enumerations", sorted(name for name, _ in found), sorted([*EXPLAINED, "bpftap_fault"]))
+    for name, body in found:
+        page = (MAN / f"{EXPLAINED.get(name, 'bpftap')}.3").read_text()
+        for value, number in re.findall(r"(BPFTAP_\w+) = (\d+)", body):
+            if name == "bpftap_fault":
+                scene.check(value, f".It {number} .Dv {value} " in overview, True)
+            else:
+                scene.check(f"{value} in bpftap(3)", f".Dv {value} No ({number})" in overview, True)
+                scene.check(f"{value} in {EXPLAINED[name]}(3)", f"\n.It Dv {value} No ({number})\n" in page, True)
+
+
 def complaints(scene, page):
     """What is wrong with a page. It is no fault of a page that another one, which it names, is not installed here."""
     if shutil.which("mandoc"):
