@@ -125,13 +125,13 @@ class Filter:
         return made
 
     def _keep(self, insns, size, expression):
-        self.expression = expression
-        self._insns, self._size = insns, size
-        self._program = ctypes.create_string_buffer(lib.bpftap_program_size() + 16)
+        program = ctypes.create_string_buffer(lib.bpftap_program_size() + 16)
         # A buffer of ctypes is aligned to 16 bytes already; the room beside it costs nothing and makes sure. ctypes passes what `byref` makes
         # without another object.
-        self._at = ctypes.byref(self._program, -ctypes.addressof(self._program) % 16)
-        raise_fault(FilterError, lib.bpftap_program_init(self._at, insns, size), 0)
+        at = ctypes.byref(program, -ctypes.addressof(program) % 16)
+        raise_fault(FilterError, lib.bpftap_program_init(at, insns, size), 0)
+        # Only now, so that no other thread runs what is not prepared yet, if `__init__` is called once more.
+        self.expression, self._insns, self._size, self._program, self._at = expression, insns, size, program, at
 
     def __reduce__(self):
         # copy, deepcopy and pickle: the addresses in here are those of this filter's own memory.

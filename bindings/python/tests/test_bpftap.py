@@ -14,6 +14,7 @@ import sys
 import tempfile
 import threading
 import unittest
+import unittest.mock
 import xml.etree.ElementTree
 
 import bpftap
@@ -114,6 +115,18 @@ class Filters(unittest.TestCase):
             for other in copies:
                 self.assertEqual(([other.run(UDP), other.run(TCP)], (other.expression, other.program)), (answers, wanted))
             self.assertEqual(len({ctypes.addressof(other._program) for other in copies}), len(copies))
+
+    def test_a_program_is_prepared_before_it_is_run(self):
+        found, lib, ran = Filter("udp port 53"), bpftap._library.lib, []
+        prepare = lib.bpftap_program_init
+
+        def preparing(at, insns, size):
+            ran.append(found.run(UDP))
+            return prepare(at, insns, size)
+
+        with unittest.mock.patch.object(lib, "bpftap_program_init", preparing):
+            found.__init__("tcp")
+        self.assertEqual(([*map(bool, ran)], found.matches(UDP), found.matches(TCP)), ([True], False, True))
 
     def test_the_canonical_form(self):
         self.assertEqual(Filter("tcp dst port 80 or 443").canonical, "tcp dst port 80 or tcp dst port 443")
