@@ -99,7 +99,8 @@ func insnsOf(insns []Insn) *C.struct_bpftap_insn {
 	return (*C.struct_bpftap_insn)(unsafe.Pointer(&insns[0]))
 }
 
-// Run is how many bytes of a packet the filter keeps, 0 if it rejects it. wire is the packet's length on the wire.
+// Run is how many bytes of a packet the filter keeps, 0 if it rejects it. wire is the packet's length on the wire. To call C takes longer than
+// most programs do: of many packets ask RunEach or RunSpans.
 func (f *Filter) Run(packet []byte, wire uint32) uint32 {
 	if f.program == nil {
 		return 0
