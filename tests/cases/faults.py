@@ -1,8 +1,9 @@
 """`docs/FAULTS.md`: the program prints each of its lines, with its status, and no fault of the sources is missing there."""
 import re
+import subprocess
 from dataclasses import dataclass
 
-from .common import ALL, ROOT, TORN, WHOLE, case, header
+from .common import ALL, LIMIT, PROGRAM, ROOT, TORN, VETH, WHOLE, can_trace, case, fault_lines, header
 from .manual import PAGES, section
 
 PAGE = ROOT / "docs" / "FAULTS.md"
@@ -305,6 +306,41 @@ def the_program_prints_the_lines_of_the_page(scene):
     expect_split_faults(scene, page)
     expect_run_faults(scene, page)
     scene.check("lines that were not printed, or are said not to be", page.amiss(), [])
+
+
+# What pages say of a close that fails, which nothing reports.
+CLOSED = [
+    ("docs/FAULTS.md", "A `close` of OUT that fails, as where a disk over a network is full, is never reported: `sync OUT` reports it,"),
+    ("docs/PROMISES.md", "or what it took if its `close` fails, which only `sync OUT` reports;"),
+    ("man/bpftap-cut.1", "A close of OUT that fails, as where a disk over a network is full, is never reported: .Ql sync OUT reports it."),
+]
+
+
+@case
+def a_close_that_fails_is_not_reported(scene):
+    """`cut` ends with 0 after each close of OUT that fails, and pages say so; `sync` and `cat`, which they name, report what fails."""
+    for name, text in CLOSED:
+        scene.check(f"on {name}", text in " ".join((ROOT / name).read_text().split()), True)
+    if not can_trace():
+        return scene.leave("strace can't trace here")
+    scene.start({"in.pcap": WHOLE, "out.pcap": ""})
+    for call, words, status in [("close", f"{PROGRAM} cut -s 0 in.pcap out.pcap", 0), ("close", "cat in.pcap > out.pcap", 1), ("fsync", "sync out.pcap", 1)]:
+        traced = f"strace -qq -o calls.txt -P $PWD/out.pcap -e trace={call} -e inject={call}:error=EIO {words}"
+        done = subprocess.run(["bash", "-c", traced], cwd=scene.folder, capture_output=True, text=True, timeout=LIMIT)
+        scene.check(f"{words}, refused", "INJECTED" in scene.read("calls.txt").decode(), True)
+        scene.check(words, (done.returncode, bool(done.stderr)), (status, status != 0))
+
+
+@case
+def a_limit_of_size_ends_a_command_by_a_signal(scene):
+    """Under `ulimit -f` a command that writes more ends by SIGXFSZ, without a line; if that is ignored it is `Device`. The page says so."""
+    text = "Under `ulimit -f` a signal ends a command that writes too much, with status 153 in the shell; after `trap '' XFSZ` that is `Device`."
+    scene.check("on the page", text in " ".join(PAGE.read_text().split()), True)
+    scene.start({"in.pcap": VETH.read_bytes()})
+    for words, streams, failed in [("cut -s 0 in.pcap out.pcap", "", "out.pcap"), ("explain -e ip in.pcap", "> lines.txt", "standard output")]:
+        seen = scene.run(words, streams, "ulimit -f 8")
+        scene.check(f"{words} {streams}", (seen.err, seen.status), (b"", -25))
+        scene.expect(words, 3, fault_lines(f"Device {failed}"), streams=streams, first="trap '' XFSZ; ulimit -f 8")
 
 
 # Faults that no command reports: a call after a fault, and numbers that the command line refuses before.

@@ -3,7 +3,7 @@ import re
 import shutil
 import subprocess
 
-from .common import LIMIT, PROGRAM, ROOT, case
+from .common import HEADER, LIMIT, PROGRAM, ROOT, WHOLE, case
 from .completions import offered
 
 MAN = ROOT / "man"
@@ -169,6 +169,41 @@ def examples_print_what_they_say(scene):
                 ["bash", "-c", f'PATH="$PWD/bin:$PATH"\n{script}'], cwd=scene.folder, stdin=subprocess.DEVNULL,
                 stdout=subprocess.PIPE, stderr=subprocess.STDOUT, timeout=LIMIT)
             scene.check(f"{page.name}: {script}", done.stdout.decode(), printed)
+
+
+# What the pages say of rare calls: a page, a text on it, a call, and what that prints in its folder.
+RARE = [
+    ("info", "A capture that cannot be opened, or whose header is refused, has a line with only its path and the fault.",
+     "info none.pcap text.pcap 2> faults.txt", "none.pcap Device\ntext.pcap ShortHeader\n"),
+    ("info", "only its path and the fault. The next one is read all the same.", "info none.pcap in.pcap 2> faults.txt | wc -l", "2\n"),
+    ("check", ".Ql return A returns what was calculated.", "check --dot -f held.asm | grep -c 'return A'", "1\n"),
+    ("check", "Instructions that ask nothing, before a place that a jump leads to, are a box too: .Ql read and what, or .Ql calculate .",
+     """check --dot -f held.asm | grep -o '"[a-z][a-zA-Z ]*"'""", '"read ethertype"\n"calculate"\n"return A"\n'),
+    ("check", ".Xr bpftap 1 has 1 to 3.", "check --dot -p 1 ip torn.pcap 2>&1; echo $?", "bpftap: TornRecord 1\n2\n"),
+    ("check", "If there is none, that is .Li NoPacket of .Xr bpftap-explain 1 .", "check --dot -p 1 ip in.pcap 2>&1; echo $?", "bpftap: NoPacket 1\n1\n"),
+    ("run", "Also if IN cannot be opened or its header is refused: an OUT that was there is replaced by a header without packets.",
+     "run listeners.txt none.pcap > lines.txt 2>&1; cmp out.pcap header.pcap && echo replaced", "replaced\n"),
+    ("run", "its header is refused: an OUT that was there is replaced by a header", "run listeners.txt text.pcap > lines.txt 2>&1; cmp out.pcap header.pcap && echo replaced",
+     "replaced\n"),
+    ("cut", "If the only IN is missing, that is reported, whatever OUT is.", "cut -s 0 none.pcap none.pcap 2>&1; echo $?", "bpftap: Device none.pcap\n3\n"),
+    ("", ".Cm explain , .Cm compare , .Cm info , .Cm split , .Cm steps and .Cm run end with the greatest.",
+     "info torn.pcap none.pcap text.pcap > lines.txt 2>&1; echo $?", "3\n"),
+]
+RARE_FILES = {
+    "in.pcap": WHOLE, "torn.pcap": WHOLE + bytes(7), "text.pcap": "text", "out.pcap": "kept", "header.pcap": HEADER,
+    "held.asm": "ldh [12]\nja on\non: add #1\nja end\nend: ret a\n", "listeners.txt": "0 0 0 1048576 2 out.pcap\n",
+}
+
+
+@case
+def rare_calls_do_what_the_pages_say(scene):
+    """Each page has its text, and the call prints what that says."""
+    for command, text, call, printed in RARE:
+        scene.start(RARE_FILES)
+        scene.check(f"on the page of {command!r}: {text}", text in " ".join(page_of(command).read_text().split()), True)
+        words = ["bash", "-c", f'"$0" {call}', PROGRAM]
+        done = subprocess.run(words, cwd=scene.folder, stdin=subprocess.DEVNULL, capture_output=True, text=True, timeout=LIMIT)
+        scene.check(call, done.stdout, printed)
 
 
 @case

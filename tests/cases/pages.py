@@ -4,7 +4,7 @@ import re
 import shutil
 import subprocess
 
-from .common import LIMIT, PROGRAM, ROOT, VERSION, VETH, case
+from .common import LIMIT, PROGRAM, ROOT, VERSION, VETH, case, records
 from .examples import COOKED, cooked
 from .manual import session
 
@@ -52,6 +52,38 @@ def commands_print_what_they_say(scene):
     for name in RUN:
         page = ROOT / name
         run_page(scene, page)
+
+
+def first_commands():
+    """The lines of README's first block, which a reader types before all else."""
+    return next(BLOCK.finditer((ROOT / "README.md").read_text()))["fenced"].splitlines()
+
+
+@case
+def the_first_command_of_readme_runs(scene):
+    """The first command of README runs as it is written, and counts the packets of the capture that it names."""
+    script = f"set -o pipefail; {first_commands()[0]}"
+    done = subprocess.run(["bash", "-c", script], cwd=scene.folder, env=start_page(scene), capture_output=True, text=True, timeout=LIMIT)
+    counted = f"{len(records(VETH.read_bytes()))} packets: "
+    scene.check(script, (counted in done.stdout, done.stderr, done.returncode), (True, "", 0))
+
+
+@case
+def the_gate_runs_what_readme_names(scene):
+    """`.ci/run` runs the one of README's first commands that has a time, which FIRST-DAY, SPEED and the command's own text give too."""
+    timed = [re.match(r"\./(\w+) .*?(\d+ to \d+) minutes on 4 processors; needs ", line) for line in first_commands()]
+    named = [(found[1], found[2]) for found in timed if found]
+    scene.check("test commands", len(named), 1)
+    for name, minutes in named:
+        scene.start({name: "#!/bin/sh\necho all\n"})
+        shutil.copytree(ROOT / ".ci", scene.folder / ".ci")
+        (scene.folder / name).chmod(0o755)
+        done = subprocess.run([".ci/run"], cwd=scene.folder, capture_output=True, text=True, timeout=LIMIT)
+        scene.check(f".ci/run beside {name}", (done.stdout, done.stderr, done.returncode), ("all\n", "", 0))
+        scene.check(f"{name} is a program", os.access(ROOT / name, os.X_OK), True)
+        for page in ["docs/FIRST-DAY.md", "docs/SPEED.md", name]:
+            said = re.findall(rf"\./{name}\b[^.;\n]*?\b(\d+ to \d+)\b", (ROOT / page).read_text())
+            scene.check(f"minutes of {name} on {page}", said, [minutes])
 
 
 # Commands of RECIPES that capture, build, or make packages: no case runs them.
