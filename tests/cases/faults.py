@@ -310,9 +310,9 @@ def the_program_prints_the_lines_of_the_page(scene):
 
 # What pages say of a close that fails, which nothing reports.
 CLOSED = [
-    ("docs/FAULTS.md", "A `close` of OUT that fails, as where a disk over a network is full, is never reported: `sync OUT` reports it,"),
+    ("docs/FAULTS.md", "No command reports a `close` of OUT that fails, as where a disk over a network is full: use `sync OUT`, which does, or"),
     ("docs/PROMISES.md", "or what it took if its `close` fails, which only `sync OUT` reports;"),
-    ("man/bpftap-cut.1", "A close of OUT that fails, as where a disk over a network is full, is never reported: .Ql sync OUT reports it."),
+    ("man/bpftap-cut.1", "A close of OUT that fails, as where a disk over a network is full, is never reported here; use .Ql sync OUT , which does."),
 ]
 
 
