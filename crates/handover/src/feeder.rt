@@ -18,7 +18,7 @@ use crate::link::Link;
 use crate::stand::{Accepted, Stand};
 use bpfvm::Program;
 use listener::{Buffer, Counts, Fed, Mode, kept_of};
-use savefile::PacketRef;
+use savefile::{Packet, PacketRef};
 use std::marker::Model;
 
 /// The end of a pair that packets are given to: a filter, the store, and the counts.
@@ -52,17 +52,17 @@ impl Model for Feeder {
         × (f.stand.seat.me.0.view.profile.mode ≡ f.mode) × AreCountsOfCalls f.counts f.stand.seat.me.0.view.feeds };
 }
 
-/// A feeder that has ended.
+/// A feeder that has ended, without its rest.
 ///
 /// Contracts see what they saw of the feeder, but for its filter; and what it still had in its
 /// store.
 #[derive(Drop)]
-pub struct FeedEnd {
+pub struct BareEnd {
     pub(crate) seat: PairSeat,
     pub(crate) counts: Counts,
 }
 
-impl Model for FeedEnd {
+impl Model for BareEnd {
     ghost use Rattle.std.specs.Prelude.{true};
     ghost use Rattle.listener.specs.Buffers.{filled};
     ghost use Rattle.handover.specs.Ends.{FeedingEnded, feeding_ended};
@@ -78,6 +78,39 @@ impl Model for FeedEnd {
 
     ghost invariant = { λ f. IsFeeder (known f.seat.me) (filled f.seat.me.0.view.profile.capacity (store_of f.seat.me.0.view.feeds)) true
         × AreCountsOfCalls f.counts f.seat.me.0.view.feeds };
+}
+
+/// A feeder that has ended, with its rest: what it still had in its store.
+///
+/// Contracts see of it what they see of a [`BareEnd`].
+#[derive(Drop)]
+pub struct FeedEnd {
+    end: BareEnd,
+    rest: Buffer,
+}
+
+impl Model for FeedEnd {
+    ghost use Rattle.std.specs.Prelude.{◌≡◌};
+    ghost use Rattle.listener.specs.Buffers.{filled};
+    ghost use Rattle.handover.specs.Ends.{FeedingEnded};
+
+    ghost Value = { FeedingEnded };
+
+    ghost view = { λ f. f.end };
+
+    ghost invariant = { λ f. f.rest ≡ filled f.end.profile.capacity f.end.store };
+}
+
+impl FeedEnd {
+    /// Takes the rest out, for callers that need it before the pair is settled:
+    /// [`settle_bare`](crate::settle_bare) then settles it.
+    pub fn take_rest(self) -> (BareEnd, Buffer)
+        ensures end { result.0 ≡ self }
+        ensures rest { result.1 ≡ filled self.profile.capacity self.store }
+    {
+        let FeedEnd { end, rest } = self;
+        (end, rest)
+    }
 }
 
 /// Counts an arrival with this answer, and returns the answer.
@@ -108,7 +141,28 @@ impl Feeder {
     /// captured length is kept of it. The answer is [`Fed::Closed`] if it found that the drain
     /// had closed. It waits for nobody, takes no memory, and copies the bytes once if it stores
     /// them.
-    pub fn arrive(&mut self, link: &Link, capture: u32, place: u64, packet: &PacketRef<'_>) -> Fed
+    pub fn arrive(&mut self, link: &Link, capture: u32, place: u64, packet: &Packet) -> Fed
+        requires pair { self.old.pair ≡ link.now }
+        requires room { received_in self.old.feeds < 2 ^ 64 - 1 }
+        ensures same { IsSameFeeder self.old self.new }
+        ensures call { self.new.feeds ≡ self.old.feeds ++
+            Arrive (kept_by self.old.program self.old.snap (arrival capture place packet.now)) result ∷ [] }
+        ensures steps { self.new.steps ≡ self.old.steps ++ call_steps self.old.profile.mode self.old.store
+            (Arrive (kept_by self.old.program self.old.snap (arrival capture place packet.now)) result) }
+        ensures order { SightGoesOn of_feeder self.old.seen self.new.seen self.new.steps }
+        ensures own { HasOwnRun self.new }
+    {
+        self.arrive_ref(link, capture, place, &packet.as_ref())
+    }
+
+    /// A packet arrives whose bytes lie elsewhere: else as [`Feeder::arrive`].
+    pub fn arrive_ref(
+        &mut self,
+        link: &Link,
+        capture: u32,
+        place: u64,
+        packet: &PacketRef<'_>,
+    ) -> Fed
         requires pair { self.old.pair ≡ link.now }
         requires room { received_in self.old.feeds < 2 ^ 64 - 1 }
         ensures same { IsSameFeeder self.old self.new }
@@ -162,13 +216,12 @@ impl Feeder {
     }
 
     /// Ends the feeder: a read that finds this and an empty hold is answered with
-    /// [`Read::Ended`](crate::Read::Ended). The buffer is the rest: what it still had in its store,
-    /// which comes after what is read and the hold.
-    pub fn end(self, link: &Link) -> (FeedEnd, Buffer)
+    /// [`Read::Ended`](crate::Read::Ended). The rest, which comes after what is read and the hold,
+    /// stays in the end.
+    pub fn end(self, link: &Link) -> FeedEnd
         requires { self.pair ≡ link.now }
-        ensures ended { result.0 ≡ feeding_ended self.pair self.profile self.feeds (self.steps ++ Store word.Ended 1 ∷ []) result.0.seen self.store }
-        ensures rest { result.1 ≡ filled self.profile.capacity self.store }
-        ensures order { SightGoesOn of_feeder self.seen result.0.seen result.0.steps }
+        ensures ended { result ≡ feeding_ended self.pair self.profile self.feeds (self.steps ++ Store word.Ended 1 ∷ []) result.seen self.store }
+        ensures order { SightGoesOn of_feeder self.seen result.seen result.steps }
         ensures own { HasOwnRun self }
     {
         let Feeder {
@@ -179,6 +232,9 @@ impl Feeder {
             counts,
         } = self;
         link.table.shared.store::<SetEnded>(&mut seat, ENDED, 1);
-        (FeedEnd { seat, counts }, store)
+        FeedEnd {
+            end: BareEnd { seat, counts },
+            rest: store,
+        }
     }
 }

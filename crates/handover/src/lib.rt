@@ -13,6 +13,6 @@ mod view;
 
 pub use calls::{EndStep, Feed, Take, Word, WordStep};
 pub use drain::{Drain, DrainEnd, Read};
-pub use feeder::{FeedEnd, Feeder};
-pub use link::{Link, Past, Settled, pair, pair_as, settle};
+pub use feeder::{BareEnd, FeedEnd, Feeder};
+pub use link::{BareSettled, Link, Past, Settled, pair, pair_as, settle, settle_bare};
 pub use view::{Profile, Role, Sight, View};

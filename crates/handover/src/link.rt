@@ -15,7 +15,7 @@ ghost use Rattle.handover.specs.Settling.{IsWhole};
 
 use crate::atomic_words::{Ends, PairSeat, PairTable, SLOT, SeatWitness};
 use crate::drain::{Drain, DrainEnd};
-use crate::feeder::{FeedEnd, Feeder};
+use crate::feeder::{BareEnd, FeedEnd, Feeder};
 use crate::stand::Stand;
 use crate::view::Profile;
 use atomic_table::{Refused, Table};
@@ -44,8 +44,8 @@ impl Model for Link {
     ghost invariant = { λ l. (l.table.shared.table_id.words ≡ 3) × (l.table.shared.table_id.slots ≡ 1) };
 }
 
-/// What was done with a pair that is settled. It has no bytes, and only [`settle`] makes one: so
-/// these calls were made, by the two ends of one pair.
+/// What was done with a pair that is settled. It has no bytes, and only [`settle_bare`] makes one:
+/// so these calls were made, by the two ends of one pair.
 ///
 /// Contracts see which pair it was, its terms, the calls of both ends with their answers, and the
 /// steps that these took.
@@ -76,6 +76,17 @@ impl Debug for Past {
 /// What is left of a pair.
 #[derive(Drop)]
 pub struct Settled {
+    /// What was held and not read.
+    pub hold: Buffer,
+    /// What the feeder still had in its store.
+    pub rest: Buffer,
+    /// The counts, of the packets that arrived before the pair was found closed.
+    pub counts: Counts,
+}
+
+/// What is left of a pair whose rest was taken before.
+#[derive(Drop)]
+pub struct BareSettled {
     /// What was held and not read.
     pub hold: Buffer,
     /// The counts, of the packets that arrived before the pair was found closed.
@@ -177,12 +188,33 @@ fn parted(
 /// Takes a pair apart, once both ends have ended.
 ///
 /// The feeder's calls and the drain's reads make one legal history of the plain list, and the hold
-/// with the rest, which [`Feeder::end`] gave, has what then pends: what was read, then the hold,
-/// then the rest is exactly what was kept, and this is the messages of the arrivals that were
-/// answered Stored, Held or Rotated, in order. The steps of both have one order, in which each load
-/// answered what the last store to its word left, or 0 if there is none: one of the ends has
-/// seen it all, and the other a beginning of it.
+/// with the rest has what then pends: what was read, then the hold, then the rest is exactly what
+/// was kept, and this is the messages of the arrivals that were answered Stored, Held or Rotated,
+/// in order. The steps of both have one order, in which each load answered what the last store to
+/// its word left, or 0 if there is none: one of the ends has seen it all, and the other a beginning
+/// of it.
 pub fn settle(link: Link, feeder: FeedEnd, drain: DrainEnd) -> Settled
+    requires { (feeder.pair ≡ link) × (drain.pair ≡ link) }
+    ensures history { LegalHistory (terms_of feeder.profile) feeder.feeds drain.takes (merge feeder.feeds drain.takes) }
+    ensures order { HasOneOrder feeder.seen drain.seen feeder.steps drain.steps }
+    ensures hold { result.hold ≡ filled feeder.profile.capacity (hold_of (last feeder.feeds drain.takes)) }
+    ensures rest { result.rest ≡ filled feeder.profile.capacity feeder.store }
+    ensures store { feeder.store ≡ stored (last feeder.feeds drain.takes) }
+    ensures counts { AreCountsOf result.counts (last feeder.feeds drain.takes) × AreCountsOfCalls result.counts feeder.feeds }
+    ensures whole { IsWhole feeder.profile feeder.feeds drain.takes result.hold.messages result.rest.messages result.counts }
+{
+    let (end, rest) = feeder.take_rest();
+    let BareSettled {
+        hold,
+        counts,
+        past: _,
+    } = settle_bare(link, end, drain);
+    Settled { hold, rest, counts }
+}
+
+/// Takes a pair apart, as [`settle`], whose rest [`FeedEnd::take_rest`] took; and gives the calls
+/// of both ends.
+pub fn settle_bare(link: Link, feeder: BareEnd, drain: DrainEnd) -> BareSettled
     requires { (feeder.pair ≡ link) × (drain.pair ≡ link) }
     ensures history { LegalHistory (terms_of feeder.profile) feeder.feeds drain.takes (merge feeder.feeds drain.takes) }
     ensures order { HasOneOrder feeder.seen drain.seen feeder.steps drain.steps }
@@ -193,14 +225,14 @@ pub fn settle(link: Link, feeder: FeedEnd, drain: DrainEnd) -> Settled
     ensures whole { IsWhole feeder.profile feeder.feeds drain.takes result.hold.messages feeder.store result.counts }
 {
     let Link { table } = link;
-    let FeedEnd { mut seat, counts } = feeder;
+    let BareEnd { mut seat, counts } = feeder;
     let DrainEnd { seat: other } = drain;
     table.shared.join_seat::<Ends>(&mut seat, other);
     let witness = table.shared.split_seat::<SeatWitness>(&mut seat);
     let mut closed = table.close_with(seat);
     let hold = closed.take(SLOT);
     closed.free();
-    Settled {
+    BareSettled {
         hold,
         counts,
         past: Past { seat: witness },

@@ -77,7 +77,7 @@ fn give(slot: &mut FeederSlot, link: &TaskLink, placed: &PlacedArrival<'_>)
 {
     let fed = slot
         .feeder
-        .arrive(link.pair(), placed.capture, placed.place, placed.packet);
+        .arrive_ref(link.pair(), placed.capture, placed.place, placed.packet);
     wake_reader_if(link, is_hold_made(fed));
     if is_due(slot.flush_every, placed.n) {
         let flushed = slot.feeder.flush(link.pair());
@@ -256,7 +256,7 @@ fn end_one(slot: FeederSlot, link: &TaskLink) -> EndedFeeder
         flush_every: _,
         mut rest_in,
     } = slot;
-    let (feed, rest) = feeder.end(link.pair());
+    let (feed, rest) = feeder.end(link.pair()).take_rest();
     rest_in.push_reserved(rest);
     link.wake_reader();
     link.wake_writer();

@@ -20,7 +20,7 @@ use crate::reading_thread::{ReaderEnd, ReaderStop};
 use crate::states::{EndedFeeder, TaskDone};
 use crate::task_link::TaskLink;
 use crate::writer_thread::WriteEnd;
-use handover::{Past, Settled, settle};
+use handover::{BareSettled, Past, settle_bare};
 use listener::{Buffer, Counts};
 use replay_types::{ListenerReport, TaskEnd};
 use rtrb::{Consumer, Finished, Producer};
@@ -161,7 +161,7 @@ pub(crate) fn settled<W: Sink + Drop>(
         mut full,
         mut rest,
     } = write;
-    let Settled { hold, counts, past } = settle(link.into_pair(), feed, drain);
+    let BareSettled { hold, counts, past } = settle_bare(link.into_pair(), feed, drain);
     let Some(left) = left_in(&mut full, finished, &mut rest, rest_in, &hold) else {
         return report(written, counts, TaskEnd::Unfinished, past);
     };

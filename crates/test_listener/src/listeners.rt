@@ -45,7 +45,7 @@ fn put_answer(
 ) -> Result<(), Fail> {
     match step {
         'a' if listener.counts().received < u64::MAX => {
-            write!(out, "{:?}", listener.arrive(0, place, &packet(&BYTES)))?;
+            write!(out, "{:?}", listener.arrive_ref(0, place, &packet(&BYTES)))?;
         }
         'f' => write!(out, "{}", listener.flush())?,
         'r' => put_read(alloc, listener, out)?,
@@ -175,7 +175,7 @@ fn put(
 ) -> bool {
     assert!(rt; kept <= 262_144);
     assert!(rt; kept as usize <= packet.bytes.len());
-    buffer.put(capture, place, packet, kept)
+    buffer.put_ref(capture, place, packet, kept)
 }
 
 /// Puts a packet of the data of `RECORD`, of a capture's first interface, and says whether it found
@@ -417,7 +417,7 @@ fn made<T: Drop>(rt: &impl Abort, answer: Result<T, OpenFault>) -> T {
 fn six_arrive(rt: &impl Abort, listener: &mut Listener) {
     for place in 0..6 {
         assert!(rt; listener.counts().received < u64::MAX);
-        listener.arrive(0, place, &packet(&[7; 60]));
+        listener.arrive_ref(0, place, &packet(&[7; 60]));
     }
 }
 

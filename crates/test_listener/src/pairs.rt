@@ -43,7 +43,7 @@ fn put_fed(
     if feeder.counts().received == u64::MAX {
         return out.push_str("full");
     }
-    write!(out, "{:?}, ", feeder.arrive(link, 0, place, &packet()))
+    write!(out, "{:?}, ", feeder.arrive_ref(link, 0, place, &packet()))
 }
 
 /// Adds what a read answered.
@@ -140,9 +140,9 @@ fn until_ended(
     script: &str,
     reads: usize,
     out: &mut String,
-) -> Result<(FeedEnd, Buffer), Fail>
+) -> Result<FeedEnd, Fail>
     requires { (feeder.pair ≡ link.now) × (drain.old.pair ≡ link.now) }
-    ensures end { IfOk result (λ ended. ended.0.pair ≡ feeder.pair) }
+    ensures end { IfOk result (λ ended. ended.pair ≡ feeder.pair) }
     ensures drain { drain.new.pair ≡ drain.old.pair }
 {
     together(alloc, link, &mut feeder, drain, script, out)?;
@@ -159,11 +159,11 @@ fn left_of_ended(
     script: &str,
     reads: usize,
     out: &mut String,
-) -> Result<(Settled, Buffer), Fail> {
+) -> Result<Settled, Fail> {
     let (link, feeder, mut drain) = pair_as(alloc, keeping(32)?, 32, 64, mode)?;
-    let (feeder, rest) = until_ended(alloc, &link, feeder, &mut drain, script, reads, out)?;
+    let feeder = until_ended(alloc, &link, feeder, &mut drain, script, reads, out)?;
     let drain = drain.close(&link);
-    Ok((settle(link, feeder, drain), rest))
+    Ok(settle(link, feeder, drain))
 }
 
 /// What a pair of snapshot length 32 and capacity 64 answers to a script, then, once its feeder has
@@ -176,8 +176,8 @@ fn ended(
     want: &str,
 ) -> Result<(), Fail> {
     let mut out = String::new(rt.alloc());
-    let (settled, rest) = left_of_ended(rt.alloc(), mode, script, reads, &mut out)?;
-    put_state(&settled.hold, &rest, settled.counts, &mut out)?;
+    let settled = left_of_ended(rt.alloc(), mode, script, reads, &mut out)?;
+    put_state(&settled.hold, &settled.rest, settled.counts, &mut out)?;
     same(rt, out.as_str(), want);
     Ok(())
 }
@@ -210,11 +210,11 @@ fn left_of_closed(
     script: &str,
     behind: &str,
     out: &mut String,
-) -> Result<(Settled, Buffer), Fail> {
+) -> Result<Settled, Fail> {
     let (link, mut feeder, drain) = pair(alloc, keeping(most)?, 32, 64)?;
     let drain = until_closed(alloc, &link, &mut feeder, drain, script, behind, out)?;
-    let (feeder, rest) = feeder.end(&link);
-    Ok((settle(link, feeder, drain), rest))
+    let feeder = feeder.end(&link);
+    Ok(settle(link, feeder, drain))
 }
 
 /// What such a pair answers if the drain closes first, and the feeder goes on with a second script.
@@ -226,8 +226,8 @@ fn closed(
     want: &str,
 ) -> Result<(), Fail> {
     let mut out = String::new(rt.alloc());
-    let (settled, rest) = left_of_closed(rt.alloc(), most, script, behind, &mut out)?;
-    put_state(&settled.hold, &rest, settled.counts, &mut out)?;
+    let settled = left_of_closed(rt.alloc(), most, script, behind, &mut out)?;
+    put_state(&settled.hold, &settled.rest, settled.counts, &mut out)?;
     same(rt, out.as_str(), want);
     Ok(())
 }
@@ -358,7 +358,7 @@ fn arrive(link: &Link, feeder: &mut Feeder, place: u64) -> Option<Fed>
     if feeder.counts().received == u64::MAX {
         return None;
     }
-    Some(feeder.arrive(link, 0, place, &packet()))
+    Some(feeder.arrive_ref(link, 0, place, &packet()))
 }
 
 // By hand: with `rt try --test --fail-alloc N` this prints NoMemory for N of 1 to 5, what the pair
@@ -378,7 +378,7 @@ fn only_the_pair_takes_memory(rt: HostRuntime) -> Result<(), Fail> {
     drain.read(&link, empty);
     assert!(rt; feeder.flush(&link));
     let drain = drain.close(&link);
-    let (feeder, _rest) = feeder.end(&link);
+    let feeder = feeder.end(&link);
     let settled = settle(link, feeder, drain);
     same(&rt, settled.counts.dropped, 1);
     Ok(())

@@ -4,7 +4,7 @@ ghost use Rattle.std.specs.Prelude.{◌≡◌, ◌<◌, [], ◌∷◌};
 ghost use Rattle.replay.specs.Reading.{messages_of};
 ghost use Rattle.rtrb.specs.Ring.{known_free, sent};
 
-use handover::{FeedEnd, Feeder};
+use handover::{BareEnd, Feeder};
 use listener::Buffer;
 use rtrb::Producer;
 
@@ -22,7 +22,7 @@ pub(crate) struct FeederSlot {
 /// A feeder that has ended, and the ring that its rest went into.
 #[derive(Drop)]
 pub(crate) struct EndedFeeder {
-    pub(crate) feed: FeedEnd,
+    pub(crate) feed: BareEnd,
     pub(crate) rest_in: Producer<Buffer>,
     ghost pushed: { messages_of (sent rest_in) ≡ feed.store ∷ [] },
 }

@@ -36,7 +36,7 @@ fn kept_bytes(alloc: Global, listing: &[u8], capture: &[u8]) -> Result<usize, Fa
         if tap.counts().received == u64::MAX {
             break;
         }
-        if tap.arrive(0, place as u64, &packet.as_ref()) == Fed::Rotated {
+        if tap.arrive(0, place as u64, packet) == Fed::Rotated {
             spare = read_hold(&mut tap, spare, &mut kept);
         }
     }

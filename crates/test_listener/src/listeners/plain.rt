@@ -186,7 +186,7 @@ fn bytes_arrive(
     kept: Option<KeptMessage>,
 ) -> Result<(), AllocError> {
     assert!(rt; listener.counts().received < u64::MAX);
-    let fed = listener.arrive(0, place, &packet(bytes));
+    let fed = listener.arrive_ref(0, place, &packet(bytes));
     same(rt, fed, slow.arrive(kept)?);
     Ok(())
 }

@@ -12,13 +12,13 @@ use std::test::Fail;
 use std::thread::{Threads, join, yield_now};
 
 /// Gives all packets of a capture, and ends.
-fn feed(link: &Link, mut feeder: Feeder, packets: &[Packet]) -> (FeedEnd, Buffer)
+fn feed(link: &Link, mut feeder: Feeder, packets: &[Packet]) -> FeedEnd
     requires { feeder.pair ≡ link.now }
-    ensures { result.0.pair ≡ feeder.pair }
+    ensures { result.pair ≡ feeder.pair }
 {
     for (place, packet) in packets.iter().enumerate() {
         if feeder.counts().received < u64::MAX {
-            feeder.arrive(link, 0, place as u64, &packet.as_ref());
+            feeder.arrive(link, 0, place as u64, packet);
         }
     }
     feeder.flush(link);
@@ -70,11 +70,11 @@ fn kept_bytes<R: Threads + Sync>(
     let spare = Buffer::new(alloc, drain.capacity())?;
     let shared = &link;
     let packets = packets.as_slice();
-    let ((feed_end, rest), (drain_end, all)) = join(
+    let (feed_end, (drain_end, all)) = join(
         rt,
-        move || -> (FeedEnd, Buffer)
+        move || -> FeedEnd
             requires { feeder.pair ≡ shared.now }
-            ensures { result.0.pair ≡ feeder.pair }
+            ensures { result.pair ≡ feeder.pair }
         { feed(shared, feeder, packets) },
         move || -> (DrainEnd, usize)
             requires { (drain.pair ≡ shared.now) × (spare ≡ filled drain.profile.capacity []) }
@@ -82,7 +82,10 @@ fn kept_bytes<R: Threads + Sync>(
         { drain_out(shared, drain, spare) },
     );
     let left = settle(link, feed_end, drain_end);
-    Ok(all.wrapping_add(size(&left.hold)).wrapping_add(size(&rest)))
+    Ok(
+        all.wrapping_add(size(&left.hold))
+            .wrapping_add(size(&left.rest)),
+    )
 }
 
 #[test]

@@ -101,7 +101,7 @@ fn feed(
     plan: PairPlan,
     signs: &Signs,
     mut fates: Fates,
-) -> (FeedEnd, Buffer, Fates)
+) -> (FeedEnd, Fates)
     requires { feeder.pair ≡ link.now }
     ensures { result.0.pair ≡ feeder.pair }
 {
@@ -113,15 +113,14 @@ fn feed(
             await_sign(&signs.is_closed);
         }
         if feeder.counts().received != u64::MAX {
-            let fed = feeder.arrive(link, 0, place, &packet());
+            let fed = feeder.arrive_ref(link, 0, place, &packet());
             fates.tell(place, fed);
         }
         if plan.is_slow {
             yield_now();
         }
     }
-    let (feed_end, rest) = feeder.end(link);
-    (feed_end, rest, fates)
+    (feeder.end(link), fates)
 }
 
 /// Appends the places of a buffer's messages.
@@ -176,7 +175,6 @@ fn read_all(
 #[derive(Drop)]
 struct PairOutcome {
     settled: Settled,
-    rest: Buffer,
     fates: Fates,
     /// The places that were read.
     read: Vec<u64>,
@@ -201,9 +199,9 @@ fn play(
         is_closed: AtomicBool::new(false),
     };
     let signs = &both;
-    let ((feed_end, rest, fates), (drain_end, read, ended)) = join(
+    let ((feed_end, fates), (drain_end, read, ended)) = join(
         rt,
-        move || -> (FeedEnd, Buffer, Fates)
+        move || -> (FeedEnd, Fates)
             requires { feeder.pair ≡ shared.now }
             ensures { result.0.pair ≡ feeder.pair }
         { feed(shared, feeder, plan, signs, fates) },
@@ -219,7 +217,6 @@ fn play(
     );
     Ok(PairOutcome {
         settled: settle(link, feed_end, drain_end),
-        rest,
         fates,
         read,
         ended,
@@ -244,14 +241,13 @@ fn run(
 ) -> Result<(Vec<u64>, bool), OpenFault> {
     let PairOutcome {
         settled,
-        rest,
         fates,
         read,
         ended,
     } = play(rt, plan)?;
     let mut kept = read;
     note(&settled.hold, &mut kept);
-    note(&rest, &mut kept);
+    note(&settled.rest, &mut kept);
     assert!(rt; kept.as_slice() == fates.stored.as_slice());
     are_counted(rt, &fates, settled.counts, plan);
     Ok((kept, ended))

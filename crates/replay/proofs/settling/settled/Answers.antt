@@ -25,11 +25,11 @@ pub returns-in_default-clause-report : goal.returns-in_default-clause-report
 returns-in_default-clause-report g c =
     let d = c.args.done in
     let feed = c.args.ending.feed in
-    let s = c.settle-hold.ensures in
+    let s = c.settle_bare-hold.ensures in
     let told = c.report.ensures in
-    let whole = subst (λ p. IsWhole p feed.feeds d.read.drain.takes c.settle-hold.result.hold.messages feed.store c.settle-hold.result.counts) c.requires.profile s.whole in
-    unfinished g.W.Sink.taken g.W.Sink.failures d.task.value feed.feeds d.read.drain.takes c.report.result c.settle-hold.result.counts
-    c.settle-hold.result.hold.messages feed.store
+    let whole = subst (λ p. IsWhole p feed.feeds d.read.drain.takes c.settle_bare-hold.result.hold.messages feed.store c.settle_bare-hold.result.counts) c.requires.profile s.whole in
+    unfinished g.W.Sink.taken g.W.Sink.failures d.task.value feed.feeds d.read.drain.takes c.report.result c.settle_bare-hold.result.counts
+    c.settle_bare-hold.result.hold.messages feed.store
     (subst (λ p. LegalHistory (terms_of p) feed.feeds d.read.drain.takes (merge feed.feeds d.read.drain.takes)) c.requires.profile s.history)
     s.counts.0 s.counts.1
     whole
@@ -42,10 +42,10 @@ returns-clause-report g c =
     let feed = c.args.ending.feed in
     let T = g.W.Sink.taken in
     let F = g.W.Sink.failures in
-    let s = c.settle-hold.ensures in
+    let s = c.settle_bare-hold.ensures in
     let told = c.report-2.ensures in
-    let hold = c.settle-hold.result.hold.messages in
-    let whole = subst (λ p. IsWhole p feed.feeds d.read.drain.takes hold feed.store c.settle-hold.result.counts) c.requires.profile s.whole in
+    let hold = c.settle_bare-hold.result.hold.messages in
+    let whole = subst (λ p. IsWhole p feed.feeds d.read.drain.takes hold feed.store c.settle_bare-hold.result.counts) c.requires.profile s.whole in
     let (f, is, fifo, count) = c.in-Some.ensures.full in
     let (rest-fifo, rest-count) = c.in-Some.ensures.rest in
     let (same, rest-same) = c.left_in.ensures.popped in
@@ -62,7 +62,7 @@ returns-clause-report g c =
     let three = c.write_left-2.ensures o _ two in
     let four = c.flush.ensures o _ three in
     let w = c.flush.new.self in
-    finished T F d.task.value feed.feeds d.read.drain.takes c.report-2.result c.settle-hold.result.counts hold feed.store
+    finished T F d.task.value feed.feeds d.read.drain.takes c.report-2.result c.settle_bare-hold.result.counts hold feed.store
     (subst (λ p. LegalHistory (terms_of p) feed.feeds d.read.drain.takes (merge feed.feeds d.read.drain.takes)) c.requires.profile s.history)
     s.counts.0 s.counts.1 whole told.counts w told.sink
     (as-they-are _ (all-of-contained (λ (m : Message). IsTimely m.nanos) _ (λ m here. All-contains (λ (m : Message). IsTimely m.nanos) _ m c.requires.timely (whole.accepted m here))))

@@ -3,7 +3,7 @@ use Rattle.listener.specs.Messages.{arrival, cut_to}
 use Rattle.handover.specs.declared.calls.Feed.TheVariants.{Arrive}
 use Rattle.handover.proofs.Feeders.{fields_after, matches_most, drops_most, offered, own_run}
 use Rattle.handover.specs.Rule.{known}
-use Rattle.handover.proofs.feeder.Feeder.arrive.Goals as goal
+use Rattle.handover.proofs.feeder.Feeder.arrive_ref.Goals as goal
 
 pub count-requires-clause-ordered : goal.count-requires-clause-ordered
 count-requires-clause-ordered c =

@@ -4,7 +4,7 @@ use Rattle.handover.specs.Own.{store_of}
 use Rattle.handover.specs.Rule.{witness}
 use Rattle.handover.proofs.Steps.{joins, copies}
 use Rattle.handover.proofs.Endings.{ends_well, ends_as, ends_legally, ends_rest, ends_counted, ends_whole}
-use Rattle.handover.proofs.link.settle.Goals as goal
+use Rattle.handover.proofs.link.settle_bare.Goals as goal
 
 pub join_seat-requires : goal.join_seat-requires
 join_seat-requires c = (
