@@ -8,6 +8,7 @@ import sys
 
 from . import hints
 from .common import LIMIT, ROOT, TORN, VETH, WHOLE, as_bytes, case, records
+from .sameness import FAR
 
 sys.path.insert(0, str(ROOT / "bench"))
 import meaning
@@ -256,6 +257,17 @@ def compares_as_the_program_does(scene):
             scene.check(f"{first} and {second}: the packet", packet, f"{int.from_bytes(written[36:40], 'little')} {written[40:].hex()}")
     answers = {line.partition(" ")[0] for line in seen}
     scene.check("answers that are among these", {"SAME", "DIFFER", "NOT_DECIDED"} <= answers, True)
+
+
+@case
+def far_bytes_take_no_memory(scene):
+    """`bpftap_compare` answers what `bpftap compare` does of bytes that are too far away, in 400 MB of addresses."""
+    if is_there(scene) and scene.has("gcc"):
+        scene.start({})
+        program = compiled(scene, ["gcc", "-std=c11", "-O1"], "far")
+        lines = "".join(f"{first}\t{second}\n" for first, second in FAR)
+        ended = subprocess.run(["bash", "-c", 'ulimit -v 400000\nexec "$0"', program], input=lines.encode(), stdout=subprocess.PIPE, timeout=LIMIT)
+        scene.check("far", (ended.stdout.decode(), ended.returncode), ("", 0))
 
 
 def differing(texts, seen, wanted):

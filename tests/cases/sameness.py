@@ -1,8 +1,10 @@
 """`bpftap compare` without a capture: two expressions decided for every packet, and the packet that shows a difference."""
+import os
 import random
+import subprocess
 import sys
 
-from .common import IP, ROOT, VETH, case, fault_lines
+from .common import IP, PROGRAM, ROOT, VETH, case, fault_lines
 
 sys.path.insert(0, str(ROOT / "bench"))
 import filters
@@ -248,6 +250,65 @@ def what_is_not_decided_has_its_cause(scene):
         (deep, "ip proto 6", "an expression has too many levels"),
     ]:
         scene.expect(["compare", first, second], 5, out=f"not decided: {cause}\n")
+
+
+# What asks for a byte so far away that no packet here has it, where its bits would come first: in the places of a shift, in a factor and in
+# an index. An offset below 0 is one past 2^31.
+FAR = [
+    ("1 << ether[2000000000] = 5", "ip"), ("ether[ether[-1]] = 1", "ip"), ("tcp[tcp[-40]] = 1", "tcp"), ("len * ether[2000000000] = 5", "ip"),
+    ("ip[12:4] >> ether[60000000] = 1", "ip"), ("ip[ip[-20]] = 1", "not ip[ip[-20]] != 1"), ("udp[udp[0 - 100]] = 1", "udp"),
+    ("ether[len << ether[100000000]] = 1", "ip"), ("ip", "ether[1 << ether[3000000000:4]] = 1"), ("arp[arp[-15]] = 2", "arp"),
+    ("ether[ether[4294967290:4] + 1] = 1", "ip"), ("tcp[tcp[1000000000] * 2] = 3", "3 = tcp[tcp[1000000000] * 2]"),
+]
+
+# The same in programs: the byte is in X, and shifts A, is multiplied by it, or is the index of a load.
+FAR_PROGRAMS = ["4\n48 0 0 60000000\n7 0 0 0\n108 0 0 0\n22 0 0 0\n", "4\n48 0 0 2000000000\n7 0 0 0\n44 0 0 0\n22 0 0 0\n",
+                "4\n32 0 0 4000000000\n7 0 0 0\n80 0 0 0\n22 0 0 0\n"]
+
+
+@case
+def far_bytes_take_no_memory(scene):
+    """Each is answered at once, in 400 MB of addresses: nothing is as large as an offset."""
+    far, limit = "not decided: a byte at offset 131072 or later may be looked at\n", "ulimit -v 400000"
+    for first, second in FAR:
+        scene.start({})
+        scene.expect(["compare", first, second], 5, out=far, first=limit)
+        scene.expect(["compare", second, first], 5, out=far, first=limit)
+    for listing in FAR_PROGRAMS:
+        scene.start({"far.bpf": listing})
+        scene.expect("compare -f far.bpf ip", 5, out=far, first=limit)
+
+
+def spent(scene, words):
+    """The first line that the program prints, how many seconds of a processor it took, and how many megabytes."""
+    began = subprocess.Popen([PROGRAM, *words], cwd=scene.folder, stdout=subprocess.PIPE)
+    line = began.stdout.read().decode().partition("\n")[0]
+    began.stdout.close()
+    _, _, used = os.wait4(began.pid, 0)
+    began.returncode = 0
+    return line, used.ru_utime + used.ru_stime, used.ru_maxrss / 1024
+
+
+def assigning(cells):
+    """A program that writes each of these cells or does not, by a bit of the packet, and then adds them up."""
+    writes = [line for cell in range(cells) for line in (f"48 0 0 {cell}", "69 0 2 1", f"0 0 0 {cell + 1}", f"2 0 0 {cell}")]
+    sums = [line for cell in range(cells) for line in (f"97 0 0 {cell}", "12 0 0 0")]
+    insns = [*writes, "0 0 0 0", *sums, "21 0 1 5", "6 0 0 1", "6 0 0 0"]
+    return "".join(f"{line}\n" for line in [len(insns), *insns])
+
+
+@case
+def what_is_given_up_is_within_bounds(scene):
+    """What is too large for one attempt and the sixteen after it, for a table of places, or for operations on constants, which take no
+    steps, is given up within twice the time that docs/SPEED.md names, and within its memory."""
+    scene.start({"many.bpf": assigning(11)})
+    constants = " or ".join(f"1{'/1' * 61} = {n}" for n in range(60))
+    for words in (
+        ["ip[8] * len < tcp[6:2]", "not ip[8] * len >= tcp[6:2]"], ["ip[2:2] * ip[4:2] = 12", "12 = ip[2:2] * ip[4:2]"],
+        [f"port 1 or {constants}", f"port 1 or not not ({constants})"], ["-f", "many.bpf", "ip"],
+    ):
+        line, seconds, megabytes = spent(scene, ["compare", *words])
+        scene.check(f"{words}"[:80], (line.partition(":")[0], seconds < 6, megabytes < 100), ("not decided", True, True))
 
 
 @case

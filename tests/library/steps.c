@@ -4,7 +4,7 @@
  *     steps [--json | --answers | --answers-json] LISTENERS SCRIPT CAPTURE..
  *
  * Prints what `bpftap steps` prints, on standard error too, with its exit status; of the answers what `steps -v` prints before the reports.
- * Faults are printed as text in either form; below the fault of one of several captures stands its path. */
+ * Faults are printed as text in either form. */
 #include "check.h"
 #include <bpftap.h>
 
@@ -29,7 +29,7 @@ static const char *owner(uint32_t fault) {
     return NULL;
 }
 
-static void print_fault(struct bpftap_replay replay, char *const *captures, size_t count) {
+static void print_fault(struct bpftap_replay replay) {
     char text[64];
     bpftap_fault_text(replay.fault, replay.place, text, sizeof text);
     /* The two names that the program prints otherwise. */
@@ -40,7 +40,6 @@ static void print_fault(struct bpftap_replay replay, char *const *captures, size
         fprintf(stderr, "bpftap: %s %u %s\n", of, replay.number, text);
     else
         fprintf(stderr, "bpftap: %s\n", text);
-    if (of && !strcmp(of, "Capture") && count > 1) fprintf(stderr, "  %s\n", captures[replay.number]);
 }
 
 int main(int argc, char **argv) {
@@ -66,7 +65,7 @@ int main(int argc, char **argv) {
         fwrite(text, 1, replay.size, stdout);
         free(text);
     }
-    if (replay.fault) print_fault(replay, argv + 3, count);
+    if (replay.fault) print_fault(replay);
     for (int i = 1; i < argc; i++) free((void *)files[i - 1].bytes);
     if (failures) return 9;
     return replay.fault == BPFTAP_OK ? 0 : needed.fault == BPFTAP_NO_ROOM ? 2 : 1;

@@ -69,6 +69,13 @@ impl ComputedCache {
         }
     }
 
+    /// Forgets all calls, and has no entries.
+    pub fn clear(&mut self)
+        ensures { self.new ≡ [] }
+    {
+        self.entries.clear();
+    }
+
     /// An empty cache of twice as many entries.
     pub fn wider(&self) -> Result<ComputedCache, Stop>
         ensures { IfOk result (λ c. (nodes : List Node) → AreResults nodes c) }

@@ -27,6 +27,14 @@ const LEVELS: u32 = 256;
 /// The most entries that the computed cache has.
 const MOST_ENTRIES: usize = 1 << 20;
 
+/// As how many calls a step counts. A call whose result is kept or known at once takes about 1/32
+/// of the time of a step.
+const STEP: u64 = 32;
+
+/// How many calls may be made for each step of a budget, with what its steps count. So a fifth of
+/// them is left if all steps are taken.
+const CALLS: u64 = 40;
+
 /// What may be spent: the nodes of a table, and steps. A step is a call whose result was not kept.
 #[derive(Clone, Copy, Debug, PartialEq, Eq)]
 pub struct Budget {
@@ -42,6 +50,10 @@ pub struct Diagrams {
     cache: ComputedCache,
     order: BitOrder,
     budget: Budget,
+    /// How many calls may still be made.
+    calls: u64,
+    /// As how many nodes the tables count that a caller keeps.
+    aside: usize,
 }
 
 impl Model for Diagrams {
@@ -107,7 +119,20 @@ impl Diagrams {
             cache: ComputedCache::empty(alloc),
             order: BitOrder::natural(alloc),
             budget,
+            calls: budget.steps.saturating_mul(CALLS),
+            aside: 0,
         }
+    }
+
+    /// Takes all nodes away, and sets the order in which the bits of the next ones are asked for.
+    /// The memory of the nodes is kept. What was spent of the budget's steps stays spent.
+    pub fn restart(&mut self, order: BitOrder)
+        ensures { self.new ≡ [] }
+    {
+        self.table.clear();
+        self.cache.clear();
+        self.order = order;
+        self.aside = 0;
     }
 
     /// Sets the order in which bits are asked for. It is to be set before nodes are made: two nodes
@@ -130,6 +155,31 @@ impl Diagrams {
         self.budget
     }
 
+    /// Whether no more node may be made.
+    pub fn is_full(&self) -> bool {
+        self.table.len().saturating_add(self.aside) >= self.budget.nodes
+    }
+
+    /// Says as how many nodes the tables count that a caller keeps.
+    pub fn set_aside(&mut self, nodes: usize)
+        ensures { self.new ≡ self.old }
+    {
+        self.aside = nodes;
+    }
+
+    /// Counts what takes as long as this many calls whose results are kept. The steps are spent if
+    /// that is too much.
+    pub fn count(&mut self, calls: u64) -> Result<(), Stop>
+        ensures { self.new ≡ self.old }
+    {
+        let Some(left) = self.calls.checked_sub(calls) else {
+            self.budget.steps = 0;
+            return Err(Stop::Budget);
+        };
+        self.calls = left;
+        Ok(())
+    }
+
     /// The node at a place.
     pub fn node(&self, place: u32) -> Node
         requires { place < length self.now }
@@ -144,6 +194,7 @@ impl Diagrams {
     fn spend(&mut self) -> Result<(), Stop>
         ensures { self.new ≡ self.old }
     {
+        self.count(STEP)?;
         let Some(left) = self.budget.steps.checked_sub(1) else {
             return Err(Stop::Budget);
         };
@@ -157,7 +208,7 @@ impl Diagrams {
         ensures gives { IfOk result (Gives self.new (node_answer self.old node)) }
         ensures grew { Grew self.old self.new }
     {
-        if self.table.len() >= self.budget.nodes {
+        if self.is_full() {
             return Err(Stop::Budget);
         }
         self.table.place(node)
@@ -358,6 +409,7 @@ impl Diagrams {
         let Some(rest) = levels.checked_sub(1) else {
             return Err(Stop::Budget);
         };
+        self.count(1)?;
         for attempt in 0..u64::MAX {
             let more = (attempt % MORE) as u32;
             let inner = match self.apply_within(call, DEPTH + more)? {

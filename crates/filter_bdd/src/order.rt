@@ -1,16 +1,32 @@
 //! The order in which bits are asked for.
 
+ghost use Rattle.std.specs.Prelude.{◌^◌, ◌≤◌, length, IfOk};
+
 use crate::table::Stop;
 use std::alloc::Global;
+use std::marker::Model;
+
+/// How many bits can have a rank. Those of later names are asked for by their names.
+const RANKED: u32 = 1 << 21;
 
 /// The order in which nodes ask for bits. What a node answers does not depend on it, but how many
 /// nodes there are does: bits that are compared with one another are best asked for in turn.
 #[derive(Drop)]
 pub struct BitOrder {
-    /// When a bit is asked for, by its name.
+    /// By the name of a bit one more than its rank, or 0 if the bit has none.
     ranks: Vec<u32>,
-    /// How many bits are asked for before those that have no entry in `ranks`.
+    /// How many bits are asked for before those that have no rank.
     listed: u32,
+}
+
+impl Model for BitOrder {
+    ghost use Rattle.std.specs.Prelude.{List, ℕ, ◌^◌, ◌≤◌, length};
+
+    ghost Value = { List ℕ };
+
+    ghost view = { λ o. o.ranks.items };
+
+    ghost invariant = { λ o. length o.ranks.items ≤ 2 ^ 21 };
 }
 
 impl BitOrder {
@@ -23,13 +39,13 @@ impl BitOrder {
     }
 
     /// First these bits, as they stand in the list, and then the others by their names. A bit that
-    /// stands there twice has its first place.
+    /// stands there twice has its first place. A bit that cannot have a rank is one of the others.
     pub fn of(alloc: Global, first: &[u32]) -> Result<BitOrder, Stop> {
         let Ok(listed) = u32::try_from(first.len()) else {
             return Err(Stop::Budget);
         };
         let mut order = BitOrder {
-            ranks: ranks_after(alloc, listed, first)?,
+            ranks: unranked(alloc, first)?,
             listed,
         };
         for (rank, name) in (0..listed).zip(first.iter()).rev() {
@@ -38,17 +54,18 @@ impl BitOrder {
         Ok(order)
     }
 
-    /// Says when a bit is asked for, if it has an entry.
+    /// Says when a bit is asked for, if it can have a rank.
     fn set_rank(&mut self, name: u32, rank: u32) {
         if let Some(entry) = self.ranks.get_mut(name as usize) {
-            *entry = rank;
+            *entry = rank.saturating_add(1);
         }
     }
 
     /// When a bit is asked for: a bit of a lower rank is first.
     fn rank(&self, name: u32) -> u32 {
-        match self.ranks.get(name as usize) {
-            Some(rank) => *rank,
+        let entry = self.ranks.get(name as usize).copied().unwrap_or(0);
+        match entry.checked_sub(1) {
+            Some(rank) => rank,
             None => name.saturating_add(self.listed),
         }
     }
@@ -68,16 +85,16 @@ impl BitOrder {
     }
 }
 
-/// The ranks of the bits up to the last one of a list by their names, after `listed` others.
-fn ranks_after(alloc: Global, listed: u32, names: &[u32]) -> Result<Vec<u32>, Stop> {
-    let mut ranks = Vec::new(alloc);
+/// No rank for any bit up to the last one of a list that can have one.
+fn unranked(alloc: Global, names: &[u32]) -> Result<Vec<u32>, Stop>
+    ensures { IfOk result (λ ranks. length ranks.items ≤ 2 ^ 21) }
+{
     let Some(last) = names.iter().copied().max() else {
-        return Ok(ranks);
+        return Ok(Vec::new(alloc));
     };
-    for name in 0..=last {
-        if ranks.push(name.saturating_add(listed)).is_err() {
-            return Err(Stop::Memory);
-        }
+    let count = if last < RANKED { last + 1 } else { RANKED };
+    match vec![in alloc; 0u32; count as usize] {
+        Ok(ranks) => Ok(ranks),
+        Err(_) => Err(Stop::Memory),
     }
-    Ok(ranks)
 }

@@ -83,6 +83,15 @@ impl UniqueTable {
         }
     }
 
+    /// Takes all nodes away. Their memory is kept for new ones.
+    pub fn clear(&mut self)
+        ensures { self.new ≡ [] }
+    {
+        self.nodes.clear();
+        self.before.clear();
+        self.lists.clear();
+    }
+
     /// How many nodes there are.
     pub fn len(&self) -> usize
         ensures { result ≡ length self.now }

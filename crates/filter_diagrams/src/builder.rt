@@ -28,6 +28,15 @@ impl Builder {
         Builder { symbols }
     }
 
+    /// Takes all nodes away, for packets of this header length, and sets the order in which the
+    /// next ones ask for bits. What was spent of the budget's steps stays spent.
+    pub fn restart(&mut self, header: Option<u32>, order: BitOrder)
+        ensures { self.new.symbols.header ≡ header }
+    {
+        self.symbols.header = header;
+        self.symbols.words.diagrams.restart(order);
+    }
+
     /// A node that gives an answer.
     #[tactic(auto, using(crate::proofs::Builders::extends_by))]
     #[inline(never)]

@@ -16,6 +16,9 @@ use bpfvm::{Insn, Program};
 use filter_bdd::Stop;
 use std::alloc::Global;
 
+/// As how many calls on diagrams a visit of a spot counts: it takes as long.
+const VISIT: u64 = 256;
+
 /// What became of a spot.
 #[derive(Clone, Copy)]
 enum Visited {
@@ -84,6 +87,21 @@ impl Builder {
         }
     }
 
+    /// Counts a visit of a spot, and the memory of the spots that are kept.
+    fn count_visit(&mut self, spots: &Spots) -> Result<(), Stop>
+        ensures { Extends self.old.symbols self.new.symbols }
+    {
+        self.symbols.words.diagrams.set_aside(spots.weight());
+        self.symbols.words.diagrams.count(VISIT)
+    }
+
+    /// No spot is kept any more.
+    fn release(&mut self)
+        ensures { Extends self.old.symbols self.new.symbols }
+    {
+        self.symbols.words.diagrams.set_aside(0);
+    }
+
     /// The node of a spot, which is kept, or else a spot after it whose node is not known.
     #[tactic(auto, using(crate::proofs::Builders::extends_more, crate::proofs::Builders::extends_same, crate::proofs::Builders::inside_extended))]
     #[inline(never)]
@@ -98,6 +116,7 @@ impl Builder {
         if let Some(node) = spots.known(spot) {
             return Ok(Visited::Node(node));
         }
+        self.count_visit(spots)?;
         let here = spots.live(spot);
         match self.node_of(spots, insns, &here)? {
             Visited::Node(node) => Ok(Visited::Node(spots.keep(here, node)?)),
@@ -149,16 +168,15 @@ impl Builder {
         }
     }
 
-    /// A node that says what a program says. It is walked from the first instruction on, each place
+    /// A node that says what instructions do. They are walked from the first one on, each place
     /// after those that its run goes on at.
     #[tactic(auto, using(crate::proofs::Builders::extends_more, crate::proofs::Builders::extends_same, crate::proofs::Builders::inside_extended))]
     #[inline(never)]
-    pub fn program(&mut self, alloc: Global, program: &Program) -> Result<u32, Refusal>
+    fn walk(&mut self, alloc: Global, insns: &[Insn]) -> Result<u32, Refusal>
         requires { IfSome self.old.symbols.header (λ n. n < 16) }
-        ensures means { IfOk result (SaysOf self.new.symbols (program_test program.now)) }
+        ensures means { IfOk result (SaysOf self.new.symbols (program_test insns.now)) }
         ensures extends { Extends self.old.symbols self.new.symbols }
     {
-        let insns = program.insns();
         let mut spots = Spots::new(alloc, insns, self.symbols.header.is_some())?;
         let mut waiting = Vec::new(alloc);
         let state = self.initial()?;
@@ -172,5 +190,18 @@ impl Builder {
             spot = after;
         }
         Err(Refusal::Places)
+    }
+
+    /// A node that says what a program says.
+    #[tactic(auto, using(crate::proofs::Builders::extends_more, crate::proofs::Builders::extends_same, crate::proofs::Builders::inside_extended))]
+    pub fn program(&mut self, alloc: Global, program: &Program) -> Result<u32, Refusal>
+        requires { IfSome self.old.symbols.header (λ n. n < 16) }
+        ensures means { IfOk result (SaysOf self.new.symbols (program_test program.now)) }
+        ensures extends { Extends self.old.symbols self.new.symbols }
+    {
+        let insns = program.insns();
+        let node = self.walk(alloc, insns)?;
+        self.release();
+        Ok(node)
     }
 }

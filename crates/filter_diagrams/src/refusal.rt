@@ -16,7 +16,7 @@ pub enum Refusal {
     /// for in a row.
     Budget,
     /// A program is walked at too many places, each with other numbers, or at one without an
-    /// instruction.
+    /// instruction. Or its places and the nodes are too many together.
     Places,
     /// The length of the IPv4 header is asked for, and not given.
     Header,
@@ -47,12 +47,16 @@ impl Refusal {
         if self != Refusal::Budget {
             return self;
         }
-        let left = builder.symbols.words.diagrams.budget();
+        let diagrams = &builder.symbols.words.diagrams;
+        let left = diagrams.budget();
         if left.steps == 0 {
             return Refusal::Steps;
         }
-        if builder.symbols.words.diagrams.len() >= left.nodes {
+        if diagrams.len() >= left.nodes {
             return Refusal::Nodes;
+        }
+        if diagrams.is_full() {
+            return Refusal::Places;
         }
         self
     }

@@ -22,6 +22,9 @@ const MOST_SPOTS: usize = 1 << 15;
 /// The same if one is given: there are sixteen, one after the other.
 const MOST_OF_EACH: usize = 1 << 13;
 
+/// As how many nodes of a diagram a place counts that is kept: it takes as much memory.
+const NODES: usize = 60;
+
 /// A place of a program, and a state there.
 #[derive(Clone, Copy, Debug, PartialEq, Eq)]
 pub(crate) struct Spot {
@@ -82,6 +85,11 @@ impl Spots {
             live: live_of(alloc, insns)?,
             most: if each { MOST_OF_EACH } else { MOST_SPOTS },
         })
+    }
+
+    /// As how many nodes of a diagram the spots count.
+    pub fn weight(&self) -> usize {
+        self.nodes.len().saturating_mul(NODES)
     }
 
     /// The same spot without what is not read again. So places where runs meet are walked once.

@@ -12,7 +12,7 @@ use crate::cut::{cut, cut_header};
 use crate::filters::Filter;
 use crate::ordering::order_of;
 use crate::witness::{Extent, Witness, witness_of};
-use filter_bdd::{Answer, Budget, Operation, Stop};
+use filter_bdd::{Answer, BitOrder, Budget, Operation, Stop};
 use filter_diagrams::{Builder, Refusal};
 use std::alloc::Global;
 
@@ -195,43 +195,39 @@ fn find_filters(
 }
 
 /// Compares two filters on the packets of one header length, or on all if none is given and none
-/// is asked for. It leaves of the budget what was not spent.
+/// is asked for. The builder begins anew with what is left of its budget.
 fn find(
+    builder: &mut Builder,
     alloc: Global,
     header: Option<u32>,
     first: Filter<'_>,
     second: Filter<'_>,
-    budget: &mut Budget,
 ) -> Result<Finding, Refusal>
     requires { IfSome header (λ n. n < 16) }
     ensures { IfOk result (λ found. ClaimsOf header (filter_test first.entry) (filter_test second.entry) found.claim) }
 {
     let order = order_of(alloc, header, first, second)?;
-    let mut builder = Builder::new(alloc, header, *budget, order);
-    match find_filters(&mut builder, alloc, first, second) {
-        Ok(found) => {
-            *budget = builder.symbols.words.diagrams.budget();
-            Ok(found)
-        }
-        Err(refusal) => Err(refusal.of(&builder)),
+    builder.restart(header, order);
+    match find_filters(builder, alloc, first, second) {
+        Ok(found) => Ok(found),
+        Err(refusal) => Err(refusal.of(builder)),
     }
 }
 
 /// The same of all header lengths, one after the other, the usual one first.
 fn find_each(
+    builder: &mut Builder,
     alloc: Global,
     first: Filter<'_>,
     second: Filter<'_>,
-    budget: Budget,
 ) -> Result<Finding, Refusal>
     ensures { IfOk result (λ found. Claims (filter_test first.entry) (filter_test second.entry) found.claim) }
 {
-    let mut left = budget;
     let mut least = Claim::Same;
     let mut shown = None;
     for place in 0..16 {
         let header = Some((place + 5) % 16);
-        let found = find(alloc, header, first, second, &mut left)?;
+        let found = find(builder, alloc, header, first, second)?;
         let Finding { claim, witness } = found;
         if claim == Claim::Nothing {
             return Ok(Finding {
@@ -250,7 +246,8 @@ fn find_each(
     })
 }
 
-/// The same of all packets.
+/// The same of all packets, within one budget. If a filter asks for the header length, nothing is
+/// made before it is given. A program may ask for it only as it is walked.
 #[tactic(auto, using(crate::proofs::Ends::no_header))]
 pub(crate) fn find_all(
     alloc: Global,
@@ -260,9 +257,12 @@ pub(crate) fn find_all(
 ) -> Result<Finding, Refusal>
     ensures { IfOk result (λ found. Claims (filter_test first.entry) (filter_test second.entry) found.claim) }
 {
-    let mut left = budget;
-    match find(alloc, None, first, second, &mut left) {
-        Err(Refusal::Header) => find_each(alloc, first, second, budget),
+    let mut builder = Builder::new(alloc, None, budget, BitOrder::natural(alloc));
+    if first.asks_header() || second.asks_header() {
+        return find_each(&mut builder, alloc, first, second);
+    }
+    match find(&mut builder, alloc, None, first, second) {
+        Err(Refusal::Header) => find_each(&mut builder, alloc, first, second),
         Err(other) => Err(other),
         Ok(found) => Ok(found),
     }

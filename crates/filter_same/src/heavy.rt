@@ -1,12 +1,16 @@
-//! What in a filter takes many nodes, by its form.
+//! What in a filter takes many nodes or the length of the IPv4 header, by its form.
 
 use crate::filters::Filter;
 use bpfvm::Insn;
 use filter_diagrams::{Action, LoadSource, Operand, Register, action_of};
-use filter_tree::{Expr, Operator, Value};
+use filter_tree::headers::ETHER_HDR_LEN;
+use filter_tree::{Expr, Layer, Operator, Primitive, Value};
 
 /// An offset of a layer that is far from its first byte.
 const FAR: u32 = 1 << 16;
+
+/// Where the IPv4 header begins.
+const NETWORK: u32 = ETHER_HDR_LEN as u32;
 
 /// What takes many nodes. Nearly all bits of a product or a quotient rest on nearly all bits of
 /// both operands.
@@ -102,6 +106,31 @@ fn expression_looks_far(expr: &Expr) -> bool {
     }
 }
 
+/// Whether a value has bytes after the IPv4 header.
+fn value_asks_header(value: &Value) -> bool {
+    match value {
+        Value::Number(_) | Value::Length => false,
+        Value::Negation(operand) => value_asks_header(operand),
+        Value::Binary(_, left, right) => value_asks_header(left) || value_asks_header(right),
+        Value::Accessor(layer, index, _) => {
+            matches!(layer, Layer::Tcp | Layer::Udp | Layer::Icmp) || value_asks_header(index)
+        }
+    }
+}
+
+/// Whether an expression asks for the length of the IPv4 header.
+fn expression_asks_header(expr: &Expr) -> bool {
+    match expr {
+        Expr::Everything => false,
+        Expr::Test(asked) => matches!(asked, Primitive::Ports { .. }),
+        Expr::Relation(_, left, right) => value_asks_header(left) || value_asks_header(right),
+        Expr::Not(operand) => expression_asks_header(operand),
+        Expr::And(left, right) | Expr::Or(left, right) => {
+            expression_asks_header(left) || expression_asks_header(right)
+        }
+    }
+}
+
 /// Whether an instruction looks at bytes that may be far from the first one.
 fn instruction_looks_far(insn: &Insn) -> bool {
     match action_of(insn.code) {
@@ -138,6 +167,13 @@ struct Constants {
 }
 
 impl Constants {
+    /// As a run begins. The cells that are not written count as no constants.
+    const INITIAL: Constants = Constants {
+        accumulator: true,
+        index: true,
+        memory: 0,
+    };
+
     /// Whether a register holds one.
     fn has(self, register: Register) -> bool {
         match register {
@@ -199,6 +235,16 @@ impl Constants {
         }
     }
 
+    /// Whether an instruction asks for the length of the IPv4 header: it loads that, or bytes at an
+    /// offset that is no constant, of which most are ones if the length is given.
+    fn asks_header(self, insn: &Insn) -> bool {
+        match action_of(insn.code) {
+            Some(Action::Load(_, LoadSource::HeaderLength)) => insn.k == NETWORK,
+            Some(Action::Load(_, LoadSource::Indirect(_))) => !self.index,
+            _ => false,
+        }
+    }
+
     /// What is heavy of an instruction between the two registers.
     fn heavy_instruction(self, insn: &Insn) -> Option<Heavy> {
         match action_of(insn.code) {
@@ -212,13 +258,21 @@ impl Constants {
     }
 }
 
+/// Whether a program asks for the header length, its instructions taken in turn as if none jumped.
+fn program_asks_header(insns: &[Insn]) -> bool {
+    let mut constants = Constants::INITIAL;
+    for insn in insns {
+        if constants.asks_header(insn) {
+            return true;
+        }
+        constants = constants.after(insn);
+    }
+    false
+}
+
 /// What is heavy in a program, its instructions taken in turn as if none jumped.
 fn heavy_program(insns: &[Insn]) -> Option<Heavy> {
-    let mut constants = Constants {
-        accumulator: true,
-        index: true,
-        memory: 0,
-    };
+    let mut constants = Constants::INITIAL;
     for insn in insns {
         let heavy = constants.heavy_instruction(insn);
         if heavy.is_some() {
@@ -235,6 +289,15 @@ impl Filter<'_> {
         match self {
             Filter::Expression(expr) => heavy_expression(expr),
             Filter::Program(program) => heavy_program(program.insns()),
+        }
+    }
+
+    /// Whether the filter asks for the length of the IPv4 header. An expression does if this says
+    /// so; of a program it is a guess.
+    pub(crate) fn asks_header(self) -> bool {
+        match self {
+            Filter::Expression(expr) => expression_asks_header(expr),
+            Filter::Program(program) => program_asks_header(program.insns()),
         }
     }
 

@@ -83,7 +83,7 @@ fn is_short(first: Verdict, second: Verdict) -> bool
     }
 }
 
-/// How many steps are taken in all for each node that a diagram may have.
+/// How many steps are taken in all, of every header length, for each node that a diagram may have.
 const STEPS: u64 = 2;
 
 /// Whether each of two filters is within limits.
@@ -118,10 +118,11 @@ pub fn decide(
 /// same, whatever they calculate.
 ///
 /// `budget` is how many nodes the diagrams of one header length may have, and half of the steps
-/// that are taken in all. No byte is looked at that is 2^17 bytes or more from the first one, and
-/// at most 32,768 places of a program are walked, or 8,192 for each header length. Expressions have
-/// at most 1,000 levels, of which one of a value counts as eight, and values at most 64; the same
-/// tree twice may have more. `NoMemory` if memory is refused.
+/// that are taken in all; other work counts as steps too, beyond a quarter of their time. No byte
+/// is looked at that is 2^17 bytes or more from the first one, and at most 32,768 places of a
+/// program are walked, or 8,192 for each header length, each of which counts as 60 nodes meanwhile.
+/// Expressions have at most 1,000 levels, of which one of a value counts as eight, and values at
+/// most 64; the same tree twice may have more. `NoMemory` if memory is refused.
 pub fn decide_filters(
     alloc: Global,
     first: Filter<'_>,

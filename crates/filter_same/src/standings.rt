@@ -13,6 +13,10 @@ const BYTES: usize = 4 + 2048;
 /// How many bytes the length on the wire has, which are named before those of the frame.
 pub(crate) const WIRE: u32 = 4;
 
+/// How many bytes are looked at, those of the length on the wire being the first: a field begins at
+/// an offset below 2^17, and has at most four.
+const LOOKED_AT: u32 = WIRE + (1 << 17) + 3;
+
 /// The bytes by which filters distinguish protocols. Their bits are asked for before those that are
 /// compared with one another.
 const KINDS: [u32; 5] = [
@@ -173,10 +177,11 @@ impl Standings {
         Ok(())
     }
 
-    /// The same of one of its fields.
+    /// The same of one of its fields, unless no bit of it is looked at.
     fn index_part(&mut self, part: Part) -> Result<(), Stop> {
         for place in 0..part.bytes.min(8) {
-            if self.indices.push(part.first.saturating_add(place)).is_err() {
+            let byte = part.first.saturating_add(place);
+            if byte < LOOKED_AT && self.indices.push(byte).is_err() {
                 return Err(Stop::Memory);
             }
         }

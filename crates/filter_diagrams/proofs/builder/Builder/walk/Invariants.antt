@@ -1,7 +1,7 @@
 use Rattle.filter_symbols.specs.Symbols.{Extends}
 use Rattle.filter_diagrams.specs.States.{AreWords, IsInitial}
 use Rattle.filter_diagrams.specs.Walks.{AreNodes, AreSpots}
-use Rattle.filter_diagrams.proofs.builder.Builder.program.Given as goal
+use Rattle.filter_diagrams.proofs.builder.Builder.walk.Given as goal
 
 abbrev pub invariant-loop : goal.invariant-loop
 invariant-loop l = record {
