@@ -42,6 +42,7 @@ COMMANDS = [
     f"compare -f ip.bpf {EXPRESSION} in.pcap",
     f"cut -s 64 -c -e {EXPRESSION} in.pcap out.pcap",
     "cut -s 64 -c -f ip.bpf in.pcap out.pcap",
+    "cut -s 64 --bytes 24-84 -e arp in.pcap out.pcap",
     "split lines.txt in.pcap",
     "split --json lines.txt in.pcap",
     "steps listeners.txt script.txt in.pcap",
@@ -170,8 +171,9 @@ def memory_that_the_system_wants_is_a_fault_of_the_file(scene):
     refused += [(words, path, "read", part) for words, path, part in READ_WHOLE]
     refused += [(f"{words} in.pcap{out}", "in.pcap", OPEN, '"in.pcap"') for words, out in [("cut -s 0", " out.pcap"), ("explain -e ip", "")]]
     for words, path, name, part in refused:
+        number = call_on(scene, words, name, part)
         scene.start(FILES)
-        inject = f"strace -qq -o calls -e trace={name} -e inject={name}:error=ENOMEM:when={call_on(scene, words, name, part)}"
+        inject = f"strace -qq -o calls -e trace={name} -e inject={name}:error=ENOMEM:when={number}"
         seen = scene.run(f"--hints {words}", first=f'exec {inject} "$0" "$@"')
         wanted = f"bpftap: Device {path}\n  {NO_MEMORY} (os error 12)\n"
         scene.check(f"standard error of {words}, {name} of {path} refused", (seen.out, seen.err.decode(), seen.status), (b"", wanted, 3))

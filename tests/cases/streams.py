@@ -2,6 +2,7 @@
 import itertools
 import os
 import select
+import shutil
 import subprocess
 
 from .common import ALL, HEADER, IP, LIMIT, PROGRAM, TCP_RECORD, TORN, UDP_RECORD, WHOLE, Seen, as_bytes, can_trace, case, fault_lines, header, words_of
@@ -11,7 +12,9 @@ FILES = {
     "all.bpf": ALL, "l.txt": "32 64\n", "s.txt": "arrive\n", "r.txt": "0 0 0 1048576 2 out.pcap\n",
     "whole.pcap": WHOLE, "torn.pcap": TORN,
 }
+PART = "24-54 of 54 packets 1 kept 1 bytes 54 Clean whole.pcap\n"
 FULL = "Device standard output"
+UNKNOWN = "Device /dev/stdout"
 RAN = "interface 0 listener 0 received 1 matched 1 dropped 0 written 1 Clean\n"
 
 # The words, what is printed, the faults, the status, and OUT.
@@ -27,6 +30,21 @@ COMMANDS = [
 ]
 
 
+# The program in a system without /dev and /proc, in place of which there is nothing, with redirections in a shell's notation.
+HIDING = 'for hidden in /dev /proc; do mount -t tmpfs none $hidden || exit 99; done; exec "$0" "$@"'
+OWN = ["unshare", "--mount"] if os.geteuid() == 0 else ["unshare", "--user", "--map-root-user", "--mount"]
+
+
+def can_hide():
+    """Whether `unshare` is there, and /dev and /proc may be hidden."""
+    return shutil.which("unshare") is not None and subprocess.run([*OWN, "bash", "-c", HIDING, "true"], capture_output=True).returncode == 0
+
+
+def hidden(streams=""):
+    """The commands after which a scene runs the program where nothing is in /dev and /proc."""
+    return f"exec {' '.join(OWN)} bash -c '{HIDING} {streams}' \"$0\" \"$@\""
+
+
 def closings():
     """Each combination of closed standard streams: its redirections, and whether output and error are among them."""
     streams = ["<&-", ">&-", "2>&-"]
@@ -34,17 +52,67 @@ def closings():
         yield " ".join(text for text, is_closed in zip(streams, closed) if is_closed), closed[1], closed[2]
 
 
-@case
-def no_file_gets_what_is_printed(scene):
-    """With each combination of closed streams OUT has only the packets, and the status says what is not printed."""
+def check_closings(scene, commands, call):
+    """What each combination of closed streams changes of what is printed and reported, and of the files. `call` says how redirections are made."""
     for streams, no_out, no_err in closings():
-        for words, printed, faults, status, files in COMMANDS:
+        for words, printed, faults, status, files in commands:
             scene.start(FILES)
             before = scene.files()
             if no_out and printed:
                 printed, faults, status = "", [FULL, *faults], 3
-            scene.expect(words, status, "" if no_err else fault_lines(*faults), printed, streams)
+            scene.expect(words, status, "" if no_err else fault_lines(*faults), printed, **call(streams))
             scene.check(f"files after {words} {streams}", scene.files(), {**before, **files})
+
+
+@case
+def no_file_gets_what_is_printed(scene):
+    """With each combination of closed streams OUT has only the packets, and the status says what is not printed."""
+    check_closings(scene, COMMANDS, lambda streams: {"streams": streams})
+
+
+# The same where `/dev/stdout` leads nowhere: no file can be compared with standard output.
+HIDDEN = [(words, "", [UNKNOWN], 3, {}) if words.startswith(("steps", "run")) else (words, *rest) for words, *rest in COMMANDS]
+
+
+@case
+def nothing_gets_what_is_printed_without_dev(scene):
+    """So it is where /dev and /proc are not there, as in a new root, and commands that print beside files are refused."""
+    if not can_hide():
+        return scene.leave("/dev and /proc can't be hidden")
+    check_closings(scene, HIDDEN, lambda streams: {"first": hidden(streams)})
+
+
+@case
+def nothing_is_done_if_a_closed_stream_is_not_kept(scene):
+    """One of the three opens that take the numbers of closed streams is refused: its stream is reported, with status 3, and nothing is done."""
+    if not can_trace():
+        return scene.leave("strace can't trace here")
+    for streams, _, no_err in closings():
+        for call, name in enumerate(["/dev/stdin", "/dev/stdout", "/dev/stderr"], 1):
+            tracing = f"strace -qq -o /dev/null -P / -e trace=open,openat -e inject=open,openat:error=EMFILE:when={call}"
+            first = f"exec {tracing} bash -c 'exec \"$0\" \"$@\" {streams}' \"$0\" \"$@\""
+            for words in ["run r.txt whole.pcap", "check ip"]:
+                scene.start(FILES)
+                before = scene.files()
+                scene.expect(words, 3, "" if no_err else fault_lines(f"Device {name}"), first=first)
+                scene.check(f"files after {words} {streams}, open {call} refused", scene.files(), before)
+
+
+@case
+def a_closed_stream_is_no_out(scene):
+    """An OUT that is named as a stream which is closed can't be made: that is reported, with status 3."""
+    scene.put({**FILES, "stdout.txt": "0 /dev/stdout\n", "ran.txt": "0 0 0 1048576 2 /dev/stdout\n"})
+    scene.put({"part.txt": scene.run("cut -s 0 --bytes 24-54 whole.pcap part.pcap").out})
+    for words in ["cut -s 0 whole.pcap", "cut -s 0 torn.pcap", "cut -s 0 --bytes 24-54 whole.pcap", "join part.txt"]:
+        for path in ["/dev/stdout", "/dev/fd/1", "/proc/self/fd/1"]:
+            scene.expect(f"{words} {path}", 3, fault_lines(f"Device {path}"), streams=">&-")
+    scene.expect("cut -s 0 -w /dev/stdout whole.pcap whole.pcap", 3, fault_lines("Device /dev/stdout"), streams=">&-")
+    scene.expect("split stdout.txt whole.pcap", 3, fault_lines("Device /dev/stdout"), streams=">&-")
+    scene.expect("run ran.txt whole.pcap", 3, fault_lines(FULL), streams=">&-")
+    scene.expect("cut -s 0 whole.pcap /dev/stderr", 3, streams="2>&-")
+    scene.expect("cut -s 0 /dev/stdin out.pcap", 3, fault_lines("Device /dev/stdin"), streams="<&-")
+    # Nothing is lost where nothing was asked for.
+    scene.expect("cut -s 0 whole.pcap /dev/null", streams=">&-")
 
 
 @case
@@ -68,7 +136,7 @@ def a_full_device_is_reported(scene):
     scene.put({"tu.pcap": HEADER + TCP_RECORD + UDP_RECORD})
     for words in ["check ip", "steps l.txt s.txt whole.pcap"]:
         scene.expect(words, 3, fault_lines(FULL), streams=">/dev/full")
-    scene.expect("run two.txt tu.pcap torn.pcap", 3, fault_lines(FULL, "Interface 0 Capture 1 TornRecord 1\n  torn.pcap"), streams=">/dev/full")
+    scene.expect("run two.txt tu.pcap torn.pcap", 3, fault_lines(FULL, "Interface 0 Capture 1 TornRecord 1"), streams=">/dev/full")
     scene.check("one OUT", scene.read("tcp.pcap"), header(64) + TCP_RECORD)
     scene.check("the other OUT", scene.read("all.pcap"), HEADER + TCP_RECORD + UDP_RECORD + WHOLE[24:])
 
@@ -158,7 +226,14 @@ SHARED = [
     ("compare ip arp whole.pcap", ">>whole.pcap", "whole.pcap"),
     ("check -f all.bpf", ">>all.bpf", "all.bpf"),
     ("check -d -f ./all.bpf", ">>all.bpf", "./all.bpf"),
+    ("explain -c -e ip whole.pcap", ">>whole.pcap", "whole.pcap"),
+    ("info whole.pcap", ">>whole.pcap", "whole.pcap"),
+    ("parts 2 whole.pcap", ">>whole.pcap", "whole.pcap"),
+    ("join part.txt out.pcap", ">>whole.pcap", "whole.pcap"),
+    ("cut -s 0 --bytes 24-54 whole.pcap out.pcap", ">>out.pcap", "out.pcap"),
+    ("split lines.txt whole.pcap", ">>out.pcap", "out.pcap"),
 ]
+SHARED_FILES = {**FILES, "stdout.txt": "0 0 0 1048576 2 /dev/stdout\n", "lines.txt": "0 out.pcap\n", "part.txt": PART, "out.pcap": "kept"}
 
 
 # Words whose OUT, or FILE of `-p`, is standard input by each of its names, and what the fault names.
@@ -190,9 +265,52 @@ def no_output_is_standard_input(scene):
 
 
 @case
+def commands_that_print_are_refused_without_proc(scene):
+    """Where nothing is in /dev and /proc, no command prints into a file that it reads or writes."""
+    if not can_hide():
+        return scene.leave("/dev and /proc can't be hidden")
+    scene.put(SHARED_FILES)
+    before = scene.files()
+    for words, streams, _ in SHARED:
+        scene.expect(words, 3, fault_lines(UNKNOWN), first=hidden(streams))
+        scene.check(f"files after {words} {streams}", scene.files(), before)
+
+
+@case
+def a_stream_that_is_not_known_is_refused(scene):
+    """The system does not say where standard output goes: that is reported, with status 3, and nothing is printed or written."""
+    if not can_trace():
+        return scene.leave("strace can't trace here")
+    scene.put(SHARED_FILES)
+    before = scene.files()
+    for words in ["explain -c -e ip whole.pcap", "split lines.txt whole.pcap"]:
+        for error in ["EIO", "EACCES"]:
+            inject = f"strace -qq -o /dev/null -P /dev/stdout -e trace=statx -e inject=statx:error={error}"
+            scene.expect(words, 3, fault_lines(UNKNOWN), first=f'exec {inject} "$0" "$@"')
+            scene.check(f"files after {words}, {error}", scene.files(), before)
+
+
+@case
+def an_interrupted_look_is_taken_again(scene):
+    """A signal interrupts one call of statx after the other: all is as it is undisturbed."""
+    if not can_trace():
+        return scene.leave("strace can't trace here")
+    for words in ["cut -s 0 whole.pcap out.pcap", "explain -e ip whole.pcap", "cut -s 0 --bytes 24-54 whole.pcap out.pcap", "parts 1 whole.pcap",
+                  "join part.txt out.pcap", "run r.txt whole.pcap"]:
+        scene.start({**FILES, "part.txt": PART})
+        whole = scene.run(words, first='exec strace -qq -o calls -e trace=statx "$0" "$@"')
+        written, calls = scene.read("out.pcap"), len(scene.read("calls").splitlines())
+        scene.check(f"calls of {words}", calls > 3, True)
+        for call in range(1, calls + 1):
+            scene.start({**FILES, "part.txt": PART})
+            seen = scene.run(words, first=f'exec strace -qq -o calls -e trace=statx -e inject=statx:error=EINTR:when={call} "$0" "$@"')
+            scene.check(f"{words}, call {call} of statx interrupted", (seen, scene.read("out.pcap")), (whole, written))
+
+
+@case
 def a_stream_is_a_file_too(scene):
     """Standard output goes to no OUT and to no file that is read, and standard error to no OUT."""
-    scene.put({**FILES, "stdout.txt": "0 0 0 1048576 2 /dev/stdout\n", "out.pcap": "kept"})
+    scene.put(SHARED_FILES)
     before = scene.files()
     for words, streams, path in SHARED:
         scene.expect(words, 1, fault_lines(f"SameFile {path}"), streams=streams)

@@ -20,7 +20,6 @@ use cli_count::command::count_command;
 use cli_cut::command::{check_command, cut_command};
 use cli_cut::part::cut_part_command;
 use cli_explain::command::explain_command;
-use cli_files::late::reserve_std_fd;
 use cli_filter_hints::quotes::{hint_filter_word, hint_listing_word, hint_unquoted};
 use cli_graph::command::graph_command;
 use cli_info::command::info_command;
@@ -36,6 +35,7 @@ use cli_run::command::{NamesFiles, run_command};
 use cli_split::command::split_command;
 use cli_steps::command::steps_command;
 use cli_text::Status;
+use cli_text::report::EscapedPath;
 use cli_watch::Screen;
 use cli_watch::output::PrintSink;
 use filter_spots::is_word;
@@ -55,9 +55,6 @@ pub fn run<
     O: PrintSink,
     W: Write,
 >(rt: &R, words: &[S], out: &mut O, err: &mut ErrorStream<W>) -> Status {
-    let _input = reserve_std_fd(rt);
-    let _output = reserve_std_fd(rt);
-    let _error = reserve_std_fd(rt);
     let status = dispatch(rt, words, out, err);
     if status == Status::Failed {
         hint_failed_words(words, err);
@@ -100,7 +97,7 @@ fn dispatch<
             let status = cut(rt, &asked, out, err);
             if status == Status::Clean || status == Status::Damaged {
                 hint_dash_output(asked.output, err);
-                hint_expression_as_output(asked.output, err);
+                hint_expression_as_output(&asked, err);
             }
             hint_several(rt.alloc(), words, asked.inputs.as_slice(), status, err)
         }
@@ -239,7 +236,7 @@ fn split<R: Files + AllocGlobal + Screen, O: Write, W: Write>(
 
 /// `parts`.
 #[inline(never)]
-fn parts<R: Files + AllocGlobal, O: Write, W: Write>(
+fn parts<R: Files + AllocGlobal + Screen, O: Write, W: Write>(
     rt: &R,
     words: &PartsWords<'_>,
     out: &mut O,
@@ -321,11 +318,16 @@ fn report_usage<S: AsStr, O: Write, E: HintSink>(
     status
 }
 
-/// A hint on an OUT of `cut` that looks like an expression.
-fn hint_expression_as_output<E: HintSink>(output: &str, err: &mut E) {
-    if output.contains(' ') && begins_with_word(output) {
+/// A hint on an OUT of `cut` that looks like an expression: several words, or one where no filter
+/// is given.
+fn hint_expression_as_output<E: HintSink>(words: &CutWords<'_>, err: &mut E) {
+    let has_filter = words.expr.is_some() || words.listing.is_some();
+    if begins_with_word(words.output) && (words.output.contains(' ') || !has_filter) {
         give_hint(
-            "the packets are in a file of this name: an expression goes after -e",
+            format_args!(
+                "the packets are in a file named {}: an expression goes after -e",
+                EscapedPath(words.output)
+            ),
             err,
         );
     }

@@ -1,23 +1,14 @@
 //! Files that are opened or made when they are needed first.
 
-ghost use Rattle.std.specs.Prelude.{◌≡◌, true, IsErr, IfOk, IfErr, option_and_then};
+ghost use Rattle.std.specs.Prelude.{◌≡◌, true, IsErr, IfErr, OnErr, option_and_then};
 ghost use Rattle.std.specs.Io.{ReadsAtMost, WritesAtMost};
-ghost use Rattle.std.specs.Io.KnownBytes.{Keeps, WriteAppends};
+ghost use Rattle.std.specs.Io.KnownBytes.{Keeps, ReadConsumes, WriteAppends};
+ghost use Rattle.cli_files.specs.Late.{left_of};
 
 use crate::retried::Retried;
 use std::fs::Files;
 use std::io::{ErrorKind, Read, Write};
 use std::{fs, io};
-
-/// A read here is empty, and nothing can be written, since it is opened only for reading.
-const NULL_DEVICE: &str = "/dev/null";
-
-/// Opens the null device, which takes the number of the first standard stream that is closed; if
-/// none is, another number does no harm. While three are held, no file that is opened gets a
-/// stream's number, so no report of a fault goes into a file.
-pub fn reserve_std_fd<R: Files>(rt: &R) -> Option<R::File> {
-    fs::open(rt, NULL_DEVICE).ok()
-}
 
 /// A file that is made at its first write, so that what was there stays if nothing is written. Once
 /// a call has failed, or taken nothing of what it was given, every later one fails and touches
@@ -98,16 +89,9 @@ impl<R: Files> Write for LateFile<'_, '_, R> {
 pub struct LateInput<'r, 'p, R: Files> {
     rt: &'r R,
     path: &'p str,
-    state: InputState<Retried<R::File>>,
-}
-
-/// What became of a file that is read.
-#[derive(Drop)]
-enum InputState<F> {
-    Unopened,
-    Opened(F),
-    Ended,
-    Failed,
+    file: Option<Retried<R::File>>,
+    ended: bool,
+    failed: bool,
 }
 
 impl<'r, 'p, R: Files> LateInput<'r, 'p, R> {
@@ -115,41 +99,65 @@ impl<'r, 'p, R: Files> LateInput<'r, 'p, R> {
         LateInput {
             rt,
             path,
-            state: InputState::Unopened,
+            file: None,
+            ended: false,
+            failed: false,
         }
     }
 
     /// Opens the file at once.
     pub fn opened(rt: &'r R, path: &'p str) -> io::Result<Self> {
-        let file = Retried::new(fs::open(rt, path)?);
+        let file = Some(Retried::new(fs::open(rt, path)?));
         Ok(LateInput {
             rt,
             path,
-            state: InputState::Opened(file),
+            file,
+            ended: false,
+            failed: false,
         })
     }
 
     fn open_and_read(&mut self, to: &mut [u8]) -> io::Result<usize>
-        ensures { ReadsAtMost result to.new }
+        ensures bound { ReadsAtMost result to.new }
+        ensures bytes { ReadConsumes (option_and_then (λ file. R.File.remaining file.inner) self.old.file) (option_and_then (λ file. R.File.remaining file.inner) self.new.file) result to.new }
+        ensures same { (self.new.ended ≡ self.old.ended) × (self.new.failed ≡ self.old.failed) }
     {
-        if let InputState::Unopened = self.state {
-            self.state = InputState::Opened(Retried::new(fs::open(self.rt, self.path)?));
+        if self.file.is_none() {
+            self.file = Some(Retried::new(fs::open(self.rt, self.path)?));
         }
-        match &mut self.state {
-            InputState::Opened(file) => file.read(to),
-            InputState::Failed => Err(io::Error::from(ErrorKind::Other)),
-            _ => Ok(0),
+        match &mut self.file {
+            Some(file) => file.read(to),
+            None => Err(io::Error::from(ErrorKind::Other)),
         }
     }
 }
 
 impl<R: Files> Read for LateInput<'_, '_, R> {
-    fn read(&mut self, to: &mut [u8]) -> io::Result<usize> {
+    // What the file has left, once it is open, and nothing once it has ended.
+    ghost remaining = { λ late. left_of (option_and_then (λ file. R.File.remaining file.inner) late.file) late.ended };
+
+    fn read(&mut self, to: &mut [u8]) -> io::Result<usize>
+        ensures bound { ReadsAtMost result to.new }
+        ensures bytes { ReadConsumes (left_of (option_and_then (λ file. R.File.remaining file.inner) self.old.file) self.old.ended) (left_of (option_and_then (λ file. R.File.remaining file.inner) self.new.file) self.new.ended) result to.new }
+        // After a failure each call fails.
+        ensures refused { self.old.failed ≡ true → IsErr result }
+        ensures failed { OnErr result (self.new.failed ≡ true) }
+        ensures stays { self.old.failed ≡ true → self.new.failed ≡ true }
+    {
+        if self.failed {
+            return Err(io::Error::from(ErrorKind::Other));
+        }
+        if self.ended {
+            return Ok(0);
+        }
         let read = self.open_and_read(to);
         match &read {
-            Ok(0) if !to.is_empty() => self.state = InputState::Ended,
+            Ok(0) if !to.is_empty() => {
+                self.ended = true;
+                self.file = None;
+            }
             Ok(_) => {}
-            Err(_) => self.state = InputState::Failed,
+            Err(_) => self.failed = true,
         }
         read
     }

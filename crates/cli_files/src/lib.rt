@@ -8,3 +8,4 @@ pub mod paths;
 pub mod piped;
 pub mod reading;
 pub mod retried;
+pub mod streams;

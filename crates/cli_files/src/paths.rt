@@ -8,6 +8,7 @@ ghost use Rattle.cli_text.specs.declared.status.Status.TheVariants.{Refused};
 ghost use Rattle.cli_files.specs.Paths.{IsPathReport, IsPathStatus};
 
 use crate::reading::report_io;
+use crate::retried::{metadata, symlink_metadata};
 use cli_report::HintSink;
 use cli_report::stream::give_hint;
 use cli_text::Status;
@@ -21,11 +22,11 @@ use std::os::unix::fs::{FileTypeExt, MetadataExt};
 use std::{fs, io};
 
 /// The names of the streams that the program reads, prints and reports on.
-const STANDARD_INPUT: &str = "/dev/stdin";
+pub(crate) const STANDARD_INPUT: &str = "/dev/stdin";
 
 pub const STANDARD_OUTPUT: &str = "/dev/stdout";
 
-const STANDARD_ERROR: &str = "/dev/stderr";
+pub(crate) const STANDARD_ERROR: &str = "/dev/stderr";
 
 /// The system follows no more symbolic links than these.
 const MAX_LINKS: usize = 40;
@@ -127,7 +128,7 @@ fn is_no_way(error: &io::Error) -> bool {
 
 /// The file at a path, with symbolic links followed; nothing if no way leads to it.
 fn metadata_of<R: Files>(rt: &R, path: &str) -> io::Result<Option<Metadata>> {
-    match fs::metadata(rt, path) {
+    match metadata(rt, path) {
         Ok(metadata) => Ok(Some(metadata)),
         Err(error) if is_no_way(&error) => Ok(None),
         Err(error) => Err(error),
@@ -145,7 +146,7 @@ fn folder_and_name(path: &str) -> (&str, &str) {
 
 /// Where the symbolic link at a path leads; nothing if there is none.
 fn link_target<R: Files + AllocGlobal>(rt: &R, path: &str) -> io::Result<Option<String>> {
-    match fs::symlink_metadata(rt, path) {
+    match symlink_metadata(rt, path) {
         Ok(metadata) if metadata.is_symlink() => {}
         Ok(_) => return Ok(None),
         Err(error) if is_no_way(&error) => return Ok(None),
@@ -221,6 +222,15 @@ fn is_missing<'a, R: Files>(rt: &R, path: &'a str) -> Result<bool, PathFault<'a>
     }
 }
 
+/// The regular file or pipe that standard output goes to. If the system does not say, nothing can be
+/// compared with it.
+fn output_file<'a, R: Files>(rt: &R, name: &'a str) -> Result<Option<Target>, PathFault<'a>> {
+    match metadata(rt, name) {
+        Ok(metadata) => Ok(lost_file(&metadata)),
+        Err(error) => Err(PathFault::Unknown(name, error)),
+    }
+}
+
 /// The regular file or pipe that standard input comes from. Who writes to that pipe waits for what
 /// was written there.
 fn input_file<R: Files>(rt: &R) -> Result<Option<Target>, PathFault<'static>> {
@@ -268,7 +278,7 @@ impl<'a> Taken<'a> {
         paths: &[&'a str],
     ) -> Result<(), PathFault<'a>> {
         let standard_output = match standard_output {
-            Some(path) => named_target(rt, path)?,
+            Some(name) => output_file(rt, name)?,
             None => None,
         };
         for path in paths {
@@ -353,8 +363,8 @@ pub fn report_path<E: HintSink>(fault: &PathFault<'_>, err: &mut E) -> Status
 ///
 /// Two paths are one file if they lead to one regular file or fifo, or to one new file; one that is
 /// read and one that is written also if they have the same text. `standard_output` is its path, if
-/// the command prints there. With [`Opening::First`] a path that is read and leads to nothing is
-/// skipped: the command can't open it.
+/// the command prints there: then it has to lead somewhere, since what can't be compared is refused. With [`Opening::First`] a path that is read and leads to
+/// nothing is skipped: the command can't open it.
 pub fn check_shared_files<'a, R: Files + AllocGlobal>(
     rt: &R,
     opening: Opening,

@@ -2,7 +2,8 @@
 
 ghost use Rattle.std.specs.Prelude.{◌≡◌, ◌↔◌, ◌⊎◌, ◌≤◌, IfOk, IfErr, IsTrue, vec_len};
 ghost use Rattle.cli_text.specs.declared.status.Status.TheVariants.{Failed, Refused};
-ghost use Rattle.fault_report.specs.Reports.{TellsOne};
+ghost use Rattle.cli_text.specs.Telling.{print_status_of};
+ghost use Rattle.fault_report.specs.Reports.{IsNoMemory, TellsMore, TellsOne};
 ghost use Rattle.cli_files.specs.Reading.{IsFileReport, IsLongTextReport, IsRefusedMemory};
 
 use crate::retried::Retried;
@@ -12,7 +13,7 @@ use cli_report::stream::give_hint;
 use cli_text::Status;
 use cli_text::report::EscapedPath;
 use fault_report::Report;
-use fault_report::reporting::{report_device, report_fault, report_memory};
+use fault_report::reporting::{report_device, report_fault, report_memory, report_output};
 use std::fs::Files;
 use std::io::{ErrorKind, Read};
 use std::{fs, io};
@@ -40,6 +41,21 @@ pub fn report_io<E: HintSink>(error: &io::Error, path: &str, err: &mut E) -> Sta
         let status = report_device(path, err);
         hint_reason(error, err);
         status
+    }
+}
+
+/// Reports that memory for what is printed was refused, or that standard output failed, if one did;
+/// returns the exit status of printing. If nobody reads what is printed any more, it reports nothing.
+pub fn report_printed<E: HintSink>(printed: &io::Result<()>, err: &mut E) -> Status
+    ensures refused { IfErr printed.now (λ error. IsRefusedMemory error → result ≡ Refused) }
+    ensures no_memory { IfErr printed.now (λ error. IsRefusedMemory error → TellsOne E.takes_hints E.failed E.contents E.fault_form IsNoMemory err.old err.new) }
+    ensures printed { IfOk printed.now (λ _. result ≡ print_status_of printed.now) }
+    ensures failed { IfErr printed.now (λ error. (IsRefusedMemory error → ⊥) → result ≡ print_status_of printed.now) }
+    ensures more { TellsMore E.takes_hints E.failed E.contents E.fault_form err.old err.new }
+{
+    match printed {
+        Err(error) if is_refused_memory(error) => report_memory(err),
+        _ => report_output(printed, err),
     }
 }
 

@@ -5,8 +5,9 @@ ghost use Rattle.std.specs.Io.{ReadsAtMost, WritesAtMost};
 ghost use Rattle.std.specs.Io.KnownBytes.{ReadConsumes, WriteAppends};
 ghost use Rattle.std.specs.IoError.{error_kind};
 
-use std::io;
+use std::fs::{Files, Metadata, OpenFile};
 use std::io::{ErrorKind, Read, Write};
+use std::{fs, io};
 
 /// A reader or a writer whose calls are made again if a signal interrupted them: that is no fault
 /// of a device.
@@ -24,7 +25,7 @@ impl<T> Retried<T> {
 }
 
 /// Whether a signal interrupted a call.
-fn is_broken_off(error: &io::Error) -> bool
+pub(crate) fn is_broken_off(error: &io::Error) -> bool
     ensures { IsTrue result ↔ (error_kind error.now ≡ ErrorKind.Interrupted) }
 {
     error.kind() == ErrorKind::Interrupted
@@ -68,4 +69,43 @@ impl<T: Write> Write for Retried<T> {
     fn flush(&mut self) -> io::Result<()> {
         self.inner.flush()
     }
+}
+
+/// What is at a path, with symbolic links followed.
+pub fn metadata<R: Files>(rt: &R, path: &str) -> io::Result<Metadata>
+    ensures { IfErr result (λ error. error_kind error ≢ ErrorKind.Interrupted) }
+{
+    for _ in 0..u64::MAX {
+        match fs::metadata(rt, path) {
+            Err(error) if is_broken_off(&error) => {}
+            found => return found,
+        }
+    }
+    Err(io::Error::from(ErrorKind::TimedOut))
+}
+
+/// What is at a path, be it a symbolic link.
+pub fn symlink_metadata<R: Files>(rt: &R, path: &str) -> io::Result<Metadata>
+    ensures { IfErr result (λ error. error_kind error ≢ ErrorKind.Interrupted) }
+{
+    for _ in 0..u64::MAX {
+        match fs::symlink_metadata(rt, path) {
+            Err(error) if is_broken_off(&error) => {}
+            found => return found,
+        }
+    }
+    Err(io::Error::from(ErrorKind::TimedOut))
+}
+
+/// What an open file is.
+pub fn open_metadata<F: OpenFile>(file: &F) -> io::Result<Metadata>
+    ensures { IfErr result (λ error. error_kind error ≢ ErrorKind.Interrupted) }
+{
+    for _ in 0..u64::MAX {
+        match file.metadata() {
+            Err(error) if is_broken_off(&error) => {}
+            found => return found,
+        }
+    }
+    Err(io::Error::from(ErrorKind::TimedOut))
 }

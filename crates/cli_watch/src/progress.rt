@@ -1,13 +1,14 @@
 //! How far the reading of captures is, in a line on the terminal.
 
 use crate::screen::Screen;
+use cli_files::retried::metadata;
 use line_text::Line;
 use std::fmt::{Display, Formatter};
 use std::fs::Files;
 use std::sync::atomic::Ordering::SeqCst;
 use std::sync::atomic::{AtomicBool, AtomicU64, AtomicUsize};
 use std::time::{Duration, Instant};
-use std::{fmt, fs, io, str};
+use std::{fmt, io, str};
 
 /// How long a command reads before the line is drawn first.
 const FIRST_MILLIS: u64 = 1_000;
@@ -45,7 +46,8 @@ impl Display for Tenths {
     }
 }
 
-/// How far the reading is: `12.4 of 50.0 GB, 18 s, 3.1 M packets`.
+/// How far the reading is: `12.4 of 50.0 GB, 18 s, 3.1 M packets`, or without packets if none were
+/// read.
 #[derive(Clone, Copy, Debug, Drop, PartialEq, Eq)]
 pub struct ProgressText {
     /// How many bytes were read.
@@ -69,16 +71,19 @@ impl Display for ProgressText {
             number: self.total,
             unit,
         };
-        write!(f, "{read} of {total} {name}, {} s, ", self.seconds)?;
+        write!(f, "{read} of {total} {name}, {} s", self.seconds)?;
+        if self.packets == 0 {
+            return Ok(());
+        }
         match unit_of(&PACKET_UNITS, self.packets) {
             Some((unit, name)) => {
                 let packets = Tenths {
                     number: self.packets,
                     unit,
                 };
-                write!(f, "{packets}{name} packets")
+                write!(f, ", {packets}{name} packets")
             }
-            None => write!(f, "{} packets", self.packets),
+            None => write!(f, ", {} packets", self.packets),
         }
     }
 }
@@ -135,7 +140,7 @@ fn millis_of(time: Duration) -> u64 {
 fn total_size<R: Files>(rt: &R, paths: &[&str]) -> Option<u64> {
     let mut total: u64 = 0;
     for path in paths {
-        let Ok(metadata) = fs::metadata(rt, *path) else {
+        let Ok(metadata) = metadata(rt, *path) else {
             return None;
         };
         if !metadata.is_file() {

@@ -77,6 +77,11 @@ impl<'r, R: Screen> Watch<'r, R> {
         }
     }
 
+    /// Notes that a command which seeks in a capture came this many bytes further.
+    pub fn pass(&self, count: usize) {
+        self.note(count, FrameCounts::NONE);
+    }
+
     /// Erases the line of the progress, if there is one on the screen. It is called before anything
     /// is written to standard error.
     pub fn erase(&self) {

@@ -2,8 +2,9 @@
 
 use crate::same::same;
 use crate::system::{NONE, System, TORN, Table};
-use cli_files::late::{LateFile, LateInput, reserve_std_fd};
-use cli_files::paths::{Opening, refuse_shared_files};
+use cli_files::late::{LateFile, LateInput};
+use cli_files::paths::{Opening, refuse_shared_files, report_path};
+use cli_files::streams::reserve_streams;
 use cli_text::Status;
 use std::fs::Files;
 use std::io::{Read, Write};
@@ -12,9 +13,8 @@ use std::sync::atomic::Ordering::SeqCst;
 
 /// Holds the standard streams of a system, makes OUT, and looks where it went.
 fn make_beside<R: Files>(rt: &impl Abort, system: &R, table: &Table) {
-    let _input = reserve_std_fd(system);
-    let _output = reserve_std_fd(system);
-    let _error = reserve_std_fd(system);
+    let streams = reserve_streams(system);
+    assert!(rt; streams.is_ok());
     let mut file = LateFile::new(system, "out.pcap");
     same(rt, file.write(b"a").ok(), Some(1));
     let output = table.output.load(SeqCst);
@@ -36,6 +36,19 @@ fn no_file_takes_the_place_of_a_closed_stream(rt: HostRuntime) {
             make_over(&rt, [input, output, true]);
         }
     }
+}
+
+#[test]
+fn the_first_stream_that_cannot_be_kept_is_named(rt: HostRuntime) {
+    let table = Table::new([false; 3]);
+    table.refused.store(1, SeqCst);
+    let system = System { table: &table };
+    let mut err: Vec<u8> = Vec::new(rt.alloc());
+    match reserve_streams(&system) {
+        Ok(_) => assert!(rt; false, "the streams are kept"),
+        Err(fault) => same(&rt, report_path(&fault, &mut err), Status::Failed),
+    }
+    same(&rt, err.as_slice(), b"bpftap: Device /dev/stdin\n");
 }
 
 /// Reads the capture to its end, and looks that it came whole.

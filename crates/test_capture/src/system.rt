@@ -166,6 +166,9 @@ impl<'a> Files for System<'a> {
             return Err(io::Error::from(ErrorKind::Other));
         };
         let left = if path == "in.pcap" { TORN } else { b"" };
+        if path == "/" {
+            table.call()?;
+        }
         if path == "out.pcap" {
             table.call()?;
             table.output.store(number, SeqCst);

@@ -10,7 +10,7 @@ use cli_split::plan::{SplitLine, read_plan};
 use cli_split::report::EndedSplit;
 use cli_split::split::split;
 use cli_text::Status;
-use line_text::LineForm;
+use line_text::{LineForm, NamingForm};
 use savefile::{Counted, Order, Unit};
 use std::alloc::Global;
 use std::process::Abort;
@@ -49,6 +49,12 @@ fn written_of(
     written
 }
 
+/// Lines of text that go to no terminal.
+const TEXT: NamingForm = NamingForm {
+    form: LineForm::Text,
+    is_terminal: false,
+};
+
 /// Splits captures in memory as lines ask, and answers what was printed and each capture that was written.
 fn split_texts(
     rt: &(impl Abort + AllocGlobal),
@@ -58,7 +64,7 @@ fn split_texts(
     let alloc: Global = rt.alloc();
     let Plan { lines, programs } = read_plan(alloc, lines).expect(rt, "each line has its form");
     let parts = parts_of(rt, lines.as_slice(), programs);
-    let mut line = line_for(alloc, LineForm::Text, lines.as_slice()).expect(rt, "memory");
+    let mut line = line_for(alloc, TEXT, lines.as_slice()).expect(rt, "memory");
     let captures = Vec::from_slice(alloc, texts).expect(rt, "memory");
     let end = split(alloc, captures, parts, Order::Little, Unit::Micro).expect(rt, "memory");
     let (mut out, mut err) = (Vec::new(alloc), Vec::new(alloc));
@@ -67,7 +73,7 @@ fn split_texts(
         lines: lines.as_slice(),
         end: &end,
     };
-    let status = split.report(LineForm::Text, &mut line, &mut out, &mut err);
+    let status = split.report(TEXT, &mut line, &mut out, &mut err);
     assert_eq!(rt; status, Status::Clean);
     (out, written_of(rt, end.parts))
 }

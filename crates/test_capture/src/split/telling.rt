@@ -9,7 +9,7 @@ use cli_split::report::EndedSplit;
 use cli_split::split::{SplitEnd, Stop};
 use cli_text::Status;
 use cli_watch::output::PrintSink;
-use line_text::LineForm;
+use line_text::{LineForm, NamingForm};
 use pcap_cut::cut::Tally;
 use savefile::Fault;
 use std::alloc::Global;
@@ -57,6 +57,10 @@ fn told<O: PrintSink>(
     let mut err = Vec::new(alloc);
     let plan = read_plan(alloc, LINES).expect(rt, "each line has its form");
     let lines = plan.lines.as_slice();
+    let form = NamingForm {
+        form,
+        is_terminal: false,
+    };
     let mut line = line_for(alloc, form, lines).expect(rt, "memory");
     let split = EndedSplit {
         captures: &[],
