@@ -40,6 +40,34 @@ def files_are_opened_in_order(scene):
 
 
 @case
+def hints_name_what_out_was(scene):
+    """Where hints are wanted `cut` says that OUT replaces a capture, and its size, and that an OUT is named as an expression is. Nothing is said of
+    an OUT that is new or no capture, of one that is not written, nor without hints."""
+    replaces = f"  kept.pcap replaces a capture of {len(WHOLE)} bytes\n"
+    torn = "  torn.pcap:\n  the file ends inside this record: was it cut off, or is it still being written?\n"
+    named = "  the packets are in a file named {}: an expression goes after -e\n"
+    os.mkfifo(scene.folder / "fifo")
+    for words, status, err in (
+        ("-s 0 in.pcap kept.pcap", 0, replaces), ("-s 0 torn.pcap kept.pcap", 2, fault_lines("TornRecord 1") + torn + replaces),
+        ("-s 0 -w kept.pcap in.pcap in.pcap", 0, replaces), ("-c -s 0 in.pcap kept.pcap", 0, "1 of 1 packets\n" + replaces),
+        ("-s 0 in.pcap new.pcap", 0, ""), ("-s 0 in.pcap text.txt", 0, ""), ("-s 0 in.pcap short", 0, ""), ("-s 0 in.pcap /dev/null", 0, ""),
+        ("-s 0 in.pcap tcp", 0, named.format("tcp")), ("-s 0 in.pcap 'tcp port 80'", 0, named.format("tcp port 80")),
+        ("-s 0 -e ip in.pcap tcp", 0, ""), ("-s 0 -f ip.bpf in.pcap tcp", 0, ""), ("-s 0 -e ip in.pcap 'tcp port 80'", 0, named.format("tcp port 80")),
+    ):
+        scene.put({"in.pcap": WHOLE, "torn.pcap": TORN, "kept.pcap": WHOLE, "text.txt": "a text\n", "short": "\u00d4", "ip.bpf": IP})
+        for made in ("new.pcap", "tcp", "tcp port 80"):
+            (scene.folder / made).unlink(missing_ok=True)
+        scene.expect(f"--hints cut {words}", status, err)
+        seen = scene.run(f"cut {words}")
+        scene.check(f"cut {words} without hints", "replaces" in seen.err.decode() or "named" in seen.err.decode(), False)
+    scene.put({"kept.pcap": WHOLE})
+    scene.check("that is not written", b"replaces" in scene.run("--hints cut -s 0 missing.pcap kept.pcap").err, False)
+    scene.expect(f"--hints cut --bytes 24-{len(WHOLE)} -s 0 in.pcap kept.pcap", 0, replaces, f"24-{len(WHOLE)} of {len(WHOLE)} packets 1 kept 1 bytes {len(WHOLE)} Clean kept.pcap\n")
+    # A pipe is not looked into: its bytes stay for who reads it.
+    scene.expect("--hints cut -s 0 in.pcap fifo", 0, "", WHOLE, first="cat fifo &")
+
+
+@case
 def out_is_no_file_that_is_read(scene):
     """An OUT that is LISTING or IN by any name is refused, and nothing is lost."""
     scene.put({"all.bpf": ALL, "in.pcap": WHOLE})

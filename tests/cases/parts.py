@@ -3,6 +3,7 @@ import os
 import random
 import re
 import struct
+import time
 
 from .common import ARP_RECORD, HEADER, IP_RECORD, TORN, VETH, WHOLE, case, fault_lines, header
 
@@ -89,6 +90,17 @@ def the_line_of_a_part_says_what_it_has(scene):
     scene.expect("cut --bytes 24-24 -s 0 in.pcap out.pcap", out="24-24 of 84 packets 0 kept 0 bytes 24 Clean out.pcap\n")
     scene.expect("cut --bytes 24-70 -c -s 0 in.pcap a b.pcap".replace("a b.pcap", "'a b.pcap'"), 2, fault_lines("TornRecord 1") + "1 of 1 packets\n",
                  "24-70 of 84 packets 1 kept 1 bytes 54 TornRecord 1 a b.pcap\n")
+
+
+@case
+def a_part_that_is_not_written_is_reported(scene):
+    """A device that is full at once, and one that takes 100 KiB and then breaks, below what is gathered in front of OUT: the fault names OUT, and
+    no line and no count is printed."""
+    scene.put({"in.pcap": VETH.read_bytes()})
+    words = f"cut --bytes 24-{len(VETH.read_bytes())} -c -s 0 in.pcap"
+    scene.expect(f"{words} /dev/full", 3, fault_lines("Device /dev/full"))
+    scene.expect(f"{words} out.pcap", 3, fault_lines("Device out.pcap"), first="trap '' XFSZ; ulimit -f 100")
+    scene.check("what the device took", scene.read("out.pcap"), VETH.read_bytes()[:102400])
 
 
 @case
@@ -325,3 +337,19 @@ def hints_say_what_is_wrong(scene):
     for words, hints in HINTS:
         seen = scene.run(f"--hints {words}")
         scene.check(f"hints of {words}", seen.err.decode().splitlines()[1:], [f"  {hint}" for hint in hints])
+
+
+@case
+def how_many_parts_there_are(scene):
+    """More than 1,024 only if each has 64 KiB, also where more are wanted than there are bytes; in zeros, where no record seems to begin, one."""
+    small, _ = capture_of([bytes([number % 251]) * 60 for number in range(300)])
+    scene.put({"in.pcap": small})
+    ranges = ranges_of(scene.run("parts 1000000 in.pcap").out)
+    scene.check("more than bytes", (len(ranges) > 100, len(ranges) <= 1024), (True, True))
+    scene.check("one after the other", [end for _, end in ranges], [*[first for first, _ in ranges[1:]], len(small)])
+    with open(scene.folder / "in.pcap", "wb") as made:
+        made.write(HEADER)
+        made.truncate(1_000_000_000)
+    before = time.monotonic()
+    scene.expect("parts 4000 in.pcap", out="24-1000000000\n")
+    scene.check("within 10 s", time.monotonic() - before < 10, True)

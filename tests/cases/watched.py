@@ -7,8 +7,9 @@ import select
 import signal
 import subprocess
 import time
+import unicodedata
 
-from .common import ARP_RECORD, HEADER, IP, IP_RECORD, LIMIT, PROGRAM, TCP_RECORD, TORN, case, fault_lines, header
+from .common import ARP_RECORD, HEADER, IP, IP_RECORD, LIMIT, PROGRAM, TCP_RECORD, TORN, Seen, case, fault_lines, header
 
 # The types of frames that no filter looks into: IPv6, and three of VLAN tags.
 UNSEEN = [0x86dd, 0x8100, 0x88a8, 0x9100]
@@ -42,10 +43,10 @@ def last_line(seen):
 @case
 def frames_are_counted(scene):
     """Below what `explain`, `compare`, `split` and `cut -c` print is how many frames no filter looks into, with hints or without; with `--json`
-    an object."""
-    scene.start({"in.pcap": MIXED, "two.pcap": HEADER + record(0x88a8), "lines.txt": "0 all.pcap \n0 ip.pcap ip\n"})
+    an object. `explain -c` prints it of those that were read before a capture that can't be."""
+    scene.start({"in.pcap": MIXED, "two.pcap": HEADER + record(0x88a8), "lines.txt": "0 all.pcap \n0 ip.pcap ip\n", "text.pcap": "a text, and no capture"})
     scene.expect("--hints cut -c -s 0 -e ip in.pcap out.pcap", 0, "2 of 5 packets\n" + line(2, 5))
-    scene.expect("--hints cut -c -s 0 -e ip -w out.pcap in.pcap two.pcap in.pcap", 0, "4 of 11 packets\n" + line(5, 11))
+    scene.expect("--hints cut -c -s 0 -e ip -w more.pcap in.pcap two.pcap in.pcap", 0, "4 of 11 packets\n" + line(5, 11))
     scene.expect("--hints split lines.txt in.pcap two.pcap", 0, line(3, 6), "all.pcap 6 of 6\nip.pcap 2 of 6\n")
     for words in ["explain -e ip", "explain -c -e ip", "compare ip tcp", "compare '' tcp", "compare ip ''", "split lines.txt"]:
         seen, plain = scene.run(f"--hints {words} in.pcap two.pcap"), scene.run(f"{words} in.pcap two.pcap")
@@ -56,6 +57,24 @@ def frames_are_counted(scene):
     scene.expect("cut -c -s 0 -e ip in.pcap out.pcap", 0, "2 of 5 packets\n" + line(2, 5))
     scene.expect("cut --json -c -s 0 -e ip in.pcap out.pcap", 0, '{"kept":2,"packets":5}\n{"frames":5,"unseen":2}\n')
     scene.expect("explain -c -e ip two.pcap", 0, line(1, 1), "two.pcap 1 packets: 0 Yes, 1 No, 0 Abort\n")
+    for last, fault, status in (("none", "Device none", 3), ("text.pcap", "Capture 1 ShortHeader\n  text.pcap", 1)):
+        seen = scene.run(f"explain -c -e ip two.pcap {last}")
+        scene.check(f"before {last}", (seen.err.decode(), seen.status), (fault_lines(fault) + line(1, 1), status))
+
+
+@case
+def frames_are_counted_for_hints(scene):
+    """Where hints are wanted `run`, and `cut` without `-c`, say it too, if an expression asks something."""
+    scene.start({"in.pcap": MIXED, "two.pcap": HEADER + record(0x88a8), "run.txt": "0 0 0 1048576 2 run.pcap ip\n",
+                 "empty.txt": "0 0 0 1048576 2 run.pcap \n"})
+    for words, counts in (("cut -s 0 -e ip in.pcap one.pcap", line(2, 5)), ("cut -s 0 -e ip -w two_ip.pcap in.pcap two.pcap", line(3, 6)),
+                          ("run run.txt in.pcap two.pcap", line(3, 6)), ("run empty.txt in.pcap", ""), ("cut -s 0 in.pcap all.pcap", ""),
+                          ("cut --json -s 0 -e ip in.pcap json.pcap", "")):
+        seen = scene.run(f"--hints {words}")
+        scene.check(words, (seen.err.decode(), seen.status), (counts, 0))
+        for made in ("one.pcap", "two_ip.pcap", "run.pcap", "all.pcap", "json.pcap"):
+            (scene.folder / made).unlink(missing_ok=True)
+        scene.check(f"{words} without hints", scene.run(words), Seen(seen.out, b"", 0))
 
 
 @case
@@ -70,13 +89,14 @@ def types_of_frames(scene):
 
 @case
 def no_frames_are_counted(scene):
-    """Nothing is said without such a frame, with `-q`, `-l` or `-p`, by `cut` without `-c`, without an expression, or if the command failed."""
+    """Nothing is said without such a frame, with `-q`, `-l` or `-p`, by `cut` without `-c` and hints, without an expression, or if the command
+    failed."""
     scene.start({"in.pcap": MIXED, "plain.pcap": HEADER + IP_RECORD + TCP_RECORD, "ip.bpf": IP, "lines.txt": "0 ip.pcap ip\n",
                  "empty.txt": "0 all.pcap \n", "none": "", "lost.txt": "0 no/such.pcap ip\n"})
     for words in ["cut -s 0 -e ip in.pcap out.pcap", "explain -q -e ip in.pcap", "explain -l -e ip in.pcap", "explain -e ip plain.pcap",
                   "explain --json -e ip plain.pcap", "--hints explain -e ip plain.pcap", "--hints compare ip tcp plain.pcap", "--hints cut -c -s 0 -e ip plain.pcap out.pcap",
                   "--hints split lines.txt plain.pcap", "--hints explain -q -e ip in.pcap", "--hints compare -q ip ip in.pcap",
-                  "--hints explain -p 1 -e ip in.pcap", "--hints cut -s 0 -e ip in.pcap out.pcap", "--hints explain -f ip.bpf in.pcap",
+                  "--hints explain -p 1 -e ip in.pcap", "--hints cut -s 0 -f ip.bpf in.pcap out.pcap", "--hints explain -f ip.bpf in.pcap",
                   "--hints compare -f ip.bpf ip in.pcap", "--hints cut -c -s 0 -f ip.bpf in.pcap out.pcap",
                   "--hints cut -c -s 0 in.pcap out.pcap", "--hints explain -e '' in.pcap", "--hints compare '' ' ' in.pcap",
                   "--hints split empty.txt in.pcap", "--hints explain -e ip none", "--hints cut -c -s 0 -e ip in.pcap no/such.pcap",
@@ -115,6 +135,35 @@ def random_captures(scene):
         scene.start({"in.pcap": b"".join(value.to_bytes(size, order) for value, size in fields) + text})
         wanted = line(unseen, frames) if unseen else ""
         scene.check(f"capture {number}", last_line(scene.run("--hints explain -e ip in.pcap", "> out.txt")), wanted)
+
+
+# ---- Names
+
+# The classes of characters that turn the direction of text.
+DIRECTIONS = {"LRE", "RLE", "PDF", "LRO", "RLO", "LRI", "RLI", "FSI", "PDI"}
+
+# Each of these controls a terminal: an escape sequence, a forged line, a deletion, a control character of two bytes, and text from the right.
+NAME = "a\x1b]0;title\x07\tb\nc\r\x7f\u009bd\u202ee\u2066f.pcap"
+
+
+def marked(name):
+    """A name as `ls` shows it: control characters, and those that turn the direction of text, as question marks."""
+    return "".join("?" if unicodedata.category(one) == "Cc" or unicodedata.bidirectional(one) in DIRECTIONS else one for one in name)
+
+
+@case
+def names_do_not_control_a_terminal(scene):
+    """On a terminal the lines of files have `?` for each character of a name that would control it, and in a pipe the name as it is."""
+    scene.start({NAME: HEADER + IP_RECORD, "plain.pcap": HEADER + IP_RECORD})
+    out = NAME.replace("\n", "")
+    scene.put({"lines.txt": f"0 {out} ip\n"})
+    for words, name, rest in [
+        (["info", NAME, "plain.pcap"], NAME, " packets 1 "), (["explain", "-c", "-e", "ip", NAME, "plain.pcap"], NAME, " 1 packets: "),
+        (["explain", "-l", "-e", "ip", NAME], NAME, "\n"), (["split", "lines.txt", NAME], out, " 1 of 1\n"),
+    ]:
+        shown, _, status = watch(words, scene.folder, on_output=True)
+        scene.check(f"{words[0]} on a terminal", (shown[: len(marked(name) + rest)], status), (marked(name) + rest, 0))
+        scene.check(f"{words[0]} in a pipe", scene.run(words).out.decode()[: len(name + rest)], name + rest)
 
 
 # ---- Progress
@@ -199,7 +248,7 @@ def progress_is_shown(scene):
     scene.start({"lines.txt": "0 out.pcap ip\n", "listeners.txt": "0 0 0 1048576 2 out.pcap ip\n"})
     long_capture(scene, "long.pcap", 20)
     for words, status in [(["cut", "-s", "0", "-e", "ip", "long.pcap", "out.pcap"], 0), (["split", "lines.txt", "long.pcap"], 0),
-                          (["cut", "-s", "0", "-e", "ip", "-w", "out.pcap", "long.pcap", "long.pcap"], 0),
+                          (["cut", "-s", "0", "-e", "ip", "-w", "both.pcap", "long.pcap", "long.pcap"], 0),
                           (["explain", "-q", "-e", "ip", "long.pcap"], 4), (["compare", "ip", "tcp", "long.pcap"], 0),
                           (["run", "listeners.txt", "long.pcap"], 0)]:
         shown, _, ended = watch(words, scene.folder, pauses=1)
@@ -208,6 +257,19 @@ def progress_is_shown(scene):
         scene.check(f"shown by {words}", [one for one in texts(shown)[:1] if PROGRESS.fullmatch(one)], texts(shown)[:1] or ["a line"])
         size = " of 640.0 MB, " if words.count("long.pcap") == 2 else " of 320.0 MB, "
         scene.check(f"size of {words}", [one for one in texts(shown) if size not in one], [])
+
+
+@case
+def progress_of_parts(scene):
+    """`parts` shows how far the places are that it looks at."""
+    scene.start({})
+    record = (1).to_bytes(4, "little") * 2 + (60).to_bytes(4, "little") * 2 + bytes(60)
+    (scene.folder / "long.pcap").write_bytes(HEADER + record * 2_000_000)
+    shown, _, status = watch(["parts", "1000000", "long.pcap"], scene.folder, pauses=2)
+    scene.check("status", status, 0)
+    scene.check("left on the terminal", screen(shown), [""])
+    lines = [one.strip() for one in shown.split("\r") if " of 152.0 MB, " in one]
+    scene.check("shown", bool(lines) and all(re.fullmatch(r"\d+\.\d of 152\.0 MB, \d+ s", one) for one in lines), True)
 
 
 @case

@@ -19,7 +19,7 @@ use Rattle.cli_text.specs.declared.status.Status.TheVariants.{Clean, Failed}
 use Rattle.cli_args.specs.declared.cut.CutWords.{CutWords}
 use Rattle.cli_files.specs.declared.paths.PathFault.{PathFault}
 use Rattle.cli_files.specs.declared.paths.PathFault.TheVariants as paths
-use Rattle.cli_store.specs.Files.{BeginsAt, IsRefusal, Places, StoresAt, Texts, text_at}
+use Rattle.cli_store.specs.Files.{BeginsAt, IsRefusal, NamesDenied, Places, StoresAt, Texts, text_at}
 use Rattle.cli_split.specs.Closed.{Closes, ClosesAll}
 use Rattle.cli_split.specs.Opened.{IsLate}
 use Rattle.cli_split.specs.Splitting.{Splits, is_begun}
@@ -81,9 +81,9 @@ listed place None output a = absurd (omega (arith, a.2))
 listed place (Some l) output (zero, y, within, is, holds) = (l.now, refl, subst (λ (p : Bor (List ℕ)). place p.now ≡ place output.now) (sym is) holds)
 listed place (Some l) output (suc k, y, within, is, holds) = absurd (omega (arith, within))
 
-pub shared_all : (place : Places) (printed : Option (List ℕ)) (failed : Bool) (words : CutWords) (read : List (Bor (List ℕ))) (fault : PathFault) → read ≡ words.inputs.items ++ listing_path words.listing →
-    IsRefusal place printed failed false read (words.output ∷ []) fault → IsShared place failed words words.inputs.items fault
-shared_all place printed failed words read (paths.Same path taken_for) is refuses =
+pub shared_all : (place : Places) (printed : Option (List ℕ)) (failed : Bool) (denied : Option (List ℕ)) (words : CutWords) (read : List (Bor (List ℕ))) (fault : PathFault) → read ≡ words.inputs.items ++ listing_path words.listing →
+    IsRefusal place printed failed false read (words.output ∷ []) fault → NamesDenied place denied fault → IsShared place failed denied words words.inputs.items fault
+shared_all place printed failed denied words read (paths.Same path taken_for) is refuses named =
     let P : Bor (List ℕ) → Type 0 = λ (path : Bor (List ℕ)). place path.now ≡ place words.output.now in
     let lost : Any P (words.inputs.items ++ listing_path words.listing) = subst (Any P) is (lost_alone place printed read words.output refuses) in
     elim (any_append P words.inputs.items (listing_path words.listing) lost)
@@ -91,9 +91,9 @@ shared_all place printed failed words read (paths.Same path taken_for) is refuse
       | inl a ↦ inl a
       | inr b ↦ inr (listed place words.listing words.output b)
     ]
-shared_all place printed failed words read (paths.Printed path) is refuses = absurd (let f = refuses.0 in cc)
-shared_all place printed failed words read (paths.Unknown path error) is refuses = refuses
-shared_all place printed failed words read paths.NoMemory is refuses = refuses
+shared_all place printed failed denied words read (paths.Printed path) is refuses named = absurd (let f = refuses.0 in cc)
+shared_all place printed failed denied words read (paths.Unknown path error) is refuses named = (refuses, named)
+shared_all place printed failed denied words read paths.NoMemory is refuses named = refuses
 
 -- OUT is none of the files that were opened
 pub opened_apart : (place : Places) (opened before : List (List ℕ)) (inputs : List (Bor (List ℕ))) (at : List ℕ) → before ≡ [] → opened ≡ before ++ map (λ path. place path.now) inputs →
@@ -237,10 +237,10 @@ module _ (failed : Bool) (denied : Option (List ℕ)) (words : CutWords) where
       CutsAll {R = R} {W = W} place old new failed denied words (Err r)
   ungiven_all place old new r texts is = refused_all place old new r texts (ungiven_reason place old failed denied words words.inputs.items r is)
 
-  pub uncompared_all : {R W : Type 0} (place-old place : Places) (old new : Texts) (r : Refusal) → place ≡ place-old → new ≡ old → IsUncompared place failed words words.inputs.items r →
+  pub uncompared_all : {R W : Type 0} (place-old place : Places) (old new : Texts) (r : Refusal) → place ≡ place-old → new ≡ old → IsUncompared place failed denied words words.inputs.items r →
       CutsAll {R = R} {W = W} place-old old new failed denied words (Err r)
   uncompared_all place-old place old new r places texts is =
-      refused_all place-old old new r texts (uncompared_reason place-old old failed denied words words.inputs.items r (subst (λ (pl : Places). IsUncompared pl failed words words.inputs.items r) places is))
+      refused_all place-old old new r texts (uncompared_reason place-old old failed denied words words.inputs.items r (subst (λ (pl : Places). IsUncompared pl failed denied words words.inputs.items r) places is))
 
   unopened_reason : (place : Places) (old : Texts) (r : Refusal) → IsUnopened place denied words.inputs.items r → IsReason place old failed denied words words.inputs.items r
   unopened_reason place old (refusal.File path error) is = (inl (inl is.0), is.1)

@@ -1,17 +1,20 @@
--- Hints that are not wanted come after what is reported.
-use Rattle.std.proofs.Common.{◌≡◌, inl, inr, ℕ, Bool, false, List, Option, Result, Ok, Err, subst, sym, ◌∙◌}
+-- Nothing is reported, and hints that are not wanted come after what is.
+use Rattle.std.proofs.Common.{◌≡◌, ℕ, Bool, false, List, [], Option, Result, Ok, Err, refl, subst, sym, ◌∙◌}
+use Rattle.std.proofs.KnownBytes.{Appends-nil}
 use Rattle.std.specs.Io.KnownBytes.{Appends}
 use Rattle.line_text.specs.declared.form.LineForm.{LineForm}
-use Rattle.fault_report.specs.Reports.{IsDevice, IsNoMemory, TellsMore, TellsOne, reported}
+use Rattle.fault_report.specs.Reports.{IsDevice, IsNoMemory, Tells, TellsOne, reported}
 use Rattle.fault_report.specs.declared.report.Report.{Report}
 use Rattle.fault_report.specs.declared.report.Subject.TheVariants.{StandardOutput}
-use Rattle.fault_report.proofs.Telling.{more-none, more-quiet}
 use Rattle.cli_filter.specs.Reports.{IsExpressionReport}
-use Rattle.cli_cut.specs.Reporting.{TellsPerhaps, TellsPrint}
+use Rattle.cli_cut.specs.Reporting.{TellsPrint}
 use Rattle.cli_cut.specs.declared.print.PrintFault.{PrintFault}
 use Rattle.cli_cut.specs.declared.print.PrintFault.TheVariants as print
 
 module _ {E : Type 0} (hints failed : E → Bool) (contents : E → Option (List ℕ)) (form : E → LineForm) where
+  pub nothing_told : (e : E) → Tells hints failed contents form e e []
+  nothing_told e = λ off. (off, refl, λ works. (works, Appends-nil (contents e)))
+
   -- twice nothing
   both-quiet : (a b c : E) → (hints a ≡ false → b ≡ a) → (hints b ≡ false → c ≡ b) → hints a ≡ false → c ≡ a
   both-quiet a b c first second = λ off. second (subst (λ d. hints d ≡ false) (sym (first off)) off) ∙ first off
@@ -23,11 +26,6 @@ module _ {E : Type 0} (hints failed : E → Bool) (contents : E → Option (List
     λ off. subst (λ d. (hints d ≡ false) × (form d ≡ form a) × (failed d ≡ false → (failed a ≡ false) × Appends (contents a) (contents d) (reported (form a) one.0)))
         (sym (quiet (one.2 off).0)) (one.2 off),
   )
-
-  -- what was printed is something, or nothing
-  pub perhaps-more : (text : List ℕ) (a b : E) → TellsPerhaps hints failed contents form text a b → TellsMore hints failed contents form a b
-  perhaps-more text a b (inl nothing) = more-quiet hints failed contents form a a b (more-none hints failed contents form a) nothing
-  perhaps-more text a b (inr told) = λ off. let p = told off in (p.0, p.1, λ ok. let taken = p.2 ok in (taken.0, text, taken.1))
 
   pub print-quiet : (done : Result (Unit {0}) PrintFault) (a b c : E) → TellsPrint hints failed contents form done a b → (hints b ≡ false → c ≡ b) → TellsPrint hints failed contents form done a c
   print-quiet (Ok done) a b c told quiet = both-quiet a b c told quiet

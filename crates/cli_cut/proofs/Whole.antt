@@ -8,7 +8,7 @@ use Rattle.cli_args.specs.declared.cut.CutWords.{CutWords}
 use Rattle.cli_files.specs.declared.paths.PathFault.{PathFault}
 use Rattle.cli_files.specs.declared.paths.PathFault.TheVariants as paths
 use Rattle.cli_files.specs.declared.paths.Opening.TheVariants.{First}
-use Rattle.cli_store.specs.Files.{IsApart, IsLost, IsRefusal, Places, Texts}
+use Rattle.cli_store.specs.Files.{IsApart, IsLost, IsRefusal, NamesDenied, Places, Texts}
 use Rattle.cli_cut.specs.Cutting.{CutsFiles, CutsInto, Ends, IsDenied, IsGiven, IsReason, IsShared, IsUncompared, IsUngiven, IsUnmade, SparesListing}
 use Rattle.cli_cut.specs.declared.outcome.CutReport.{CutReport}
 use Rattle.cli_cut.specs.declared.outcome.CutOutcome.TheVariants.{Ended, Refused}
@@ -82,7 +82,7 @@ module _ (place : Places) (old : Texts) (failed : Bool) (denied : Option (List �
   ungiven_reason (refusal.Paths fault) is = absurd is
   ungiven_reason refusal.NoMemory is = absurd is
 
-  pub uncompared_reason : (r : Refusal) → IsUncompared place failed words inputs r → Reason r
+  pub uncompared_reason : (r : Refusal) → IsUncompared place failed denied words inputs r → Reason r
   uncompared_reason (refusal.Paths fault) is = is
   uncompared_reason refusal.NoMemory is = is
   uncompared_reason (refusal.Filter kept fault) is = absurd is
@@ -109,10 +109,10 @@ ungiven place old new failed denied words input r texts is =
     refused place old new failed denied words input r texts (ungiven_reason place old failed denied words (input ∷ []) r is)
 
 pub shared : (place-old place-mid : Places) (old new : Texts) (failed : Bool) (denied : Option (List ℕ)) (words : CutWords) (input : Bor (List ℕ)) (r : Refusal) →
-    place-mid ≡ place-old → new ≡ old → IsUncompared place-mid failed words (input ∷ []) r → CutsFiles place-old old new failed denied words input (Refused r)
+    place-mid ≡ place-old → new ≡ old → IsUncompared place-mid failed denied words (input ∷ []) r → CutsFiles place-old old new failed denied words input (Refused r)
 shared place-old place-mid old new failed denied words input r places texts is =
     refused place-old old new failed denied words input r texts
-    (uncompared_reason place-old old failed denied words (input ∷ []) r (subst (λ (pl : Places). IsUncompared pl failed words (input ∷ []) r) places is))
+    (uncompared_reason place-old old failed denied words (input ∷ []) r (subst (λ (pl : Places). IsUncompared pl failed denied words (input ∷ []) r) places is))
 
 pub unmade : (place-old place-mid : Places) (old new : Texts) (failed : Bool) (denied : Option (List ℕ)) (words : CutWords) (input : Bor (List ℕ)) (r : Refusal) →
     place-mid ≡ place-old → new ≡ old → IsUnmade place-mid denied words r → CutsFiles place-old old new failed denied words input (Refused r)
@@ -149,13 +149,14 @@ together place (Some l) input output any =
       | inr other ↦ inl (any_only (λ (path : Bor (List ℕ)). place path.now ≡ place output.now) input other)
     ]
 
-pub shared_one : (place : Places) (printed : Option (List ℕ)) (failed : Bool) (words : CutWords) (input : Bor (List ℕ)) (fault : PathFault) →
-    IsRefusal place printed failed false (unwrap_or words.listing input ∷ input ∷ []) (words.output ∷ []) fault → IsShared place failed words (input ∷ []) fault
-shared_one place printed failed words input (paths.Same path taken_for) is =
+pub shared_one : (place : Places) (printed : Option (List ℕ)) (failed : Bool) (denied : Option (List ℕ)) (words : CutWords) (input : Bor (List ℕ)) (fault : PathFault) →
+    IsRefusal place printed failed false (unwrap_or words.listing input ∷ input ∷ []) (words.output ∷ []) fault → NamesDenied place denied fault →
+    IsShared place failed denied words (input ∷ []) fault
+shared_one place printed failed denied words input (paths.Same path taken_for) is named =
     together place words.listing input words.output (lost_alone place printed (unwrap_or words.listing input ∷ input ∷ []) words.output is)
-shared_one place printed failed words input (paths.Printed path) is = absurd (false≢true is.0)
-shared_one place printed failed words input (paths.Unknown path error) is = is
-shared_one place printed failed words input paths.NoMemory is = is
+shared_one place printed failed denied words input (paths.Printed path) is named = absurd (false≢true is.0)
+shared_one place printed failed denied words input (paths.Unknown path error) is named = (is, named)
+shared_one place printed failed denied words input paths.NoMemory is named = is
 
 -- IN leads elsewhere than OUT, since there is a file
 pub apart_of_file : (place-old place-mid : Places) (old mid : Texts) (input output text : List ℕ) →

@@ -3,12 +3,11 @@ use Rattle.std.specs.Prelude.{◌≡◌, ◌≢◌, ◌⊎◌, ℕ, ◌==◌, if
 use Rattle.std.specs.Io.KnownBytes.{Appends}
 use Rattle.bpfvm.specs.declared.insn.Insn.{Insn}
 use Rattle.cli_args.specs.declared.check.CheckWords.{CheckWords}
-use Rattle.cli_files.specs.Reading.{IsRefusedMemory}
 use Rattle.cli_files.specs.declared.paths.PathFault.{PathFault}
 use Rattle.cli_files.specs.declared.paths.PathFault.TheVariants as paths
 use Rattle.cli_store.specs.Files.{Places, Texts}
 use Rattle.cli_text.specs.declared.status.Status.{Status}
-use Rattle.cli_cut.specs.Cutting.{IsGiven, IsRefusalStatus, IsUngiven}
+use Rattle.cli_cut.specs.Cutting.{IsGiven, IsRefusalStatus, IsUngiven, IsUnreached}
 use Rattle.cli_cut.specs.Objects.{IsObjectUnprinted, PrintsObject, program_json}
 use Rattle.cli_cut.specs.Printing.{IsUnprinted, IsUnread, IsUnshown, PrintsRead, program_text}
 use Rattle.cli_cut.specs.Telling.{print_status}
@@ -28,16 +27,16 @@ IsAskedFor place text printed None expr snap program = IsGiven place text None e
 IsAskedFor place text printed (Some path) expr snap program = (printed ≢ Some (place path)) × IsGiven place text (Some path) None 0 program
 
 -- why the program of a listing's file is not printed over these paths: standard output goes to that file
-abbrev pub IsPrintedOver : Places → Option (List ℕ) → Bool → List ℕ → PathFault → Type 0
-IsPrintedOver place printed failed path (paths.Same other taken_for) = ⊥
-IsPrintedOver place printed failed path (paths.Printed other) = printed ≡ Some (place path)
-IsPrintedOver place printed failed path (paths.Unknown other error) = IsRefusedMemory error ⊎ (failed ≡ true)
-IsPrintedOver place printed failed path paths.NoMemory = ⊤
+abbrev pub IsPrintedOver : Places → Option (List ℕ) → Bool → Option (List ℕ) → List ℕ → PathFault → Type 0
+IsPrintedOver place printed failed denied path (paths.Same other taken_for) = ⊥
+IsPrintedOver place printed failed denied path (paths.Printed other) = printed ≡ Some (place path)
+IsPrintedOver place printed failed denied path (paths.Unknown other error) = IsUnreached place failed denied other.now error
+IsPrintedOver place printed failed denied path paths.NoMemory = ⊤
 
 -- why there is no such program
 abbrev pub IsUnasked : Places → Texts → Option (List ℕ) → Bool → Option (List ℕ) → Option (List ℕ) → Option (List ℕ) → ℕ → Refusal → Type 0
 IsUnasked place text printed failed denied None expr snap reason = IsUngiven place text denied None expr snap reason
-IsUnasked place text printed failed denied (Some path) expr snap (refusal.Paths fault) = IsPrintedOver place printed failed path fault
+IsUnasked place text printed failed denied (Some path) expr snap (refusal.Paths fault) = IsPrintedOver place printed failed denied path fault
 IsUnasked place text printed failed denied (Some path) expr snap reason = IsUngiven place text denied (Some path) None 0 reason
 
 -- an expression as it was read was printed, or the fault says why it was not

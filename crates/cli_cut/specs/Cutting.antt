@@ -58,6 +58,10 @@ IsLongText place text path = (whole : List ℕ) × (text (place path) ≡ Some w
 abbrev pub IsDenied : Places → Option (List ℕ) → List ℕ → Error → Type 0
 IsDenied place denied path error = IsRefusedMemory error ⊎ (denied ≡ Some (place path))
 
+-- it could not be reached, so that it was not compared with others
+abbrev pub IsUnreached : Places → Bool → Option (List ℕ) → List ℕ → Error → Type 0
+IsUnreached place failed denied path error = (IsRefusedMemory error ⊎ (failed ≡ true)) × IsDenied place denied path error
+
 -- why there is no program
 abbrev pub IsUngiven : Places → Texts → Option (List ℕ) → Option (List ℕ) → Option (List ℕ) → ℕ → Refusal → Type 0
 IsUngiven place text denied listing expr snap (refusal.Filter kept fault) = IsUnfit place text listing expr snap fault
@@ -78,11 +82,11 @@ abbrev pub SparesListing : Places → CutWords → Type 0
 SparesListing place words = (path : List ℕ) → option_copied words.listing ≡ Some path → place path ≢ place words.output.now
 
 -- why OUT may not be written
-abbrev pub IsShared : Places → Bool → CutWords → List (Bor (List ℕ)) → PathFault → Type 0
-IsShared place failed words inputs (paths.Same path taken_for) = IsTogether place words inputs
-IsShared place failed words inputs (paths.Printed path) = ⊥
-IsShared place failed words inputs (paths.Unknown path error) = IsRefusedMemory error ⊎ (failed ≡ true)
-IsShared place failed words inputs paths.NoMemory = ⊤
+abbrev pub IsShared : Places → Bool → Option (List ℕ) → CutWords → List (Bor (List ℕ)) → PathFault → Type 0
+IsShared place failed denied words inputs (paths.Same path taken_for) = IsTogether place words inputs
+IsShared place failed denied words inputs (paths.Printed path) = ⊥
+IsShared place failed denied words inputs (paths.Unknown path error) = IsUnreached place failed denied path.now error
+IsShared place failed denied words inputs paths.NoMemory = ⊤
 
 -- ---- What OUT has
 
@@ -138,7 +142,7 @@ IsRead words inputs path = Any (λ input. input.now ≡ path) inputs ⊎ (option
 -- Why nothing was done: there is no filter, OUT is an IN or the listing's file, memory was refused, or a file that is named could not be read,
 -- opened or made.
 abbrev pub IsReason : Places → Texts → Bool → Option (List ℕ) → CutWords → List (Bor (List ℕ)) → Refusal → Type 0
-IsReason place text failed denied words inputs (refusal.Paths fault) = IsShared place failed words inputs fault
+IsReason place text failed denied words inputs (refusal.Paths fault) = IsShared place failed denied words inputs fault
 IsReason place text failed denied words inputs (refusal.File path error) =
     (IsRead words inputs path.now ⊎ (path.now ≡ words.output.now)) × IsDenied place denied path.now error
 IsReason place text failed denied words inputs refusal.NoMemory = ⊤
@@ -146,10 +150,10 @@ IsReason place text failed denied words inputs other =
     IsUngiven place text denied (option_copied words.listing) (option_copied words.expr) words.snap other
 
 -- the paths are refused, or could not be compared
-abbrev pub IsUncompared : Places → Bool → CutWords → List (Bor (List ℕ)) → Refusal → Type 0
-IsUncompared place failed words inputs (refusal.Paths fault) = IsShared place failed words inputs fault
-IsUncompared place failed words inputs refusal.NoMemory = ⊤
-IsUncompared place failed words inputs other = ⊥
+abbrev pub IsUncompared : Places → Bool → Option (List ℕ) → CutWords → List (Bor (List ℕ)) → Refusal → Type 0
+IsUncompared place failed denied words inputs (refusal.Paths fault) = IsShared place failed denied words inputs fault
+IsUncompared place failed denied words inputs refusal.NoMemory = ⊤
+IsUncompared place failed denied words inputs other = ⊥
 
 -- OUT could not be made
 abbrev pub IsUnmade : Places → Option (List ℕ) → CutWords → Refusal → Type 0

@@ -1,5 +1,5 @@
 -- What `bpftap cut` and `bpftap check` report on standard error.
-use Rattle.std.specs.Prelude.{◌≡◌, ◌≢◌, ◌⊎◌, ℕ, Bool, false, if◌then◌else◌, List, Option, Result, Ok, Err}
+use Rattle.std.specs.Prelude.{◌≡◌, ◌≢◌, ◌⊎◌, ℕ, Bool, true, false, if◌then◌else◌, List, Option, Some, None, Result, Ok, Err}
 use Rattle.std.specs.Borrow.{Bor}
 use Rattle.std.specs.IoError.{error_kind}
 use Rattle.std.specs.declared.io.Error.{Error}
@@ -16,6 +16,7 @@ use Rattle.cli_files.specs.Paths.{IsPathReport}
 use Rattle.cli_files.specs.Reading.{IsFileReport, IsLongTextReport}
 use Rattle.cli_filter.specs.Reports.{IsExpressionReport, IsFilterReport}
 use Rattle.cli_args.specs.declared.cut.CutWords.{CutWords}
+use Rattle.cli_store.specs.Files.{Places}
 use Rattle.cli_split.specs.Reporting.{TellsStop}
 use Rattle.cli_split.specs.Statuses.{WentWell, split_status}
 use Rattle.pcap_cut.specs.declared.cut.End.{End}
@@ -24,6 +25,7 @@ use Rattle.pcap_cut.specs.declared.cut.Tally.{Tally}
 use Rattle.cli_cut.specs.Captures.{Closed, total_told}
 use Rattle.cli_cut.specs.Checking.{Checked}
 use Rattle.cli_cut.specs.Telling.{count_told}
+use Rattle.cli_cut.specs.declared.outcome.CutReport.{CutReport}
 use Rattle.cli_cut.specs.declared.outcome.CutOutcome.{CutOutcome}
 use Rattle.cli_cut.specs.declared.outcome.CutOutcome.TheVariants.{Refused, Ended}
 use Rattle.cli_cut.specs.declared.outcome.Refusal.{Refusal}
@@ -39,6 +41,11 @@ IsRefusalReport (refusal.Paths fault) report = IsPathReport fault report
 IsRefusalReport (refusal.File path error) report = IsFileReport error path report
 IsRefusalReport refusal.NoMemory report = IsNoMemory report
 
+-- nobody reads any more what goes to OUT
+abbrev pub IsGone : Option Error → Type 0
+IsGone None = ⊥
+IsGone (Some error) = error_kind error ≡ BrokenPipe
+
 -- the form of the count
 abbrev pub form_of : CutWords → LineForm
 form_of words = if words.json then Json else Text
@@ -48,13 +55,9 @@ module _ {E : Type 0} (hints failed : E → Bool) (contents : E → Option (List
   abbrev pub TellsNothing : E → E → Type 0
   TellsNothing old new = hints old ≡ false → new ≡ old
 
-  -- this text was reported, or nothing
-  abbrev pub TellsPerhaps : List ℕ → E → E → Type 0
-  TellsPerhaps text old new = TellsNothing old new ⊎ Tells hints failed contents form old new text
-
-  -- the same, and nothing if it was not asked for
+  -- this text was reported if it was asked for, else nothing
   abbrev pub TellsAsked : Bool → List ℕ → E → E → Type 0
-  TellsAsked asked text old new = TellsPerhaps text old new × (asked ≡ false → TellsNothing old new)
+  TellsAsked asked text old new = (asked ≡ true → Tells hints failed contents form old new text) × (asked ≡ false → TellsNothing old new)
 
   -- ---- One capture
 
@@ -64,29 +67,33 @@ module _ {E : Type 0} (hints failed : E → Bool) (contents : E → Option (List
   TellsFault from to (Input fault) old new = TellsOne hints failed contents form (IsCaptureFault fault from) old new
   TellsFault from to (Output fault) old new = TellsOne hints failed contents form (IsOutputFault fault to) old new
 
-  -- that, and then at most the count of the packets, if it was asked for
+  -- that, and then the count of the packets, if it was asked for
   abbrev pub TellsEnd : Bor (List ℕ) → CutWords → End → Tally → E → E → Type 0
   TellsEnd from words end tally old new =
       (mid : E) × TellsFault from words.output end old mid × TellsAsked words.counted (count_told (form_of words) end tally) mid new
 
-  -- Of a refusal exactly its reason was reported. Of a cut that was begun how it ended was; or nothing, if OUT failed: it may be a pipe that nobody
-  -- reads any more.
-  abbrev pub TellsOutcome : Bor (List ℕ) → CutWords → CutOutcome → E → E → Type 0
-  TellsOutcome from words (Refused reason) old new = TellsOne hints failed contents form (IsRefusalReport reason) old new
-  TellsOutcome from words (Ended report) old new =
-      TellsEnd from words report.end report.tally old new ⊎ ((report.end ≡ Output Device) × (new ≡ old))
+  -- OUT failed since nobody reads standard output any more, to which it leads: then nothing was reported
+  abbrev pub IsUnread : Places → Option (List ℕ) → CutWords → CutReport → E → E → Type 0
+  IsUnread place printed words report old new =
+      (report.end ≡ Output Device) × IsGone report.unwritten × (printed ≡ Some (place words.output.now)) × (new ≡ old)
+
+  -- Of a refusal exactly its reason was reported, and of a cut that was begun how it ended.
+  abbrev pub TellsOutcome : Places → Option (List ℕ) → Bor (List ℕ) → CutWords → CutOutcome → E → E → Type 0
+  TellsOutcome place printed from words (Refused reason) old new = TellsOne hints failed contents form (IsRefusalReport reason) old new
+  TellsOutcome place printed from words (Ended report) old new =
+      TellsEnd from words report.end report.tally old new ⊎ IsUnread place printed words report old new
 
   -- ---- Several captures
 
-  -- where all went well, at most the count of the packets was reported, if it was asked for
-  abbrev pub TellsTotal : CutWords → Closed → E → E → Type 0
-  TellsTotal words end old new = WentWell end → TellsAsked words.counted (total_told (form_of words) end) old new
+  -- What ended the reading was reported, and nothing if all went well; and then the count of the packets, if it was asked for.
+  abbrev pub TellsCut : CutWords → Closed → E → E → Type 0
+  TellsCut words end old new = (mid : E) × (WentWell end → TellsNothing old mid) × TellsStop hints failed contents form words.inputs.items end.end old mid
+      × TellsAsked words.counted (total_told (form_of words) end) mid new
 
-  -- with several IN also what ended the reading was, unless the status is Failed
+  -- Of a refusal exactly its reason was reported, and of a cut how it ended, unless the status is Failed.
   abbrev pub TellsClosed : CutWords → Result Closed Refusal → E → E → Type 0
   TellsClosed words (Err reason) old new = TellsOne hints failed contents form (IsRefusalReport reason) old new
-  TellsClosed words (Ok end) old new =
-      TellsTotal words end old new × ((split_status end ≡ status.Failed → ⊥) → TellsStop hints failed contents form words.inputs.items end.end old new)
+  TellsClosed words (Ok end) old new = (split_status end ≡ status.Failed → ⊥) → TellsCut words end old new
 
   -- ---- Printing
 

@@ -6,11 +6,11 @@ ghost use Rattle.line_text.specs.Sending.{Takes};
 ghost use Rattle.cli_split.specs.Opened.{IsLate};
 ghost use Rattle.cli_split.specs.Statuses.{split_status, written_status};
 ghost use Rattle.cli_text.specs.declared.status.Status.TheVariants.{Failed};
-ghost use Rattle.cli_split.specs.Reporting.{TellsStop};
+ghost use Rattle.fault_report.specs.Reports.{Tells};
 ghost use Rattle.cli_store.specs.Files.{Keeps};
 ghost use Rattle.cli_cut.specs.Captures.{CutsAll, CutsPackets, HasSpace, IsUnopened, first_told, listing_path, part_told, total_told};
 ghost use Rattle.cli_cut.specs.Cutting.{IsUncompared, IsUnmade, SparesListing};
-ghost use Rattle.cli_cut.specs.Reporting.{TellsPerhaps, TellsTotal};
+ghost use Rattle.cli_cut.specs.Reporting.{TellsCut};
 
 use crate::outcome::Refusal;
 use crate::plan::program;
@@ -30,7 +30,6 @@ use cli_split::report::{EndedSplit, was_begun};
 use cli_split::split::{Room, SplitEnd};
 use cli_store::FileStore;
 use cli_text::Status;
-use fault_report::FaultSink;
 use line_text::LineForm;
 use savefile::Fault;
 use savefile::laws::packets_take_room;
@@ -59,7 +58,7 @@ fn check_paths<'p, F: FileStore<'p>>(
     ensures opened { F.opened files.new ≡ F.opened files.old }
     ensures apart { F.known ≡ true → OnOk result (All (λ input. F.place files.old input.now ≢ F.place files.old words.now.output.now) words.now.inputs.items) }
     ensures spares { F.known ≡ true → OnOk result (SparesListing (F.place files.old) words.now) }
-    ensures refused { F.known ≡ true → IfErr result (IsUncompared (F.place files.old) (F.failed files.new) words.now words.now.inputs.items) }
+    ensures refused { F.known ≡ true → IfErr result (IsUncompared (F.place files.old) (F.failed files.new) (F.denied files.new) words.now words.now.inputs.items) }
 {
     let Ok(read) = read_paths(alloc, words) else {
         return Err(Refusal::NoMemory);
@@ -169,9 +168,10 @@ pub fn cut_several<'p, F: FileStore<'p>>(
 }
 
 /// Reports how many of the packets were written, if OUT was written whole.
-fn report_part<W, E: FaultSink>(part: &PartEnd<W>, form: LineForm, err: &mut E) -> io::Result<()>
+#[tactic(auto, using(crate::proofs::Telling::nothing_told))]
+fn report_part<W, E: HintSink>(part: &PartEnd<W>, form: LineForm, err: &mut E) -> io::Result<()>
     ensures taken { Takes (E.contents err.old) (E.contents err.new) result (part_told form part.now) }
-    ensures told { TellsPerhaps E.takes_hints E.failed E.contents E.fault_form (part_told form part.now) err.old err.new }
+    ensures told { Tells E.takes_hints E.failed E.contents E.fault_form err.old err.new (part_told form part.now) }
 {
     match part.written {
         Ok(()) => report_tally(part.tally, form, err),
@@ -183,13 +183,14 @@ fn report_part<W, E: FaultSink>(part: &PartEnd<W>, form: LineForm, err: &mut E) 
 /// in an object of JSON, if the header of the first capture was read and OUT, the only part, was
 /// written whole. Packets count up to the fault that ended the reading. Else it reports nothing.
 /// The error is that of standard error, which took a prefix of the line.
-pub fn report_total<R, W, E: FaultSink>(
+#[tactic(auto, using(crate::proofs::Telling::nothing_told))]
+pub fn report_total<R, W, E: HintSink>(
     end: &SplitEnd<R, W>,
     form: LineForm,
     err: &mut E,
 ) -> io::Result<()>
     ensures taken { Takes (E.contents err.old) (E.contents err.new) result (total_told form end.now) }
-    ensures told { TellsPerhaps E.takes_hints E.failed E.contents E.fault_form (total_told form end.now) err.old err.new }
+    ensures told { Tells E.takes_hints E.failed E.contents E.fault_form err.old err.new (total_told form end.now) }
 {
     if !was_begun(end.end) {
         return Ok(());
@@ -228,8 +229,7 @@ pub(crate) fn report_captures<E: HintSink>(
     err: &mut E,
 ) -> Status
     ensures status { result ≡ split_status end.now }
-    ensures told { TellsStop E.takes_hints E.failed E.contents E.fault_form words.now.inputs.items end.now.end err.old err.new }
-    ensures total { TellsTotal E.takes_hints E.failed E.contents E.fault_form words.now end.now err.old err.new }
+    ensures told { TellsCut E.takes_hints E.failed E.contents E.fault_form words.now end.now err.old err.new }
 {
     let lines = [SplitLine {
         snap: words.snap,

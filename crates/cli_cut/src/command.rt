@@ -13,7 +13,7 @@ ghost use Rattle.cli_cut.specs.declared.outcome.Refusal.{Refusal};
 
 use crate::captures::{cut_several, is_unread, report_captures};
 use crate::checking::check_files;
-use crate::hints::{counts_frames, hint_cut, hint_print};
+use crate::hints::{counts_frames, hint_cut, hint_print, hint_replaced, replaced_size};
 use crate::one::cut_one;
 use crate::outcome::{CutOutcome, CutReport};
 use crate::report::{report_count, report_end, report_print, report_refusal};
@@ -59,7 +59,7 @@ pub fn cut_and_report<'p, F: FileStore<'p>, E: HintSink>(
 ) -> Status
     requires none_open { F.opened files.old ≡ [] }
     ensures cuts { F.known ≡ true → (outcome : CutOutcome) × CutsFiles (F.place files.old) (F.text files.old) (F.text files.new) (F.failed files.new) (F.denied files.new) words.now path.entry outcome
-        × IsStatusOf outcome result × TellsOutcome E.takes_hints E.failed E.contents E.fault_form path.entry words.now outcome err.old err.new }
+        × IsStatusOf outcome result × TellsOutcome E.takes_hints E.failed E.contents E.fault_form (F.place files.new) (F.printed files.new) path.entry words.now outcome err.old err.new }
     ensures closed { F.known ≡ true → F.pending files.new ≡ F.pending files.old }
 {
     match cut_one(alloc, files, words, path) {
@@ -106,7 +106,7 @@ pub fn cut_inputs_and_report<'p, F: FileStore<'p>, E: HintSink>(
     requires none_open { F.opened files.old ≡ [] }
     ensures cuts { F.known ≡ true → ByInputs words.now.inputs.items
         (λ path. (outcome : CutOutcome) × CutsFiles (F.place files.old) (F.text files.old) (F.text files.new) (F.failed files.new) (F.denied files.new) words.now path outcome
-        × IsStatusOf outcome result × TellsOutcome E.takes_hints E.failed E.contents E.fault_form path words.now outcome err.old err.new)
+        × IsStatusOf outcome result × TellsOutcome E.takes_hints E.failed E.contents E.fault_form (F.place files.new) (F.printed files.new) path words.now outcome err.old err.new)
         ((outcome : Result Closed Refusal) × CutsAll (F.place files.old) (F.text files.old) (F.text files.new) (F.failed files.new) (F.denied files.new) words.now outcome
         × IsStatusOfAll outcome result × TellsClosed E.takes_hints E.failed E.contents E.fault_form words.now outcome err.old err.new) }
     ensures closed { F.known ≡ true → F.pending files.new ≡ F.pending files.old }
@@ -124,14 +124,16 @@ pub fn cut_command<R: Files + AllocGlobal + Screen, E: HintSink>(
     words: &CutWords<'_>,
     err: &mut E,
 ) -> Status {
-    let watch = Watch::new(rt, words.inputs.as_slice(), err.takes_hints()).counting(counts_frames(
-        words,
-    ));
+    let takes_hints = err.takes_hints();
+    let is_counting = counts_frames(words, takes_hints);
+    let watch = Watch::new(rt, words.inputs.as_slice(), takes_hints).counting(is_counting);
+    let replaced = replaced_size(rt, words.output, err);
     let mut files = DiskFiles::new(rt, &watch);
     let status = cut_inputs_and_report(rt.alloc(), &mut files, words, err);
-    if counts_frames(words) {
+    if is_counting {
         let _ = report_unseen(watch.frames(), status, err);
     }
+    hint_replaced(replaced, words.output, status, err);
     status
 }
 

@@ -28,7 +28,7 @@ fn check_paths<'p, F: FileStore<'p>>(
     ensures opened { F.opened files.new ≡ F.opened files.old }
     ensures apart { F.known ≡ true → IfOk result (λ _. (F.text files.old (F.place files.old input.now) ≡ None) ⊎ (F.place files.old input.now ≢ F.place files.old words.now.output.now)) }
     ensures spares { F.known ≡ true → IfOk result (λ _. (path : List ℕ) → option_copied words.now.listing ≡ Some path → IsApart First (F.place files.old) (F.text files.old) words.now.output.now path) }
-    ensures refused { F.known ≡ true → IfErr result (IsUncompared (F.place files.old) (F.failed files.new) words.now (input.entry ∷ [])) }
+    ensures refused { F.known ≡ true → IfErr result (IsUncompared (F.place files.old) (F.failed files.new) (F.denied files.new) words.now (input.entry ∷ [])) }
 {
     let read = [words.listing.unwrap_or(input), input];
     match files.check_apart(Opening::First, false, &read, &[words.output]) {

@@ -3,6 +3,7 @@
 ghost use Rattle.std.specs.Prelude.{◌≡◌, true};
 ghost use Rattle.savefile.specs.declared.fault.Fault.TheVariants.{Device};
 ghost use Rattle.pcap_cut.specs.declared.cut.End.TheVariants.{Output};
+ghost use Rattle.cli_cut.specs.Reporting.{IsGone};
 
 use cli_files::paths::PathFault;
 use cli_filter::FilterFault;
@@ -58,7 +59,7 @@ impl CutReport {
 
     /// Whether it failed since OUT is a pipe that nobody reads any more.
     pub(crate) fn is_unread(&self) -> bool
-        ensures { result ≡ true → self.now.end ≡ Output Device }
+        ensures { result ≡ true → (self.now.end ≡ Output Device) × IsGone self.now.unwritten }
     {
         match (self.end, &self.unwritten) {
             (End::Output(Fault::Device), Some(error)) => error.kind() == ErrorKind::BrokenPipe,

@@ -6,6 +6,7 @@ ghost use Rattle.cli_cut.specs.Parts.{IsCutAndEmptied, IsEmptied, PrintsPart};
 ghost use Rattle.cli_cut.specs.Telling.{status_of};
 
 use crate::command::report_cut;
+use crate::hints::{hint_replaced, replaced_size};
 use crate::outcome::CutReport;
 use crate::paths::late_output;
 use crate::plan::read_filter;
@@ -14,14 +15,15 @@ use bpfvm::Program;
 use cli_args::cut::CutWords;
 use cli_args::places::ByteRange;
 use cli_files::paths::{Opening, STANDARD_OUTPUT, refuse_shared_files};
+use cli_files::reading::report_printed;
 use cli_parts::input::{OpenPart, open_part};
 use cli_parts::line::print_part;
 use cli_report::HintSink;
 use cli_report::stream::give_hint;
 use cli_store::disk::is_standard_output;
 use cli_text::Status;
+use cli_watch::output::PrintSink;
 use cli_watch::{Screen, Watch};
-use fault_report::reporting::report_output;
 use line_text::LineForm;
 use pcap_cut::cut::{CutEnd, End, cut};
 use pcap_parts::part::PartCut;
@@ -48,22 +50,22 @@ pub struct PartJob<I, O> {
 
 /// Empties the buffer in front of OUT. What fails only now is a fault of OUT too, and goes before a
 /// torn record.
-fn flush<R, W: Write>(mut end: CutEnd<R, Counted<W>>) -> CutEnd<R, Counted<W>>
-    ensures { IsEmptied (λ sink. W.contents sink.inner) end result }
+fn flush<R, W: PrintSink>(mut end: CutEnd<R, Counted<W>>) -> CutEnd<R, Counted<W>>
+    ensures { IsEmptied (λ sink. W.contents sink.inner) (λ sink. W.waits sink.inner) end result }
 {
-    if end.sink.inner.flush().is_err() {
+    if end.sink.inner.hand_on().is_err() {
         end.end = End::Output(Fault::Device);
     }
     end
 }
 
 /// Cuts the part, and empties the buffer in front of OUT.
-fn cut_job<R: Source + Drop, W: Write + Drop>(
+fn cut_job<R: Source + Drop, W: PrintSink + Drop>(
     alloc: Global,
     words: &CutWords<'_>,
     job: Job<R, Counted<W>>,
 ) -> CutEnd<R, Counted<W>>
-    ensures { IsCutAndEmptied R.left (λ sink. W.contents sink.inner) job.input job.output job.program words.now.snap words.now.order words.now.«unit» result }
+    ensures { IsCutAndEmptied R.left (λ sink. W.contents sink.inner) (λ sink. W.waits sink.inner) job.input job.output job.program words.now.snap words.now.order words.now.«unit» result }
 {
     let Job {
         program,
@@ -80,13 +82,13 @@ fn cut_job<R: Source + Drop, W: Write + Drop>(
 
 /// Cuts a part, empties the buffer in front of OUT, and prints the line of the part, if it was read
 /// to its end or to a torn or bad record and all was written.
-pub fn cut_and_print<R: Source + Drop, W: Write + Drop, O: Write>(
+pub fn cut_and_print<R: Source + Drop, W: PrintSink + Drop, O: Write>(
     alloc: Global,
     words: &CutWords<'_>,
     part: PartJob<R, Counted<W>>,
     out: &mut O,
 ) -> (CutEnd<R, Counted<W>>, io::Result<()>)
-    ensures cut { IsCutAndEmptied R.left (λ sink. W.contents sink.inner) part.job.input part.job.output part.job.program words.now.snap words.now.order words.now.«unit» result.0 }
+    ensures cut { IsCutAndEmptied R.left (λ sink. W.contents sink.inner) (λ sink. W.waits sink.inner) part.job.input part.job.output part.job.program words.now.snap words.now.order words.now.«unit» result.0 }
     ensures line { PrintsPart part.bytes part.size words.now.output.now result.0 (O.contents out.old) (O.contents out.new) result.1 }
     ensures none { (IsCounted result.0.end → ⊥) → out.new ≡ out.old }
 {
@@ -162,7 +164,7 @@ fn cut_part<'r, R: Files + AllocGlobal + Screen, O: Write, E: HintSink>(
         output,
     };
     let (end, printed) = cut_and_print(rt.alloc(), words, PartJob { bytes, size, job }, out);
-    let printed = report_output(&printed, err);
+    let printed = report_printed(&printed, err);
     let from = (path, bytes.end < size);
     Ok(report_part(rt, &CutReport::of(end), words, from, err).max(printed))
 }
@@ -176,7 +178,12 @@ pub fn cut_part_command<R: Files + AllocGlobal + Screen, O: Write, E: HintSink>(
     out: &mut O,
     err: &mut E,
 ) -> Status {
+    let replaced = replaced_size(rt, words.output, err);
     match cut_part(rt, words, bytes, out, err) {
-        Ok(status) | Err(status) => status,
+        Ok(status) => {
+            hint_replaced(replaced, words.output, status, err);
+            status
+        }
+        Err(status) => status,
     }
 }

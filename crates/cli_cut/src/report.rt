@@ -3,8 +3,8 @@
 ghost use Rattle.std.specs.Prelude.{◌≡◌, IfOk};
 ghost use Rattle.line_text.specs.Sending.{Takes};
 ghost use Rattle.cli_text.specs.Status.{code};
-ghost use Rattle.fault_report.specs.Reports.{TellsOne};
-ghost use Rattle.cli_cut.specs.Reporting.{IsRefusalReport, TellsFault, TellsPerhaps, TellsPrint};
+ghost use Rattle.fault_report.specs.Reports.{Tells, TellsOne};
+ghost use Rattle.cli_cut.specs.Reporting.{IsRefusalReport, TellsFault, TellsPrint};
 ghost use Rattle.cli_cut.specs.Cutting.{IsRefusalStatus};
 ghost use Rattle.cli_cut.specs.Telling.{count_told, is_counted, print_status, status_of, tally_json, tally_line, tally_text};
 
@@ -112,29 +112,31 @@ fn tally_line(tally: Tally, form: LineForm) -> io::Result<Line>
 }
 
 /// Reports a tally.
-pub(crate) fn report_tally<E: FaultSink>(
-    tally: Tally,
-    form: LineForm,
-    err: &mut E,
-) -> io::Result<()>
+pub(crate) fn report_tally<E: HintSink>(tally: Tally, form: LineForm, err: &mut E) -> io::Result<()>
     ensures taken { Takes (E.contents err.old) (E.contents err.new) result (tally_line form tally) }
-    ensures told { TellsPerhaps E.takes_hints E.failed E.contents E.fault_form (tally_line form tally) err.old err.new }
+    ensures told { Tells E.takes_hints E.failed E.contents E.fault_form err.old err.new (tally_line form tally) }
 {
-    let line = tally_line(tally, form)?;
-    err.tell_line(line.as_bytes())
+    match tally_line(tally, form) {
+        Ok(line) => err.tell_line(line.as_bytes()),
+        Err(error) => {
+            err.fail();
+            Err(error)
+        }
+    }
 }
 
 /// Reports how many of the packets were written, in a line `67 of 253 packets` or in an object of
 /// JSON, if the capture was read to its end or to a torn or bad record, and all was written. Else
 /// it reports nothing. The error is that of standard error, which took a prefix of the line.
-pub fn report_count<E: FaultSink>(
+#[tactic(auto, using(crate::proofs::Telling::nothing_told))]
+pub fn report_count<E: HintSink>(
     end: End,
     tally: Tally,
     form: LineForm,
     err: &mut E,
 ) -> io::Result<()>
     ensures taken { Takes (E.contents err.old) (E.contents err.new) result (count_told form end tally) }
-    ensures told { TellsPerhaps E.takes_hints E.failed E.contents E.fault_form (count_told form end tally) err.old err.new }
+    ensures told { Tells E.takes_hints E.failed E.contents E.fault_form err.old err.new (count_told form end tally) }
 {
     if is_counted(end) {
         report_tally(tally, form, err)

@@ -1,12 +1,12 @@
 //! Standard error that may take hints, and the line of a hint.
 
-ghost use Rattle.std.specs.Prelude.{◌≡◌, ◌≢◌, true, false, IfErr, IfOk, IfSome};
+ghost use Rattle.std.specs.Prelude.{◌≡◌, ◌≢◌, ℕ, List, true, false, IfErr, IfOk, IfSome};
 ghost use Rattle.line_text.specs.declared.form.LineForm.TheVariants.{Json, Text};
 ghost use Rattle.std.specs.Io.{WritesAtMost};
 ghost use Rattle.std.specs.Io.KnownBytes.{WriteAppends};
 ghost use Rattle.std.specs.IoError.{error_kind};
 ghost use Rattle.line_text.specs.Sending.{Takes};
-ghost use Rattle.fault_report.specs.Reports.{TellsMore};
+ghost use Rattle.fault_report.specs.Reports.{Tells, TellsMore};
 ghost use Rattle.cli_report.specs.Hints.{hint_line, wants_hints};
 
 use fault_report::reporting::report_in;
@@ -22,6 +22,12 @@ pub trait HintSink: FaultSink {
     /// Whether hints are wanted.
     fn takes_hints(&self) -> bool
         ensures { result ≡ Self.takes_hints self.now };
+
+    /// Notes that a line is lost since it could not be put together, as if a write of it had
+    /// failed.
+    fn fail(&mut self)
+        ensures taken { Self.contents self.new ≡ Self.contents self.old }
+        ensures told { (text : List ℕ) → Tells Self.takes_hints Self.failed Self.contents Self.fault_form self.old self.new text };
 }
 
 /// A writer that faults are reported to. Once a write has failed no hints are wanted: one without
@@ -119,6 +125,10 @@ impl<W: Write> HintSink for ErrorStream<W> {
             LineForm::Json => false,
         }
     }
+
+    fn fail(&mut self) {
+        self.failed = true;
+    }
 }
 
 /// Memory takes the lines of faults, and no hints.
@@ -126,6 +136,8 @@ impl HintSink for Vec<u8> {
     fn takes_hints(&self) -> bool {
         false
     }
+
+    fn fail(&mut self) {}
 }
 
 /// The line of a hint, if it has at most 512 bytes.

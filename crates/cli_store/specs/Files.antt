@@ -55,6 +55,11 @@ IsRefusal place printed failed prints read outputs (Printed path) = (prints ≡ 
 IsRefusal place printed failed prints read outputs (Unknown path error) = IsRefusedMemory error ⊎ (failed ≡ true)
 IsRefusal place printed failed prints read outputs NoMemory = ⊤
 
+-- A path that could not be compared is the one that was denied; or memory was refused.
+abbrev pub NamesDenied : Places → Option (List ℕ) → PathFault → Type 0
+NamesDenied place denied (Unknown path error) = IsRefusedMemory error ⊎ (denied ≡ Some (place path.now))
+NamesDenied place denied other = ⊤
+
 -- what is read at a place where a file may be missing
 abbrev pub text_at : Texts → List ℕ → List ℕ
 text_at text at = bytes_of (text at)

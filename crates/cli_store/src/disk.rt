@@ -7,7 +7,7 @@ use crate::store::FileStore;
 use cli_files::captures::with_buffer;
 use cli_files::late::{LateFile, LateInput};
 use cli_files::paths::{Opening, PathFault, STANDARD_OUTPUT, check_shared_files};
-use cli_files::retried::Retried;
+use cli_files::retried::{Retried, metadata};
 use cli_report::FailureProbe;
 use cli_report::probe::ProbedOutput;
 use cli_watch::captures::WatchedInput;
@@ -23,7 +23,7 @@ const OUTPUT_BUFFER: usize = 1 << 18;
 
 /// Whether a path leads to standard output, as `/dev/stdout` does.
 pub fn is_standard_output<R: Files>(rt: &R, path: &str) -> bool {
-    match (fs::metadata(rt, path), fs::metadata(rt, STANDARD_OUTPUT)) {
+    match (metadata(rt, path), metadata(rt, STANDARD_OUTPUT)) {
         (Ok(found), Ok(printed)) => { found.dev() == printed.dev() && found.ino() == printed.ino() }
         _ => false,
     }

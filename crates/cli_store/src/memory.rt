@@ -520,7 +520,7 @@ impl<'p> FileStore<'p> for MemoryFiles<'p> {
         }
     }
 
-    fn is_standard_output(&self, _path: &'p str) -> bool {
-        false
+    fn is_standard_output(&self, path: &'p str) -> bool {
+        is_printed(self.printed, path)
     }
 }

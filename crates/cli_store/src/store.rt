@@ -1,8 +1,8 @@
 //! Files as a command sees them.
 
-ghost use Rattle.std.specs.Prelude.{◌≡◌, ◌≢◌, ◌⊎◌, ℕ, ◌+◌, ◌<◌, List, [], ◌∷◌, ◌++◌, Bool, true, Option, Some, IfErr, IfOk, IfSome, OnErr, OnOk, All, take};
+ghost use Rattle.std.specs.Prelude.{◌≡◌, ◌≢◌, ◌⊎◌, ℕ, ◌+◌, ◌<◌, List, [], ◌∷◌, ◌++◌, Bool, true, Option, Some, IfErr, IfOk, IfSome, IsTrue, ◌↔◌, OnErr, OnOk, All, take};
 ghost use Rattle.cli_files.specs.Reading.{IsRefusedMemory};
-ghost use Rattle.cli_store.specs.Files.{BeginsAt, HaveOwnPlaces, IsApart, IsRefusal, IsUnprinted, Keeps, StoresAt, text_at};
+ghost use Rattle.cli_store.specs.Files.{BeginsAt, HaveOwnPlaces, IsApart, IsRefusal, IsUnprinted, Keeps, NamesDenied, StoresAt, text_at};
 
 use cli_files::paths::{Opening, PathFault};
 use cli_report::FailureProbe;
@@ -65,7 +65,8 @@ pub trait FileStore<'p> {
         ensures own { known ≡ true → OnOk result (HaveOwnPlaces (place self.old) outputs.now) }
         ensures unprinted { known ≡ true → prints ≡ true → OnOk result (All (λ path. IsUnprinted opening (place self.old) (text self.old) (printed self.old) path.now) read.now) }
         ensures unshared { known ≡ true → prints ≡ true → OnOk result (All (λ output. printed self.old ≢ Some (place self.old output.now)) outputs.now) }
-        ensures fault { known ≡ true → IfErr result (IsRefusal (place self.old) (printed self.old) (failed self.new) prints read.now outputs.now) };
+        ensures fault { known ≡ true → IfErr result (IsRefusal (place self.old) (printed self.old) (failed self.new) prints read.now outputs.now) }
+        ensures denied { known ≡ true → IfErr result (NamesDenied (place self.old) (denied self.new)) };
 
     /// The first bytes of a file, at most `most`.
     fn read(&mut self, path: &'p str, most: usize) -> io::Result<Vec<u8>>
@@ -138,5 +139,6 @@ pub trait FileStore<'p> {
         ensures denied { denied self.new ≡ denied self.old };
 
     /// Whether a path leads to standard output, as `/dev/stdout` does.
-    fn is_standard_output(&self, path: &'p str) -> bool;
+    fn is_standard_output(&self, path: &'p str) -> bool
+        ensures { known ≡ true → (IsTrue result ↔ (printed self.now ≡ Some (place self.now path.now))) };
 }

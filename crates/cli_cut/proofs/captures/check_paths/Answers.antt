@@ -20,5 +20,5 @@ returns-in-Ok-check_apart-clause-spares g c tells =
 
 pub returns-clause-refused : goal.returns-clause-refused
 returns-clause-refused g c tells =
-    shared_all (g.F.FileStore.place c.args.files.now) (g.F.FileStore.printed c.args.files.now) (g.F.FileStore.failed c.check_apart.new.self) c.args.words.now c.as_slice.result.now c.in-Err.fault
-    (c.as_slice.ensures.value ∙ c.in-Ok.ensures) (c.in-Err.ensures.fault tells)
+    shared_all (g.F.FileStore.place c.args.files.now) (g.F.FileStore.printed c.args.files.now) (g.F.FileStore.failed c.check_apart.new.self) (g.F.FileStore.denied c.check_apart.new.self) c.args.words.now c.as_slice.result.now c.in-Err.fault
+    (c.as_slice.ensures.value ∙ c.in-Ok.ensures) (c.in-Err.ensures.fault tells) (c.in-Err.ensures.denied tells)
