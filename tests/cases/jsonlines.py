@@ -14,6 +14,11 @@ END = re.compile(r"(\d+) at (\d+): (.*)")
 
 DIVISOR = ", the divisor is 0"
 
+# What JSON escapes in a name: control characters, and those that turn the direction of text.
+CONTROLS = [*range(1, 32), *range(0x7f, 0xa0), *range(0x202a, 0x202f), *range(0x2066, 0x206a)]
+# Neighbours of these, a character of four bytes, and what has escapes of its own.
+OTHERS = [0x20, 0x7e, 0xa0, 0x2029, 0x202f, 0x2065, 0x206a, 0x1f600, 0x22, 0x5c]
+
 
 def decided_of(rest):
     """The members that follow the answer of an expression, from its text."""
@@ -430,3 +435,32 @@ def forms_exclude_each_other(scene):
         scene.check(words, (seen.status, seen.out, b"cannot be used with" in seen.err), (1, b"", True))
     scene.expect("explain --json -q -e ip whole.pcap")
     scene.expect("explain --json -q -e arp whole.pcap", 4)
+
+
+@case
+def names_are_escaped(scene):
+    """A name in JSON has no character that controls a terminal, and is read as it was given."""
+    for codes in (CONTROLS[:40], CONTROLS[40:], OTHERS):
+        name = "".join(map(chr, codes)) + ".pcap"
+        scene.start({name: WHOLE, "lines.txt": "0 \x7f\u0085\u202e.pcap ip\n"})
+        for words in (["info", "--json", name], ["explain", "--json", "-c", "-e", "ip", name], ["explain", "--json", "-l", "-e", "ip", name],
+                      ["info", "--json", f"no {name}"], ["explain", "--json", "-e", "ip", f"no {name}"]):
+            seen = scene.run(words)
+            printed = (seen.out or seen.err).decode()
+            scene.check(f"controls of {words[:3]}", [one for one in printed[:-1] if ord(one) in CONTROLS], [])
+            scene.check(f"escapes of {words[:3]}", [f"\\u{one:04x}" in printed for one in codes], [one in CONTROLS for one in codes])
+            scene.check(f"the name of {words[:3]}", json.loads(printed)["file"], words[-1])
+        seen = scene.run(["split", "--json", "lines.txt", name])
+        scene.check("split", seen.out.decode(), '{"file":"\\u007f\\u0085\\u202e.pcap","kept":1,"packets":1}\n')
+
+
+@case
+def an_expression_that_begins_with_a_sign_is_in_parentheses(scene):
+    """`explain -p` gives an expression as a command line takes it."""
+    scene.start({"in.pcap": WHOLE})
+    for given, read in [("(-len = 10)", "(-len = 10)"), ("(-len = 10) and ip", "(-len = 10 and ip)"), ("ip and -len = 10", "ip and -len = 10")]:
+        seen = json.loads(scene.run(["explain", "--json", "-p", "0", "-e", given, "in.pcap"]).out)
+        scene.check(f"object of {given}", seen["expression"], read)
+        text = scene.run(["explain", "-p", "0", "-e", given, "in.pcap"]).out.decode()
+        scene.check(f"text of {given}", f"\nexpression: {read}\n" in text, True)
+        scene.check(f"given back {read}", scene.run(["check", "-x", read]).out.decode(), read + "\n")

@@ -234,3 +234,11 @@ def help_that_cannot_be_printed_is_reported(scene):
     seen = scene.run_into(3, "--help")
     scene.check("3 bytes", (seen.out, seen.err.decode(), seen.status), (b"Fil", fault_lines("Device standard output"), 3))
     scene.expect("--help", 3, fault_lines("Device standard output"), streams=">/dev/full")
+
+
+@case
+def help_fits_100_columns(scene):
+    """The lines of help that were too long for a terminal."""
+    for command in ("check", "info", "parts"):
+        lines = scene.run(f"{command} --help").out.decode().splitlines()
+        scene.check(f"help of {command}", (len(lines) > 10, [line for line in lines if len(line) > 100]), (True, []))

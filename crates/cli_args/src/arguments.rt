@@ -150,7 +150,7 @@ fn snap<'a>(alloc: Global) -> Arg<'a> {
         "snap",
         's',
         "N",
-        "Snapshot length: keep at most N bytes of a packet, 0 to 262144 (0 means 262144)",
+        "Snapshot length: keep at most N bytes of a packet, 0 to 262144; 0: 262144",
     )
     .required(true)
 }
@@ -162,7 +162,7 @@ fn default_snap<'a>(alloc: Global) -> Arg<'a> {
         "snap",
         's',
         "N",
-        "Snapshot length that the program of EXPR returns, 0 to 262144 (0 means 262144)",
+        "Snapshot length that the program returns, 0 to 262144; 0: that",
     )
     .default_value("262144")
 }

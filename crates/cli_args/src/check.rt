@@ -66,8 +66,9 @@ assembly (docs/ASSEMBLY.md). -x prints the expression as it was read, on one lin
 program is too long. --json prints one object: the expression as read, and the instructions with
 their names and numbers. --dot prints the program as a graph for Graphviz, with a box for each
 question; -p marks the way of the packet at PLACE of IN, counted from 0. -s applies to an
-expression, not to a listing. Write an expression that begins with - in parentheses; -x prints it so. The number after a fault's name is the byte of the
-expression at fault, from 0; docs/LANGUAGE.md has the language.
+expression, not to a listing. Write an expression that begins with - in parentheses; -x prints it
+so. The number after a fault's name is the byte of the expression at fault, from 0;
+docs/LANGUAGE.md has the language.
 
 Exit status: 0 the program is printed; 1 the expression or listing is refused or the program is
 too long, bad usage, or out of memory; 3 a file or standard output failed.";

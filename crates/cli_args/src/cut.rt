@@ -58,7 +58,7 @@ static ARGUMENTS: [Argument; 11] = [
         "expr",
         'e',
         "EXPR",
-        "Filter expression of pcap-filter(7), as one word; without -e and -f every packet is kept",
+        "Filter expression, as one word; without -e and -f every packet is kept",
     ),
     Argument::Order,
     Argument::Unit,
@@ -71,7 +71,7 @@ static ARGUMENTS: [Argument; 11] = [
     Argument::LongText(
         "bytes",
         "FIRST-END",
-        "Cut only the packets in these bytes of IN, as parts prints them, and print a line for join",
+        "Cut only these bytes of IN, as parts prints them; print a line for join",
     ),
     Argument::Text(
         "output",

@@ -15,11 +15,11 @@ pub struct InfoWords<'a> {
 }
 
 const INFO_EXAMPLES: &str =
-    "info prints a line for each capture: how many packets it has, the sum of their lengths on the wire and of
-what was captured, when the first and the last one were captured, how many frames are IPv4, ARP,
-IPv6, have a VLAN tag, or are others, the header's byte order, unit of time and snapshot length,
-and how it ends: Clean, or the fault and its place. A damaged capture is counted up to its fault,
-and the next one is read.
+    "info prints a line for each capture: how many packets it has, the sum of their lengths on the wire
+and of what was captured, when the first and the last one were captured, how many frames are IPv4,
+ARP, IPv6, have a VLAN tag, or are others, the header's byte order, unit of time and snapshot
+length, and how it ends: Clean, or the fault and its place. A damaged capture is counted up to its
+fault, and the next one is read.
 
 Examples:
   bpftap info examples/veth.pcap

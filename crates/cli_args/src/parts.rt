@@ -24,12 +24,13 @@ pub const MAX_PARTS: u64 = 1_000_000;
 const COUNT_WANTED: &str = "N is a number from 1 to 1000000";
 
 const PARTS_EXAMPLES: &str =
-    "parts prints a line FIRST-END for each part of IN, in order: the bytes from FIRST up to the one before
-END. Cut each by cut --bytes, in any order, on any machine, and put the cuts together by join. IN
-is a regular file that does not change meanwhile.
+    "parts prints a line FIRST-END for each part of IN, in order: the bytes from FIRST up to the one
+before END. Cut each by cut --bytes, in any order, on any machine, and put the cuts together by
+join. IN is a regular file that does not change meanwhile.
 
 Where a record begins is guessed: where plausible records follow each other. A wrong guess costs
-time and no packet, since join finds it. There may be fewer parts than N.
+time and no packet, since join finds it. There may be fewer parts than N: 1024 at most, or one for
+each 64 KiB of IN.
 
 Examples:
   bpftap parts 4 examples/veth.pcap

@@ -2,9 +2,10 @@
 use Rattle.std.specs.Prelude.{ℕ, List, ◌++◌, Option, Some, None, codes}
 use Rattle.std.specs.Fmt.{decimal}
 use Rattle.line_text.specs.Strings.{json_string}
-use Rattle.line_text.specs.declared.form.LineForm.{LineForm}
-use Rattle.line_text.specs.declared.form.LineForm.TheVariants.{Text, Json}
+use Rattle.line_text.specs.Forms.{in_form}
+use Rattle.line_text.specs.declared.form.NamingForm.{NamingForm}
 use Rattle.line_text.specs.Texts.{end_of_line}
+use Rattle.visible_text.specs.Hidden.{printed_name}
 use Rattle.cli_answers.specs.declared.counts.VerdictCounts.{VerdictCounts}
 
 -- `PATH N packets: Y Yes, N No, A Abort`
@@ -42,15 +43,13 @@ abbrev pub sum_json : VerdictCounts → Option ℕ → List ℕ
 sum_json c taken = packets_json c.packets ++ verdicts_json c ++ taken_json taken ++ codes "}\n"
 
 -- the line of the counts of the capture at a path
-abbrev pub count_line : LineForm → List ℕ → VerdictCounts → Option ℕ → List ℕ
-count_line Text path c taken = count_text path c
-count_line Json path c taken = count_json path c taken
+abbrev pub count_line : NamingForm → List ℕ → VerdictCounts → Option ℕ → List ℕ
+count_line form path c taken = in_form form.form (count_text (printed_name form.is_terminal path) c) (count_json path c taken)
 
 -- `{"file":"PATH"}`
 unfoldable pub path_json : List ℕ → List ℕ
 path_json path = codes "{\"file\":" ++ json_string path ++ codes "}" ++ end_of_line
 
 -- the line of a path
-abbrev pub path_line : LineForm → List ℕ → List ℕ
-path_line Text path = path ++ end_of_line
-path_line Json path = path_json path
+abbrev pub path_line : NamingForm → List ℕ → List ℕ
+path_line form path = in_form form.form (printed_name form.is_terminal path ++ end_of_line) (path_json path)

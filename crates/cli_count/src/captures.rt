@@ -12,7 +12,7 @@ use cli_answers::captures::{goes_on, read_of};
 use cli_answers::counts::VerdictCounts;
 use cli_answers::printing::Unprinted;
 use cli_walk::{Stop, Visited, Visitor, Walk, visit_captures};
-use line_text::LineForm;
+use line_text::NamingForm;
 use savefile::Source;
 use std::alloc::Global;
 use std::io::Write;
@@ -28,7 +28,7 @@ pub struct CountJob<'f, 'p, 'a> {
     pub paths: &'p [&'a str],
     /// Whether the counts of each capture are printed.
     pub is_shown: bool,
-    pub form: LineForm,
+    pub form: NamingForm,
 }
 
 /// What was counted of the captures so far.

@@ -1,6 +1,7 @@
 //! `bpftap explain` with `-c`, `-l`, or a bound, over files.
 
-ghost use Rattle.std.specs.Prelude.{◌≡◌, OnOk, false};
+ghost use Rattle.std.specs.Prelude.{◌≡◌, OnOk, false, if◌then◌else◌};
+ghost use Rattle.line_text.specs.declared.form.LineForm.TheVariants.{Json, Text};
 ghost use Rattle.cli_text.specs.declared.status.Status.TheVariants.{Clean};
 ghost use Rattle.cli_store.specs.Files.{Keeps};
 
@@ -25,16 +26,36 @@ use cli_text::Status;
 use cli_watch::Screen;
 use cli_watch::hints::{is_asked, report_unseen};
 use cli_watch::output::PrintSink;
-use line_text::LineForm;
+use line_text::{LineForm, NamingForm};
 use std::alloc::Global;
 use std::fs::Files;
 use std::io::Write;
 
-/// What one call has: its arguments, its filter, and its captures.
+/// What one call is asked for, and whether its standard output is a terminal.
+#[derive(Clone, Copy)]
+pub struct CountCall<'w, 'a> {
+    pub words: &'w CountWords<'a>,
+    pub is_terminal: bool,
+}
+
+impl CountCall<'_, '_> {
+    /// The form of the lines that name captures.
+    fn form(self) -> NamingForm
+        ensures form { result.form ≡ if self.entry.words.now.json then Json else Text }
+        ensures terminal { result.is_terminal ≡ self.entry.is_terminal }
+    {
+        NamingForm {
+            form: LineForm::asked(self.words.json),
+            is_terminal: self.is_terminal,
+        }
+    }
+}
+
+/// What one call has: what it is asked for, its filter, and its captures.
 #[derive(Drop)]
 struct Job<'w, 'a, I> {
     alloc: Global,
-    words: &'w CountWords<'a>,
+    call: CountCall<'w, 'a>,
     filter: CountedFilter,
     captures: Vec<I>,
 }
@@ -54,16 +75,17 @@ fn counts_instructions(words: &CountWords<'_>) -> bool {
 fn prepare<'w, 'p, F: FileStore<'p>>(
     alloc: Global,
     files: &mut F,
-    words: &'w CountWords<'p>,
+    call: CountCall<'w, 'p>,
 ) -> Result<Job<'w, 'p, F::Input>, Unasked<'p>>
     ensures kept { Keeps (F.place files.old) (F.place files.new) (F.text files.old) (F.text files.new) (F.pending files.old) (F.pending files.new) }
 {
+    let words = call.words;
     let inputs = words.inputs.as_slice();
     let Asked { filter, captures } = ask(alloc, files, words.listing, words.expr, inputs)?;
     match CountedFilter::of(alloc, filter) {
         Ok(filter) => Ok(Job {
             alloc,
-            words,
+            call,
             filter,
             captures,
         }),
@@ -126,10 +148,11 @@ fn count_all<'p, F: FileStore<'p>, O: PrintSink, E: HintSink>(
 {
     let Job {
         alloc,
-        words,
+        call,
         filter,
         captures,
     } = job;
+    let words = call.words;
     let paths = words.inputs.as_slice();
     let counting = CountJob {
         alloc,
@@ -137,7 +160,7 @@ fn count_all<'p, F: FileStore<'p>, O: PrintSink, E: HintSink>(
         is_measured: counts_instructions(words),
         paths,
         is_shown: words.shown == CountShown::Counts,
-        form: LineForm::asked(words.json),
+        form: call.form(),
     };
     let CountedCaptures {
         sources,
@@ -155,8 +178,8 @@ fn count_all<'p, F: FileStore<'p>, O: PrintSink, E: HintSink>(
     };
     let answer = bounds_status(words.bounds, counts.yes);
     let status = report_counting(&end, answer, paths, err);
-    if counts_frames(words) {
-        let _ = report_unseen(counts.frames(), status, err);
+    if counts_frames(words) && end.printed.is_ok() {
+        let _ = report_unseen(counts.frames(), Status::Clean, err);
     }
     status
 }
@@ -173,16 +196,17 @@ fn list_all<'p, F: FileStore<'p>, O: PrintSink, E: HintSink>(
 {
     let Job {
         alloc,
-        words,
+        call,
         filter,
         captures,
     } = job;
+    let words = call.words;
     let paths = words.inputs.as_slice();
     let listing = ListJob {
         alloc,
         test: &filter,
         paths,
-        form: LineForm::asked(words.json),
+        form: call.form(),
     };
     let ListedCaptures {
         sources,
@@ -205,7 +229,7 @@ fn list_all<'p, F: FileStore<'p>, O: PrintSink, E: HintSink>(
 pub fn count_and_report<'p, F: FileStore<'p>, O: PrintSink, E: HintSink>(
     alloc: Global,
     files: &mut F,
-    words: &CountWords<'p>,
+    call: CountCall<'_, 'p>,
     out: &mut O,
     err: &mut E,
 ) -> Status
@@ -213,12 +237,12 @@ pub fn count_and_report<'p, F: FileStore<'p>, O: PrintSink, E: HintSink>(
     // Nothing that was printed waits, if all went well.
     ensures handed_on { O.waits out.old ≡ false → result ≡ Clean → O.waits out.new ≡ false }
 {
-    match prepare(alloc, files, words) {
-        Ok(job) => match words.shown {
+    match prepare(alloc, files, call) {
+        Ok(job) => match call.words.shown {
             CountShown::Paths => list_all(files, job, out, err),
             CountShown::Counts | CountShown::Nothing => count_all(files, job, out, err),
         },
-        Err(reason) => report_unasked(alloc, &reason, words.expr, err),
+        Err(reason) => report_unasked(alloc, &reason, call.words.expr, err),
     }
 }
 
@@ -230,7 +254,11 @@ pub fn count_command<R: Files + AllocGlobal + Screen, O: Write, E: HintSink>(
     err: &mut E,
 ) -> Status {
     let inputs = words.inputs.as_slice();
+    let call = CountCall {
+        words,
+        is_terminal: rt.is_output_terminal(),
+    };
     run_over_disk(rt, inputs, out, err, |mut files, out, err| {
-        count_and_report(rt.alloc(), &mut files, words, out, err)
+        count_and_report(rt.alloc(), &mut files, call, out, err)
     })
 }

@@ -2,6 +2,7 @@
 
 ghost use Rattle.std.specs.Prelude.{◌≡◌, ◌++◌, IfOk, OnOk, Some, false, string_bytes};
 ghost use Rattle.line_text.specs.Sending.{Takes};
+ghost use Rattle.visible_text.specs.Hidden.{printed_name};
 ghost use Rattle.cli_count.specs.Lines.{count_json, count_line, count_text, counts_json, member_json, packets_json, path_json, path_line, sum_json, taken_json, verdicts_json};
 
 use crate::count::CountEnd;
@@ -9,17 +10,25 @@ use cli_answers::counts::VerdictCounts;
 use cli_answers::printing::Unprinted;
 use cli_watch::output::{PrintSink, send_last};
 use line_text::sending::send;
-use line_text::{LineForm, put_string};
+use line_text::{LineForm, NamingForm, put_string};
 use std::alloc::{AllocError, Global};
 use std::io::Write;
+use visible_text::PrintedName;
 
-/// Appends the counts of the capture at a path, in words.
+/// Appends the counts of the capture of this name, in words.
 #[tactic(auto, unfolding(crate::specs::Lines::count_text))]
-fn put_count_text(line: &mut String, path: &str, counts: VerdictCounts) -> Result<(), AllocError>
-    ensures { OnOk result (string_bytes line.new ≡ string_bytes line.old ++ count_text path.now counts) }
+fn put_count_text(
+    line: &mut String,
+    name: PrintedName<'_>,
+    counts: VerdictCounts,
+) -> Result<(), AllocError>
+    ensures { OnOk result (string_bytes line.new ≡ string_bytes line.old ++ count_text (printed_name name.entry.is_terminal name.entry.name.now) counts) }
 {
-    line.push_str(path)?;
-    write!(line, " {} packets: {} Yes, ", counts.packets, counts.yes)?;
+    write!(
+        line,
+        "{name} {} packets: {} Yes, ",
+        counts.packets, counts.yes
+    )?;
     write!(line, "{} No, {} Abort\n", counts.no, counts.abort)
 }
 
@@ -83,13 +92,13 @@ fn count_line(
     path: &str,
     counts: VerdictCounts,
     taken: Option<u64>,
-    form: LineForm,
+    form: NamingForm,
 ) -> Result<String, AllocError>
     ensures { IfOk result (λ line. string_bytes line ≡ count_line form path.now counts taken) }
 {
     let mut line = String::new(alloc);
-    match form {
-        LineForm::Text => put_count_text(&mut line, path, counts)?,
+    match form.form {
+        LineForm::Text => put_count_text(&mut line, form.named(path), counts)?,
         LineForm::Json => put_count_object(&mut line, path, counts, taken)?,
     }
     Ok(line)
@@ -106,14 +115,13 @@ fn put_path_object(line: &mut String, path: &str) -> Result<(), AllocError>
 }
 
 /// The line of a path.
-fn path_line(alloc: Global, path: &str, form: LineForm) -> Result<String, AllocError>
+fn path_line(alloc: Global, path: &str, form: NamingForm) -> Result<String, AllocError>
     ensures { IfOk result (λ line. string_bytes line ≡ path_line form path.now) }
 {
     let mut line = String::new(alloc);
-    match form {
+    match form.form {
         LineForm::Text => {
-            line.push_str(path)?;
-            line.push_str("\n")?;
+            write!(line, "{}\n", form.named(path))?;
         }
         LineForm::Json => put_path_object(&mut line, path)?,
     }
@@ -127,7 +135,7 @@ pub(crate) fn print_count<R, O: Write>(
     alloc: Global,
     path: &str,
     end: &CountEnd<R>,
-    form: LineForm,
+    form: NamingForm,
     out: &mut O,
 ) -> Result<(), Unprinted>
     ensures { Takes (O.contents out.old) (O.contents out.new) result (count_line form path.now end.now.counts end.now.taken) }
@@ -183,7 +191,7 @@ pub(crate) fn print_sum_object<O: PrintSink>(
 pub(crate) fn print_path<O: Write>(
     alloc: Global,
     path: &str,
-    form: LineForm,
+    form: NamingForm,
     out: &mut O,
 ) -> Result<(), Unprinted>
     ensures { Takes (O.contents out.old) (O.contents out.new) result (path_line form path.now) }

@@ -9,7 +9,7 @@ use cli_answers::captures::{goes_on, read_of};
 use cli_answers::printing::Unprinted;
 use cli_answers::seek::{PacketTest, Sought, find_first};
 use cli_walk::{Stop, Visited, Visitor, Walk, visit_captures};
-use line_text::LineForm;
+use line_text::NamingForm;
 use savefile::{Fault, Source};
 use std::alloc::Global;
 use std::io::Write;
@@ -21,7 +21,7 @@ pub struct ListJob<'t, 'p, 'a, T> {
     pub test: &'t T,
     /// The paths of the captures, in order.
     pub paths: &'p [&'a str],
-    pub form: LineForm,
+    pub form: NamingForm,
 }
 
 /// What was found in the captures so far.

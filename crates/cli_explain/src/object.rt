@@ -6,13 +6,12 @@ ghost use Rattle.cli_answers.specs.declared.form.PacketForm.TheVariants.{Json};
 ghost use Rattle.cli_explain.specs.Explained.{IsOfWhole};
 
 use crate::printer::FullPrinter;
-use crate::whole::{join_verdicts, number_at};
+use crate::whole::{join_verdicts, number_at, put_given};
 use bpfvm::{Brief, Executed, NoMemory, Program, Traced, trace};
 use cli_answers::dump::put_hex;
 use cli_answers::{AskedFilter, json};
 use filter_explain::{AskedPart, decide, explain, put_part};
 use filter_meaning::{Look, Verdict, looks_of};
-use filter_print::Canonical;
 use filtergen::Refusal;
 use filterlang::Expr;
 use frame_fields::{FieldPart, Layers, layers_of, part_of_frame};
@@ -181,8 +180,7 @@ fn put_expression(
     expr: &Expr,
     packet: &PacketRef<'_>,
 ) -> Result<(), NoMemory> {
-    name.clear();
-    write!(name, "{}", Canonical(expr))?;
+    put_given(name, expr)?;
     text.push_str("\"expression\":")?;
     put_string(text, name.as_str())?;
     text.push_str(",\"asked\":[")?;

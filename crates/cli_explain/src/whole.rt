@@ -99,6 +99,18 @@ pub(crate) fn join_verdicts(first: Verdict, goes_on: Verdict, second: Verdict) -
     if first == goes_on { second } else { first }
 }
 
+/// Puts an expression as a command line takes it in place of what a text has: in parentheses, if it
+/// begins with `-`.
+pub(crate) fn put_given(text: &mut String, expr: &Expr) -> Result<(), AllocError> {
+    text.clear();
+    write!(text, "{}", Canonical(expr))?;
+    if text.as_str().starts_with("-") {
+        text.clear();
+        write!(text, "({})", Canonical(expr))?;
+    }
+    Ok(())
+}
+
 /// What follows a packet's line, and what the parts of its expression looked at.
 #[derive(Drop)]
 struct WholeText {
@@ -158,7 +170,9 @@ impl WholeText {
     /// Appends how an expression was read, and its primitives and relations; what they looked at is
     /// noted.
     fn put_expression(&mut self, expr: &Expr, packet: &PacketRef<'_>) -> Result<(), NoMemory> {
-        write!(self.text, "\nexpression: {}\n\n", Canonical(expr))?;
+        let mut given = String::new(self.alloc);
+        put_given(&mut given, expr)?;
+        write!(self.text, "\nexpression: {}\n\n", given.as_str())?;
         self.put_parts(expr, true, packet)?;
         Ok(())
     }

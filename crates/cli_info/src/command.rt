@@ -14,7 +14,7 @@ use cli_watch::captures::watched_inputs;
 use cli_watch::output::WatchedOutput;
 use cli_watch::{Screen, Watch};
 use fault_report::reporting::{report_memory, report_unwritten};
-use line_text::LineForm;
+use line_text::{LineForm, NamingForm};
 use pcap_info::survey::survey_capture;
 use std::alloc::Global;
 use std::fs::Files;
@@ -34,7 +34,7 @@ fn report_unprinted<E: HintSink>(error: &io::Error, err: &mut E) -> Status {
 #[derive(Clone, Copy)]
 struct Inspector {
     alloc: Global,
-    form: LineForm,
+    form: NamingForm,
 }
 
 impl Inspector {
@@ -116,7 +116,10 @@ pub fn info_command<R: Files + AllocGlobal + Screen, O: Write, E: HintSink>(
     };
     let inspector = Inspector {
         alloc: rt.alloc(),
-        form: LineForm::asked(words.json),
+        form: NamingForm {
+            form: LineForm::asked(words.json),
+            is_terminal: rt.is_output_terminal(),
+        },
     };
     let ended = inspector.inspect_all(paths, inputs, &mut out, err);
     watch.erase();

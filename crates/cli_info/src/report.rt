@@ -11,8 +11,8 @@ use cli_text::Status;
 use cli_text::report::fault_status;
 use fault_report::FaultSink;
 use fault_report::reporting::report_device;
-use line_text::LineForm;
 use line_text::sending::send;
+use line_text::{LineForm, NamingForm};
 use pcap_info::survey::CaptureSurvey;
 use savefile::Fault;
 use std::alloc::{AllocError, Global};
@@ -24,14 +24,14 @@ fn line_of<R>(
     alloc: Global,
     path: &str,
     survey: &CaptureSurvey<R>,
-    form: LineForm,
+    form: NamingForm,
 ) -> Result<String, AllocError>
     ensures { IfOk result (λ line. string_bytes line ≡ line_in form path.now survey.now.header survey.now.contents survey.now.read) }
 {
     let mut line = String::new(alloc);
-    match form {
+    match form.form {
         LineForm::Text => {
-            line.push_str(path)?;
+            write!(line, "{}", form.named(path))?;
             put_rest_of_line(&mut line, survey)?;
         }
         LineForm::Json => put_object(&mut line, path, survey)?,
@@ -39,8 +39,8 @@ fn line_of<R>(
     Ok(line)
 }
 
-/// Prints the line of the capture at a path: the path, and then [`put_rest_of_line`], or
-/// [`put_object`].
+/// Prints the line of the capture at a path: the path, on a terminal without what would control it,
+/// and then [`put_rest_of_line`], or [`put_object`].
 ///
 /// The error is that of `out`, which took a prefix of the line; or `OutOfMemory`, and then it took
 /// nothing.
@@ -48,7 +48,7 @@ pub fn print_survey<R, O: Write>(
     alloc: Global,
     path: &str,
     survey: &CaptureSurvey<R>,
-    form: LineForm,
+    form: NamingForm,
     out: &mut O,
 ) -> io::Result<()>
     ensures { Takes (O.contents out.old) (O.contents out.new) result (line_in form path.now survey.now.header survey.now.contents survey.now.read) }

@@ -8,7 +8,13 @@ use std::io;
 use std::io::{Read, Seek, SeekFrom};
 
 /// How many bytes are looked through first, and how many if no record seems to begin in these. Eight of the longest records fit into the latter.
-static WINDOWS: [u64; 2] = [1 << 16, 1 << 22];
+static WINDOWS: [u64; 2] = [WINDOW, 1 << 22];
+
+/// How many bytes are looked through first.
+pub(crate) const WINDOW: u64 = 1 << 16;
+
+/// In how many bytes no record seems to begin, if none is found: a record is looked for in the front half.
+pub(crate) const LOOKED_THROUGH: u64 = 1 << 21;
 
 /// The bytes of a file from a place on, up to this number.
 fn bytes_at<F: Read + Seek>(

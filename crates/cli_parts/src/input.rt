@@ -9,7 +9,7 @@ ghost use Rattle.pcap_parts.specs.Whole.{between};
 use crate::placed::{DiskFile, PlacedFile};
 use cli_args::places::ByteRange;
 use cli_files::reading::report_io;
-use cli_files::retried::Retried;
+use cli_files::retried::{Retried, metadata, open_metadata};
 use cli_report::HintSink;
 use cli_report::probe::{FailureProbe, ProbedInput};
 use cli_report::stream::give_hint;
@@ -20,7 +20,7 @@ use fault_report::Report;
 use fault_report::reporting::report_fault;
 use savefile::{Counted, HEADER_LEN};
 use std::alloc::Global;
-use std::fs::{Files, Metadata, OpenFile};
+use std::fs::{Files, Metadata};
 use std::io::{Chain, Cursor, Read, Take};
 use std::{fs, io};
 
@@ -72,10 +72,10 @@ pub(crate) fn open_regular<R: Files, E: HintSink>(
     path: &str,
     err: &mut E,
 ) -> Result<OpenPart<R::File>, Status> {
-    regular_size(&fs::metadata(rt, path), path, err)?;
+    regular_size(&metadata(rt, path), path, err)?;
     match fs::open(rt, path) {
         Ok(input) => {
-            let size = regular_size(&input.metadata(), path, err)?;
+            let size = regular_size(&open_metadata(&input), path, err)?;
             Ok(OpenPart { input, size })
         }
         Err(error) => Err(report_io(&error, path, err)),

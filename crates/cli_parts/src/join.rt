@@ -8,7 +8,7 @@ use cli_args::join::JoinWords;
 use cli_files::late::LateFile;
 use cli_files::paths::{Opening, PathFault, STANDARD_OUTPUT, check_shared_files, report_path};
 use cli_files::reading::{read_text, report_io};
-use cli_files::retried::Retried;
+use cli_files::retried::{Retried, metadata};
 use cli_report::failures::hint_failure;
 use cli_report::{FailureProbe, HintSink};
 use cli_text::Status;
@@ -93,8 +93,8 @@ impl<'p, R: Files + AllocGlobal> JoinFiles<'p> for DiskFiles<'_, 'p, R> {
     }
 
     fn size(&self, path: &str) -> io::Result<Option<u64>> {
-        let metadata = fs::metadata(self.rt, path)?;
-        Ok(metadata.is_file().then_some(metadata.len()))
+        let found = metadata(self.rt, path)?;
+        Ok(found.is_file().then_some(found.len()))
     }
 }
 

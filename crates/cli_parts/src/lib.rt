@@ -11,3 +11,4 @@ pub mod lines;
 pub mod parts;
 pub mod placed;
 mod report;
+mod seen;

@@ -4,12 +4,13 @@ ghost use Rattle.std.specs.Prelude.{◌≡◌, false};
 
 use crate::line::print_stretches;
 use crate::lines::LinesFault;
+use cli_files::reading::report_printed;
 use cli_report::HintSink;
 use cli_report::files::hint_bad_line;
 use cli_report::stream::give_hint;
 use cli_text::Status;
 use cli_text::report::EscapedPath;
-use fault_report::reporting::{report_fault, report_memory, report_output};
+use fault_report::reporting::{report_fault, report_memory};
 use fault_report::{Report, Subject, Word};
 use pcap_parts::join::Misfit;
 use savefile::Fault;
@@ -80,7 +81,7 @@ pub(crate) fn report_lines<O: Write, E: HintSink>(
         LinesFault::Misfit(misfit) => report_misfit(*misfit, lines.path, err),
         LinesFault::Again(again) => {
             let printed = print_stretches(alloc, again.as_slice(), out);
-            report_output(&printed, err).max(Status::Negative)
+            report_printed(&printed, err).max(Status::Negative)
         }
         LinesFault::NoMemory => report_memory(err),
     }

@@ -5,8 +5,8 @@ use Rattle.std.specs.List.{AllZip}
 use Rattle.std.specs.declared.io.Error.{Error}
 use Rattle.bpfvm.specs.declared.insn.Insn.{Insn}
 use Rattle.savefile.specs.declared.packet.Packet.{Packet}
-use Rattle.line_text.specs.declared.form.LineForm.{LineForm}
 use Rattle.line_text.specs.declared.form.LineForm.TheVariants.{Text, Json}
+use Rattle.line_text.specs.declared.form.NamingForm.{NamingForm}
 use Rattle.cli_args.specs.declared.split.SplitWords.{SplitWords}
 use Rattle.cli_files.specs.Paths.{IsPathStatus}
 use Rattle.cli_files.specs.Reading.{IsRefusedMemory}
@@ -144,11 +144,11 @@ IsRefusalStatus (refusal.Paths fault) ended = IsPathStatus fault ended
 IsRefusalStatus (refusal.File path error) ended = IsFileStatus error ended
 IsRefusalStatus refusal.NoMemory ended = ended ≡ status.Refused
 
--- the form of the lines that are printed
-abbrev pub form_of : SplitWords → LineForm
-form_of words = if words.json then Json else Text
+-- the form of the lines that are printed, to a terminal or not
+abbrev pub form_of : Bool → SplitWords → NamingForm
+form_of is_terminal words = record { form = if words.json then Json else Text; is_terminal = is_terminal }
 
 -- Of a refusal nothing is printed; else the counts of each OUT that was written whole are.
-abbrev pub ReportsOutcome : SplitWords → SplitOutcome → Option (List ℕ) → Option (List ℕ) → Status → Type 0
-ReportsOutcome words (Refused reason) old new ended = IsRefusalStatus reason ended × (new ≡ old)
-ReportsOutcome words (Ended report) old new ended = ReportsSplit (form_of words) report.lines.items report.end old new ended
+abbrev pub ReportsOutcome : Bool → SplitWords → SplitOutcome → Option (List ℕ) → Option (List ℕ) → Status → Type 0
+ReportsOutcome is_terminal words (Refused reason) old new ended = IsRefusalStatus reason ended × (new ≡ old)
+ReportsOutcome is_terminal words (Ended report) old new ended = ReportsSplit (form_of is_terminal words) report.lines.items report.end old new ended

@@ -2,7 +2,7 @@
 use Rattle.std.specs.Prelude.{◌≡◌, All, List, ℕ, IsOk, Option, fold, Result, Ok, Err}
 use Rattle.std.specs.declared.io.Error.{Error}
 use Rattle.savefile.specs.declared.fault.Fault.{Fault}
-use Rattle.line_text.specs.declared.form.LineForm.{LineForm}
+use Rattle.line_text.specs.declared.form.NamingForm.{NamingForm}
 use Rattle.line_text.specs.Sending.{Takes}
 use Rattle.cli_text.specs.Status.{greater}
 use Rattle.cli_text.specs.Telling.{fault_status, print_status_of}
@@ -39,7 +39,7 @@ abbrev pub WentWell : {R W : Type 0} → SplitEnd R W → Type 0
 WentWell end = IsOk end.end × All (λ part. IsOk part.written) end.parts.items
 
 -- The lines were printed: all of them, or a prefix if standard output failed. The status is the greatest of all.
-pub record ReportsSplit {R W : Type 0} (form : LineForm) (lines : List SplitLine) (end : SplitEnd R W) (old new : Option (List ℕ)) (status : Status) : Type 0 where
+pub record ReportsSplit {R W : Type 0} (form : NamingForm) (lines : List SplitLine) (end : SplitEnd R W) (old new : Option (List ℕ)) (status : Status) : Type 0 where
   pub printed : Result (Unit {0}) Error
   pub prints : Takes old new printed (printed_split form lines end)
   pub greatest : status ≡ greater (print_status_of printed) (split_status end)

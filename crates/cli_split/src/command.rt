@@ -30,15 +30,17 @@ use cli_watch::hints::report_unseen;
 use cli_watch::output::PrintSink;
 use cli_watch::{Screen, Watch};
 use fault_report::reporting::{report_fault, report_memory};
-use line_text::LineForm;
+use line_text::{LineForm, NamingForm};
 use std::alloc::Global;
 use std::fs::Files;
 use std::io::Write;
 
-/// A call of `bpftap split`: its words, and where the text of LINES is kept.
+/// A call of `bpftap split`: its words, whether standard output is a terminal, and where the text of
+/// LINES is kept.
 #[derive(Drop)]
 pub struct SplitCall<'w, 'p> {
     pub words: &'w SplitWords<'p>,
+    pub is_terminal: bool,
     pub text: &'p mut Vec<u8>,
 }
 
@@ -98,14 +100,25 @@ fn report_refused<'p, E: HintSink>(
     }
 }
 
+/// The form of the lines that are printed.
+fn form_of(is_terminal: bool, words: &SplitWords<'_>) -> NamingForm
+    ensures { result ≡ form_of is_terminal words.now }
+{
+    NamingForm {
+        form: LineForm::asked(words.json),
+        is_terminal,
+    }
+}
+
 /// Prints how many packets each part has, and reports what failed.
 fn report_ended<'p, O: PrintSink, E: HintSink>(
     words: &SplitWords<'_>,
+    form: NamingForm,
     report: SplitReport<'p>,
     out: &mut O,
     err: &mut E,
 ) -> Reported<'p>
-    ensures prints { ReportsSplit (form_of words.now) report.entry.lines.items report.entry.end (O.contents out.old) (O.contents out.new) result.status }
+    ensures prints { ReportsSplit form report.entry.lines.items report.entry.end (O.contents out.old) (O.contents out.new) result.status }
     ensures silent { result.status ≡ Clean → E.takes_hints err.old ≡ false → err.new ≡ err.old }
     ensures told { TellsStop E.takes_hints E.failed E.contents E.fault_form words.now.inputs.items report.entry.end.end err.old err.new }
     ensures handed_on { O.waits out.old ≡ false → (result.status ≡ Failed → ⊥) → O.waits out.new ≡ false }
@@ -121,7 +134,7 @@ fn report_ended<'p, O: PrintSink, E: HintSink>(
         lines: lines.as_slice(),
         end: &end,
     };
-    let status = split.report(LineForm::asked(words.json), &mut line, out, err);
+    let status = split.report(form, &mut line, out, err);
     hint_ended(split.captures, split.lines, &end, err);
     Reported {
         status,
@@ -141,7 +154,7 @@ pub fn split_and_report<'p, F: FileStore<'p>, O: PrintSink, E: HintSink>(
     requires none_open { F.opened files.old ≡ [] }
     ensures splits { F.known ≡ true → (outcome : SplitOutcome)
         × SplitsFiles (F.place files.old) (F.text files.old) (F.text files.new) (F.printed files.old) (F.failed files.new) (F.denied files.new) call.entry.words.now outcome
-        × ReportsOutcome call.entry.words.now outcome (O.contents out.old) (O.contents out.new) result.status
+        × ReportsOutcome call.entry.is_terminal call.entry.words.now outcome (O.contents out.old) (O.contents out.new) result.status
         × TellsOutcome E.takes_hints E.failed E.contents E.fault_form call.entry.words.now outcome err.old err.new }
     // Where all went well nothing is reported.
     ensures silent { result.status ≡ Clean → E.takes_hints err.old ≡ false → err.new ≡ err.old }
@@ -149,10 +162,16 @@ pub fn split_and_report<'p, F: FileStore<'p>, O: PrintSink, E: HintSink>(
     ensures handed_on { O.waits out.old ≡ false → (result.status ≡ Failed → ⊥) → O.waits out.new ≡ false }
     ensures closed { F.known ≡ true → F.pending files.new ≡ F.pending files.old }
 {
-    let SplitCall { words, text } = call;
+    let SplitCall {
+        words,
+        is_terminal,
+        text,
+    } = call;
     match split_files(alloc, files, words, text) {
         SplitOutcome::Refused(refusal) => report_refused(alloc, &refusal, err),
-        SplitOutcome::Ended(report) => report_ended(words, report, out, err),
+        SplitOutcome::Ended(report) => {
+            report_ended(words, form_of(is_terminal, words), report, out, err)
+        }
     }
 }
 
@@ -168,7 +187,11 @@ fn split_on_disk<'w: 'p, 'p, R: Files + AllocGlobal + Screen, O: Write, E: HintS
     let mut out = output_buffer(alloc, &mut *out, err)?;
     let watch = Watch::new(rt, words.inputs.as_slice(), err.takes_hints()).counting(true);
     let mut files = DiskFiles::new(rt, &watch).gathering(OUTPUT_BUFFER);
-    let call = SplitCall { words, text };
+    let call = SplitCall {
+        words,
+        is_terminal: rt.is_output_terminal(),
+        text,
+    };
     let reported = split_and_report(alloc, &mut files, call, &mut out, err);
     hint_printed(out.get_ref(), err);
     if reported.is_asked {

@@ -19,7 +19,7 @@ use cli_args::split::SplitWords;
 use cli_filter::plan::Plan;
 use cli_report::probe::ProbedInput;
 use cli_store::FileStore;
-use line_text::LineForm;
+use line_text::{LineForm, NamingForm};
 use savefile::laws::packets_take_room;
 use savefile::{Sink, Source};
 use std::alloc::{AllocError, Global};
@@ -38,7 +38,7 @@ struct Space<'p, R, W> {
 /// Reserves the space for this many captures and for these lines of LINES.
 fn reserve<'p, R: Drop, W: Drop>(
     alloc: Global,
-    form: LineForm,
+    form: NamingForm,
     captures: usize,
     lines: &[SplitLine<'p>],
     text: &'p [u8],
@@ -120,7 +120,11 @@ fn split_planned<'p, F: FileStore<'p>>(
     ensures refused { F.known ≡ true → IfErr result (λ refusal. (IsUnmade (IsInput words.now.inputs.items) (F.place files.old) (F.denied files.new) refusal ⊎ IsUnmade (IsOutput plan.entry.lines.items) (F.place files.old) (F.denied files.new) refusal)
         × ((p : List ℕ) → F.text files.new p ≡ F.text files.old p)) }
 {
-    let form = LineForm::asked(words.json);
+    // A name on a terminal needs no more room.
+    let form = NamingForm {
+        form: LineForm::asked(words.json),
+        is_terminal: false,
+    };
     let captures = late_captures(alloc, files, words.inputs.as_slice())?;
     let space = reserve(alloc, form, captures.len(), plan.lines.as_slice(), text)?;
     split_captures(files, words, plan, captures, space)

@@ -1,12 +1,14 @@
 //! The line of a part that was written whole: text, or an object of JSON.
 
 ghost use Rattle.std.specs.Prelude.{◌≡◌, OnOk, string_bytes};
+ghost use Rattle.visible_text.specs.Hidden.{printed_name};
 ghost use Rattle.cli_split.specs.Printed.{count_line, count_object, count_text};
 
 use crate::plan::SplitLine;
-use line_text::{LineForm, put_string};
+use line_text::{LineForm, NamingForm, put_string};
 use pcap_cut::cut::Tally;
 use std::alloc::{AllocError, Global};
+use visible_text::PrintedName;
 
 /// The counts whose line is longest.
 const LONGEST: Tally = Tally {
@@ -16,8 +18,8 @@ const LONGEST: Tally = Tally {
 
 /// Puts the text of an OUT's counts in place of what the line has.
 #[tactic(auto, unfolding(crate::specs::Printed::count_text))]
-fn put_text(line: &mut String, output: &str, tally: Tally) -> Result<(), AllocError>
-    ensures { OnOk result (string_bytes line.new ≡ count_text output.now tally) }
+fn put_text(line: &mut String, output: PrintedName<'_>, tally: Tally) -> Result<(), AllocError>
+    ensures { OnOk result (string_bytes line.new ≡ count_text (printed_name output.entry.is_terminal output.entry.name.now) tally) }
 {
     line.clear();
     writeln!(line, "{output} {} of {}", tally.written, tally.read)
@@ -40,15 +42,15 @@ fn put_object(line: &mut String, output: &str, tally: Tally) -> Result<(), Alloc
 
 /// Puts the line of an OUT's counts in place of what the line has.
 pub(crate) fn put_count(
-    form: LineForm,
+    form: NamingForm,
     line: &mut String,
     output: &str,
     tally: Tally,
 ) -> Result<(), AllocError>
     ensures { OnOk result (string_bytes line.new ≡ count_line form output.now tally) }
 {
-    match form {
-        LineForm::Text => put_text(line, output, tally),
+    match form.form {
+        LineForm::Text => put_text(line, form.named(output), tally),
         LineForm::Json => put_object(line, output, tally),
     }
 }
@@ -56,7 +58,7 @@ pub(crate) fn put_count(
 /// A line with room for that of each OUT, whatever its counts are. So [`report`](crate::report::EndedSplit::report) needs no more memory.
 pub fn line_for(
     alloc: Global,
-    form: LineForm,
+    form: NamingForm,
     lines: &[SplitLine<'_>],
 ) -> Result<String, AllocError> {
     let mut room = String::new(alloc);

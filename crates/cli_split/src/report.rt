@@ -24,7 +24,7 @@ use cli_watch::output::PrintSink;
 use fault_report::FaultSink;
 use fault_report::captures::output_fault;
 use fault_report::reporting::{report_fault, report_nth_capture, report_unwritten};
-use line_text::LineForm;
+use line_text::NamingForm;
 use line_text::sending::send;
 use savefile::Fault;
 use std::io;
@@ -40,7 +40,7 @@ pub struct EndedSplit<'s, R, W> {
 
 /// The line of a part that was written whole; no line of another one.
 fn write_part<W, O: Write>(
-    form: LineForm,
+    form: NamingForm,
     output: &str,
     part: &PartEnd<W>,
     line: &mut String,
@@ -67,7 +67,7 @@ fn output_at<'a>(lines: &[SplitLine<'a>], n: usize) -> &'a str
 
 /// The lines of all parts.
 fn write_parts<W, O: Write>(
-    form: LineForm,
+    form: NamingForm,
     lines: &[SplitLine<'_>],
     parts: &[PartEnd<W>],
     line: &mut String,
@@ -93,7 +93,7 @@ pub fn was_begun(end: Result<(), Stop>) -> bool
 
 /// Prints the lines of all parts that were started, and all that the writer has gathered of them.
 fn print_split<R, W, O: PrintSink>(
-    form: LineForm,
+    form: NamingForm,
     lines: &[SplitLine<'_>],
     end: &SplitEnd<R, W>,
     line: &mut String,
@@ -208,7 +208,7 @@ impl<R, W> EndedSplit<'_, R, W> {
     /// [`Status::Damaged`] for the fault of a record.
     pub fn report<O: PrintSink, E: HintSink>(
         &self,
-        form: LineForm,
+        form: NamingForm,
         line: &mut String,
         out: &mut O,
         err: &mut E,

@@ -2,6 +2,8 @@
 
 ghost use Rattle.std.specs.Prelude.{◌≡◌, if◌then◌else◌};
 
+use visible_text::PrintedName;
+
 /// The form of the lines that a command prints.
 #[derive(Clone, Copy, Debug, PartialEq, Eq)]
 pub enum LineForm {
@@ -17,5 +19,27 @@ impl LineForm {
         ensures { result ≡ if json then LineForm.Json else LineForm.Text }
     {
         if json { LineForm::Json } else { LineForm::Text }
+    }
+}
+
+/// The form of lines that name files.
+#[derive(Clone, Copy, Debug, PartialEq, Eq)]
+pub struct NamingForm {
+    pub form: LineForm,
+    /// Whether the lines go to a terminal: in lines of text hidden characters of a name are marked
+    /// then.
+    pub is_terminal: bool,
+}
+
+impl NamingForm {
+    /// The name of a file, as a line of text has it.
+    pub fn named(self, name: &str) -> PrintedName<'_>
+        ensures name { result.name ≡ name.entry }
+        ensures terminal { result.is_terminal ≡ self.is_terminal }
+    {
+        PrintedName {
+            name,
+            is_terminal: self.is_terminal,
+        }
     }
 }

@@ -14,6 +14,6 @@ pub mod string;
 pub mod time;
 
 pub use fault::LineFault;
-pub use form::LineForm;
+pub use form::{LineForm, NamingForm};
 pub use line::Line;
 pub use string::{JsonEscaped, JsonString, put_string};

@@ -1,89 +1,59 @@
 //! A text as a JSON string.
 
-ghost use Rattle.std.specs.Prelude.{◌≡◌, ◌<◌, ◌++◌, OnOk, Some, string_bytes};
+ghost use Rattle.std.specs.Prelude.{◌≡◌, ◌<◌, ◌++◌, EachIndex, IsTrue, OnOk, Some, slice_index, string_bytes, true};
 ghost use Rattle.std.specs.Fmt.{WritesOnOk};
-ghost use Rattle.line_text.specs.Strings.{escaped, escape_text, json_string, needs_escape};
+ghost use Rattle.line_text.specs.Strings.{escaped, escape_text, is_plain, json_string, number_escape};
 
 use std::alloc::AllocError;
 use std::fmt;
 use std::fmt::{Display, Formatter};
+use visible_text::is_hidden;
 
-/// Whether a JSON string has an escape for this byte: a quote, a backslash, or a control character.
-fn needs_escape(byte: u8) -> bool
-    ensures { result ≡ needs_escape byte }
+/// Whether this byte is an ASCII character without an escape.
+fn is_plain(byte: u8) -> bool
+    ensures { result ≡ is_plain byte }
 {
-    byte < 32 || byte == b'"' || byte == b'\\'
+    (32..127).contains(&byte) && byte != b'"' && byte != b'\\'
 }
 
-/// Appends the escape of a byte.
-fn put_escape(line: &mut String, byte: u8) -> Result<(), AllocError>
-    requires { byte < 128 }
-    ensures { OnOk result (string_bytes line.new ≡ string_bytes line.old ++ escape_text byte) }
+/// Whether each byte of a text is an ASCII character without an escape.
+fn is_plain_text(text: &str) -> bool
+    ensures { IsTrue result → EachIndex text.now (λ k. is_plain (slice_index text.now k) ≡ true) }
 {
-    if byte < 32 {
-        write!(line, "\\u00{byte:02x}")
+    text.as_bytes().iter().all(|byte| is_plain(*byte))
+}
+
+/// Writes the number of a character, of at most 16 bits, as a JSON string has it.
+fn write_number<W: fmt::Write>(f: &mut Formatter<W>, character: char) -> fmt::Result
+    requires { character < 65536 }
+    ensures { WritesOnOk W.write_str_gives f.old result (number_escape character) f.new }
+{
+    let code = u32::from(character);
+    write!(f, "\\u{:02x}{:02x}", code / 256, code % 256)
+}
+
+/// Writes a character as it stands in a JSON string.
+#[tactic(auto, unfolding(crate::specs::Strings::escape_text))]
+fn write_character<W: fmt::Write>(f: &mut Formatter<W>, character: char) -> fmt::Result
+    ensures { WritesOnOk W.write_str_gives f.old result (escape_text character) f.new }
+{
+    if is_hidden(character) {
+        write_number(f, character)
+    } else if character == '"' || character == '\\' {
+        write!(f, "\\{character}")
     } else {
-        line.push_str("\\")?;
-        line.push(char::from(byte))
+        f.write_char(character)
     }
 }
 
-/// Appends a text, with an escape for each byte that needs one.
-fn put_escaped(line: &mut String, text: &str) -> Result<(), AllocError>
-    ensures { OnOk result (string_bytes line.new ≡ string_bytes line.old ++ escaped text.now) }
-{
-    let bytes = text.as_bytes();
-    let mut start = 0;
-    for at in 0..bytes.len() {
-        let byte = bytes[at];
-        if needs_escape(byte) {
-            line.push_str(&text[start..at])?;
-            put_escape(line, byte)?;
-            start = at + 1;
-        }
-    }
-    line.push_str(&text[start..])
-}
-
-/// Appends a text as a JSON string: in quotes, with `\"`, `\\`, and `\u00` with two digits for each
-/// control character below 32. All else stays as it is, in UTF-8. It fails if memory is refused;
-/// the line is then unspecified.
-pub fn put_string(line: &mut String, text: &str) -> Result<(), AllocError>
-    ensures { OnOk result (string_bytes line.new ≡ string_bytes line.old ++ json_string text.now) }
-{
-    line.push_str("\"")?;
-    put_escaped(line, text)?;
-    line.push_str("\"")
-}
-
-/// Writes the escape of a byte.
-fn write_escape<W: fmt::Write>(f: &mut Formatter<W>, byte: u8) -> fmt::Result
-    requires { byte < 128 }
-    ensures { WritesOnOk W.write_str_gives f.old result (escape_text byte) f.new }
-{
-    if byte < 32 {
-        write!(f, "\\u00{byte:02x}")
-    } else {
-        f.write_str("\\")?;
-        f.write_char(char::from(byte))
-    }
-}
-
-/// Writes a text, with an escape for each byte that needs one.
-fn write_escaped<W: fmt::Write>(f: &mut Formatter<W>, text: &str) -> fmt::Result
+/// Writes a text as it stands in a JSON string, character after character.
+fn write_characters<W: fmt::Write>(f: &mut Formatter<W>, text: &str) -> fmt::Result
     ensures { WritesOnOk W.write_str_gives f.old result (escaped text.now) f.new }
 {
-    let bytes = text.as_bytes();
-    let mut start = 0;
-    for at in 0..bytes.len() {
-        let byte = bytes[at];
-        if needs_escape(byte) {
-            f.write_str(&text[start..at])?;
-            write_escape(f, byte)?;
-            start = at + 1;
-        }
+    for character in text.chars() {
+        write_character(f, character)?;
     }
-    f.write_str(&text[start..])
+    Ok(())
 }
 
 /// A text as it stands in a JSON string, as [`put_string`] writes it, which takes no memory.
@@ -93,8 +63,14 @@ pub struct JsonEscaped<'a>(pub &'a str);
 impl Display for JsonEscaped<'_> {
     ghost output = { λ text. Some (escaped text.0.now) };
 
+    #[tactic(auto, using(crate::proofs::Escapes::escaped_plain))]
     fn fmt<W: fmt::Write>(&self, f: &mut Formatter<W>) -> fmt::Result {
-        write_escaped(f, self.0)
+        // Most texts have no escape, and are written at once.
+        if is_plain_text(self.0) {
+            f.write_str(self.0)
+        } else {
+            write_characters(f, self.0)
+        }
     }
 }
 
@@ -109,4 +85,14 @@ impl Display for JsonString<'_> {
     fn fmt<W: fmt::Write>(&self, f: &mut Formatter<W>) -> fmt::Result {
         write!(f, "\"{}\"", JsonEscaped(self.0))
     }
+}
+
+/// Appends a text as a JSON string: in quotes, with `\"`, `\\`, and `\u` with four digits for each
+/// control character, from U+0000 to U+001F and U+007F to U+009F, and for each character that turns
+/// the direction of text, U+202A to U+202E and U+2066 to U+2069. All else stays as it is, in UTF-8.
+/// It fails if memory is refused; the line is then unspecified.
+pub fn put_string(line: &mut String, text: &str) -> Result<(), AllocError>
+    ensures { OnOk result (string_bytes line.new ≡ string_bytes line.old ++ json_string text.now) }
+{
+    write!(line, "{}", JsonString(text))
 }

@@ -13,4 +13,4 @@ abbrev pub invariant-loop-outlet : goal.invariant-loop-outlet
 invariant-loop-outlet g l =
     (order : Order) (unit : TimeUnit) (packets : List Packet) (parts : List (Part g.row.W.Denot))
     → AllZip (HasTaken g.W.Sink.taken g.W.Sink.name g.W.Sink.failures order unit packets) parts l.fn.outlets.items
-    → Half (HasTaken g.W.Sink.taken g.W.Sink.name g.W.Sink.failures order unit packets) (HasHandedOn g.W.Sink.taken g.W.Sink.name g.W.Sink.failures g.W.Sink.waits order unit packets) parts l.outlet-items l.outlet-index
+    → Half (HasTaken g.W.Sink.taken g.W.Sink.name g.W.Sink.failures order unit packets) (HasHandedOn g.W.Sink.taken g.W.Sink.name g.W.Sink.failures g.W.GatheringSink.waits order unit packets) parts l.outlet-items l.outlet-index

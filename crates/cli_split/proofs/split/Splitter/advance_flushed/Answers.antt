@@ -9,7 +9,7 @@ returns-clause-written g c = λ order unit packets parts has.
     let F = g.W.Sink.failures in (
       has.0,
       has.1,
-      zip-weaker (HasHandedOn T N F g.W.Sink.waits order unit packets) (HasTaken T N F order unit packets) (λ part outlet handed. handed.0)
+      zip-weaker (HasHandedOn T N F g.W.GatheringSink.waits order unit packets) (HasTaken T N F order unit packets) (λ part outlet handed. handed.0)
           parts c.hand_on_all.new.outlets.items (c.hand_on_all.ensures order unit packets parts has.2),
     )
 
