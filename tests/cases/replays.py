@@ -181,7 +181,7 @@ def replays_keep_what_looking_back_keeps(scene):
             listeners = [some_listener(dice) for _ in range(LISTENERS)]
             script = [step for _ in range(dice.roll(20)) for step in some_steps(dice, LISTENERS)]
             wanted = [looked_back(own_steps(l, one, script, playlist), one) for l, one in enumerate(listeners)]
-            fault = [f"Capture 0 TornRecord {sum(capture == 0 for capture, _, _ in playlist)}\n  0.pcap"] if is_torn else []
+            fault = [f"Capture 0 TornRecord {sum(capture == 0 for capture, _, _ in playlist)}"] if is_torn else []
             done = pool.submit(replay, scene.folder / str(number), (captures, listeners, script))
             started.append((done, (wanted, fault_lines(*fault), 2 if is_torn else 0)))
         for number, (done, wanted) in enumerate(started):

@@ -98,7 +98,7 @@ def a_fifo_is_a_file_too(scene):
 
 
 @case
-def lines_beyond_the_most_take_no_memory(scene):
+def lines_beyond_the_most_take_little_memory(scene):
     """With 60,000 lines, too many are refused with little memory, after bad lines and refused expressions."""
     lines = [f"0 0 8 40 1 {line}\n" for line in range(60000)]
     scene.put({"t.pcap": HEADER + T})
@@ -120,20 +120,12 @@ def report(listener, received, matched, end="Clean", written=None):
             f"received {received} matched {matched} dropped 0 written {written} {end}\n")
 
 
-def named(fault, captures):
-    """The lines of a fault: of several captures, the path of the one that has it stands below."""
-    words, interfaces = fault.split(), [paths.split() for paths in captures.split("+")]
-    is_several = words[2] == "Capture" and sum(map(len, interfaces)) > 1
-    return f"{fault}\n  {interfaces[int(words[1])][int(words[3])]}" if is_several else fault
-
-
 def replays(scene, listeners, captures, reports, files, *faults, status=0):
     """A run prints these reports and these faults, makes these files, and leaves all others."""
     scene.start({**CAPTURES, "listeners.txt": listeners})
     before = scene.files()
     words = f"run listeners.txt {captures}"
-    below = [named(fault, captures) for fault in faults]
-    scene.expect(words, status, fault_lines(*below), "".join(reports))
+    scene.expect(words, status, fault_lines(*faults), "".join(reports))
     scene.check(f"files after {words}", scene.files(), {**before, **files})
 
 

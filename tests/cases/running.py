@@ -45,16 +45,9 @@ def put(scene, listeners, interfaces):
     return "run listeners.txt " + " + ".join(sides)
 
 
-def named(fault, interfaces):
-    """The lines of a fault: of several captures, the path of the one that has it stands below."""
-    words = fault.split()
-    return f"{fault}\n  {words[1]}-{words[3]}.pcap" if words[2] == "Capture" and sum(map(len, interfaces)) > 1 else fault
-
-
 def ends(scene, listeners, interfaces, reports, written, *faults, status=0):
     """A run prints these reports and these faults, and writes this, by the names of its files."""
-    below = [named(fault, interfaces) for fault in faults]
-    scene.expect(put(scene, listeners, interfaces), status, fault_lines(*below), "".join(reports))
+    scene.expect(put(scene, listeners, interfaces), status, fault_lines(*faults), "".join(reports))
     scene.check(f"written of {listeners}", {name: scene.read(name) for name in written}, written)
 
 

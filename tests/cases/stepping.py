@@ -238,25 +238,18 @@ def put(scene, listeners, script, captures):
     return " ".join(["l.txt", "s.txt", *named])
 
 
-def named(fault, captures):
-    """The lines of a fault: of several captures, the path of the one that has it stands below."""
-    kind, _, rest = fault.partition(" ")
-    return f"{fault}\n  {rest.split()[0]}.pcap" if kind == "Capture" and len(captures) > 1 else fault
-
-
 @case
 def each_listener_is_printed(scene):
     """Its counts, its batches and what is held, in both modes, and the fault of a capture after them."""
     for listeners, script, captures, out, faults, status in PRINTED:
-        words, below = put(scene, listeners, script, captures), [named(fault, captures) for fault in faults]
-        scene.expect(f"steps {words}", status, fault_lines(*below), out)
+        scene.expect(f"steps {put(scene, listeners, script, captures)}", status, fault_lines(*faults), out)
 
 
 @case
 def the_first_fault_is_reported(scene):
     """By its name and its place, and nothing is printed."""
     for listeners, script, captures, fault in REFUSED:
-        scene.refuse(f"steps {put(scene, listeners, script, captures)}", 1, named(fault, captures))
+        scene.refuse(f"steps {put(scene, listeners, script, captures)}", 1, fault)
 
 
 @case

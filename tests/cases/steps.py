@@ -16,7 +16,7 @@ REFUSED = [
     ("l.txt bad.txt no.pcap", 1, "Script 1"),
     ("refused.txt s.txt whole.pcap no.pcap", 3, "Device no.pcap"),
     ("refused.txt s.txt whole.pcap", 1, "Expression 0 NoQualifier 8"),
-    ("refused.txt s.txt whole.pcap empty.pcap", 1, "Capture 1 ShortHeader\n  empty.pcap"),
+    ("refused.txt s.txt whole.pcap empty.pcap", 1, "Capture 1 ShortHeader"),
     ("l.txt s.txt .", 3, "Device ."),
 ]
 

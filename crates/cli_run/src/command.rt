@@ -2,7 +2,7 @@
 
 ghost use Rattle.std.specs.Prelude.{◌≡◌, ◌<◌, All, IfOk, length};
 
-use crate::hints::{hint_refused, hint_run};
+use crate::hints::{asks_packets, hint_refused, hint_run};
 use crate::paths::{LateFiles, capture_paths, check_paths, late_files};
 use crate::plan::{RunLine, fault_text, read_plan};
 use crate::reported::replay_fault;
@@ -17,6 +17,7 @@ use cli_report::HintSink;
 use cli_report::failures::hint_printed;
 use cli_report::files::{LISTENERS_OF_RUN, hint_returns};
 use cli_text::Status;
+use cli_watch::hints::report_unseen;
 use cli_watch::{Screen, Watch};
 use fault_report::reporting::{report_fault, report_memory};
 use line_text::LineForm;
@@ -94,12 +95,16 @@ fn replay_files<R: Threads + Wait + Sync + AllocGlobal, O: Write, E: HintSink>(
         sinks,
         watch,
     } = late;
+    let is_counting = err.takes_hints() && asks_packets(plan.lines.as_slice());
     let replayed = replay_plan(rt, rt.alloc(), plan, captures, sinks);
     watch.erase();
     let mut reports = replayed?;
     let (form, inputs) = (LineForm::asked(words.json), words.inputs.as_slice());
     let status = report_flushed(form, inputs, reports.as_mut_slice(), out, err);
     hint_run(inputs, reports.as_slice(), err);
+    if is_counting {
+        let _ = report_unseen(watch.frames(), status, err);
+    }
     Ok(status)
 }
 
@@ -116,7 +121,8 @@ fn report_refused<E: HintSink>(
     status
 }
 
-/// What is seen of the captures; or reports that memory ran out.
+/// What is seen of the captures, whose frames are counted if hints are wanted; or reports that
+/// memory ran out.
 fn watch_of<'r, R: Files + Screen, E: HintSink>(
     rt: &'r R,
     alloc: Global,
@@ -124,7 +130,10 @@ fn watch_of<'r, R: Files + Screen, E: HintSink>(
     err: &mut E,
 ) -> Result<Watch<'r, R>, Status> {
     match capture_paths(alloc, words) {
-        Ok(paths) => Ok(Watch::new(rt, paths.as_slice(), err.takes_hints())),
+        Ok(paths) => {
+            let takes_hints = err.takes_hints();
+            Ok(Watch::new(rt, paths.as_slice(), takes_hints).counting(takes_hints))
+        }
         Err(_) => Err(report_memory(err)),
     }
 }

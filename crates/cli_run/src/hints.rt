@@ -8,6 +8,7 @@ use cli_report::files::{hint_capacity, hint_reason};
 use cli_report::probe::ProbedInput;
 use cli_report::stream::give_hint;
 use cli_report::{FailureProbe, HintSink};
+use cli_watch::hints::is_asked;
 use listener::OpenFault;
 use replay_types::{
     InterfaceEnd, InterfaceReport, ListenerReport, MAX_CAPTURES, MAX_INTERFACES, MAX_SPARES,
@@ -15,6 +16,11 @@ use replay_types::{
 };
 use std::alloc::Global;
 use std::io::Write;
+
+/// Whether an expression of these lines asks anything of a packet.
+pub(crate) fn asks_packets(lines: &[RunLine<'_>]) -> bool {
+    lines.iter().any(|line| is_asked(line.expression))
+}
 
 /// Hints on why there is no replay.
 pub(crate) fn hint_refused<E: HintSink>(

@@ -11,10 +11,8 @@ ghost use Rattle.cli_run.specs.Replaying.{ReportsRun, interface_status, listener
 
 use crate::object::put_listener_object;
 use crate::reported::end_fault;
-use cli_report::HintSink;
-use cli_report::stream::print_below;
 use cli_text::Status;
-use cli_text::report::{EscapedPath, Outcome, fault_status, print_status, report_output};
+use cli_text::report::{Outcome, fault_status, print_status, report_output};
 use fault_report::reporting::report_in;
 use line_text::sending::send;
 use line_text::{Line, LineForm};
@@ -188,56 +186,19 @@ fn report_end<E: Write>(
     }
 }
 
-/// Reports each interface that did not end clean, as a line. If `err` does not take one, no further
-/// one is reported.
-fn report_ends<R, W, E: Write>(reports: &[InterfaceReport<R, W>], err: &mut E) -> io::Result<()>
-    ensures { Takes (E.contents err.old) (E.contents err.new) result (told_replay reports.now) }
-{
-    for (i, report) in reports.iter().enumerate() {
-        report_end(LineForm::Text, i, report.end, None, err)?;
-    }
-    Ok(())
-}
-
-/// How many captures are read.
-fn count_captures(inputs: &[Vec<&str>]) -> usize {
-    let mut count: usize = 0;
-    for paths in inputs {
-        count = count.saturating_add(paths.len());
-    }
-    count
-}
-
-/// Prints below the line of the i-th interface's fault the path of the capture that has it, if
-/// several are read, and if hints are not wanted: they begin with it.
-fn name_capture<E: HintSink>(
-    inputs: &[Vec<&str>],
-    i: usize,
-    end: InterfaceEnd,
-    err: &mut E,
-) -> io::Result<()> {
-    let (Some(paths), InterfaceEnd::Capture(n, _)) = (inputs.get(i), end) else {
-        return Ok(());
-    };
-    match paths.get(n as usize) {
-        Some(path) if count_captures(inputs) > 1 && !err.takes_hints() => {
-            print_below(EscapedPath(*path), err)
-        }
-        _ => Ok(()),
-    }
-}
-
 /// Reports each interface that did not end clean, as a line or as an object of JSON; its captures
-/// are at the paths of the same place. If several captures are read, the path of the one that has
-/// the fault is printed below the line.
-pub(crate) fn report_named_ends<R, W, E: HintSink>(
+/// are at the paths of the same place, if they are known. If `err` does not take one, no further
+/// one is reported.
+pub(crate) fn report_ends<R, W, E: Write>(
+    form: LineForm,
     inputs: &[Vec<&str>],
     reports: &[InterfaceReport<R, W>],
     err: &mut E,
-) -> io::Result<()> {
+) -> io::Result<()>
+    ensures { form ≡ Text → Takes (E.contents err.old) (E.contents err.new) result (told_replay reports.now) }
+{
     for (i, report) in reports.iter().enumerate() {
-        report_end(err.fault_form(), i, report.end, inputs.get(i), err)?;
-        name_capture(inputs, i, report.end, err)?;
+        report_end(form, i, report.end, inputs.get(i), err)?;
     }
     Ok(())
 }
@@ -252,7 +213,7 @@ fn report_all<R, W, E: Write>(
     ensures { Takes (E.contents err.old) (E.contents err.new) result (output_line printed.now ++ told_replay reports.now) }
 {
     report_output(printed, err)?;
-    report_ends(reports, err)
+    report_ends(LineForm::Text, &[], reports, err)
 }
 
 /// Prints a line for each listener, by interface,

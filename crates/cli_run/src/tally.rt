@@ -7,7 +7,7 @@ ghost use Rattle.std.specs.List.{AllZip};
 ghost use Rattle.cli_run.specs.Flushing.{AreFlushed, IsFlushed, bytes_of, packets_of};
 ghost use Rattle.cli_run.specs.Replaying.{PrintsRun};
 
-use crate::report::{print_reports, report_named_ends, run_status};
+use crate::report::{print_reports, report_ends, run_status};
 use cli_report::HintSink;
 use cli_text::Status;
 use fault_report::reporting::report_output;
@@ -231,6 +231,6 @@ pub fn report_flushed<R, W: Write + Drop, O: Write, E: HintSink>(
     flush_all(reports);
     let printed = print_reports(form, reports, out);
     let status = report_output(&printed, err);
-    let _ = report_named_ends(inputs, reports, err);
+    let _ = report_ends(err.fault_form(), inputs, reports, err);
     status.max(run_status(reports))
 }

@@ -18,11 +18,12 @@ use Rattle.cli_steps.specs.Reports.{IsEnd, IsOutputFault, IsPictureReport, IsRep
 module _ {E : Type 0} (hints failed : E → Bool) (contents : E → Option (List ℕ)) (form : E → LineForm) where
   -- the record fault of a replay is reported after what comes of its printing
   pub ended-after : (paths : List (Bor (List ℕ))) (replayed : Replayed) (a b c : E) → TellsMore hints failed contents form a b →
-      ((capture : ℕ) (fault : RecordFault) → replayed.record_fault ≡ Some (capture, fault) → TellsAmong hints failed contents form (IsReplayReport paths (Capture capture fault)) b c) →
+      ((capture : ℕ) (fault : RecordFault) → replayed.record_fault ≡ Some (capture, fault) → TellsOne hints failed contents form (IsReplayReport paths (Capture capture fault)) b c) →
       (fault : Fault) → IsEnd (Ok replayed) fault → TellsAmong hints failed contents form (IsReplayReport paths fault) a c
   ended-after paths replayed a b c more told TooMany none = absurd none
   ended-after paths replayed a b c more told (NoListener step) none = absurd none
-  ended-after paths replayed a b c more told (Capture capture fault) is = more-among hints failed contents form (IsReplayReport paths (Capture capture fault)) a b c more (told capture fault is)
+  ended-after paths replayed a b c more told (Capture capture fault) is = more-among hints failed contents form (IsReplayReport paths (Capture capture fault)) a b c more
+      (one-among hints failed contents form (IsReplayReport paths (Capture capture fault)) b c (told capture fault is))
   ended-after paths replayed a b c more told (Expression listener fault) none = absurd none
   ended-after paths replayed a b c more told (Compile listener fault) none = absurd none
   ended-after paths replayed a b c more told (Open listener fault) none = absurd none

@@ -9,7 +9,6 @@ ghost use Rattle.cli_steps.specs.Reports.{IsEnd, IsLineReport, IsReplayReport};
 
 use crate::steps::Replayed;
 use cli_report::HintSink;
-use cli_report::failures::name_source;
 use fault_report::captures::{device, nth_capture_fault};
 use fault_report::{Report, Subject, Word};
 use line_text::LineFault;
@@ -46,14 +45,11 @@ pub(crate) fn replay_fault<'a>(fault: Fault, paths: &[&'a str]) -> Report<'a>
     }
 }
 
-/// Reports the fault that a replay of the captures at these paths ended with. Below that of one of several captures stands its path.
+/// Reports the fault that a replay of the captures at these paths ended with.
 fn report_end<E: HintSink>(paths: &[&str], fault: Fault, err: &mut E)
-    ensures { TellsAmong E.takes_hints E.failed E.contents E.fault_form (IsReplayReport paths.now fault) err.old err.new }
+    ensures { TellsOne E.takes_hints E.failed E.contents E.fault_form (IsReplayReport paths.now fault) err.old err.new }
 {
     err.tell(&replay_fault(fault, paths));
-    if let Fault::Capture(capture, _) = fault {
-        let _ = name_source(paths, capture as usize, err);
-    }
 }
 
 /// Reports that standard output failed, if it did.
@@ -72,7 +68,7 @@ fn report_record_fault<E: HintSink>(
     record_fault: Option<(u32, savefile::Fault)>,
     err: &mut E,
 )
-    ensures told { (capture : ℕ) → (fault : RecordFault) → record_fault ≡ Some (capture, fault) → TellsAmong E.takes_hints E.failed E.contents E.fault_form (IsReplayReport paths.now (Capture capture fault)) err.old err.new }
+    ensures told { (capture : ℕ) → (fault : RecordFault) → record_fault ≡ Some (capture, fault) → TellsOne E.takes_hints E.failed E.contents E.fault_form (IsReplayReport paths.now (Capture capture fault)) err.old err.new }
     ensures more { TellsMore E.takes_hints E.failed E.contents E.fault_form err.old err.new }
 {
     if let Some((capture, fault)) = record_fault {

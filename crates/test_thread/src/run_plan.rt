@@ -6,7 +6,7 @@ use bpfvm::read_listing;
 use cli_run::report::{report_run, report_run_in};
 use cli_run::run::run;
 use cli_text::Status;
-use handover::{Past, pair, settle};
+use handover::{Past, pair, settle_bare};
 use line_text::LineForm;
 use replay::{InterfaceEnd, InterfaceReport, ListenerReport, TaskEnd};
 use savefile::Counted;
@@ -112,9 +112,9 @@ fn a_flush_and_the_letter_let_a_packet_be_read_at_once(rt: HostRuntime) {
 pub(crate) fn nothing_done(rt: &(impl Abort + AllocGlobal)) -> Past {
     let rejecting = read_listing(b"1\n6 0 0 0\n").expect(rt, "a program");
     let (link, feeder, drain) = pair(rt.alloc(), rejecting, 96, 4096).expect(rt, "a pair");
-    let (feed_end, _rest) = feeder.end(&link);
+    let (feed_end, _rest) = feeder.end(&link).take_rest();
     let drain_end = drain.close(&link);
-    settle(link, feed_end, drain_end).past
+    settle_bare(link, feed_end, drain_end).past
 }
 
 /// A listener whose drain was not ended.

@@ -1,3 +1,4 @@
+use Rattle.std.proofs.Common.{refl}
 use Rattle.std.proofs.lemmas.Result.{err_from_is_err_and}
 use Rattle.cli_text.specs.Telling.{output_line}
 use Rattle.line_text.proofs.Taking.{TakesPart-more, Takes-then}
@@ -10,4 +11,4 @@ returns-in_err-report_output g c =
     rw p.1 (TakesPart-more _ _ (output_line c.args.printed.now) (told_replay c.args.reports.now) c.in_err-report_output.ensures)
 
 pub returns : goal.returns
-returns g c = Takes-then _ _ _ (output_line c.args.printed.now) (told_replay c.args.reports.now) _ c.in_ok-report_output.ensures c.report_ends.ensures
+returns g c = Takes-then _ _ _ (output_line c.args.printed.now) (told_replay c.args.reports.now) _ c.in_ok-report_output.ensures (c.report_ends.ensures refl)

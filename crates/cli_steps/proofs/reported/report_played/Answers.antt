@@ -1,4 +1,4 @@
-use Rattle.fault_report.proofs.Telling.{among-is-more, among-more, more-more, one-among}
+use Rattle.fault_report.proofs.Telling.{among-more, more-more, one-among, one-more}
 use Rattle.fault_report.specs.Reports.{IsDevice}
 use Rattle.fault_report.specs.declared.report.Subject.TheVariants.{StandardOutput}
 use Rattle.cli_steps.specs.Reports.{IsReplayReport}
@@ -28,7 +28,7 @@ pub returns-in-Err-clause-ended : goal.returns-in-Err-clause-ended
 returns-in-Err-clause-ended g c = λ fault is.
     let S = g.E.FaultSink in
     refused-after S.takes_hints S.failed g.E.Write.contents S.fault_form c.args.paths.now c.in-Err.fault c.args.err.now c.report_unprinted.new.err c.report_end.new.err
-    c.report_unprinted.ensures.more c.report_end.ensures fault (rw c.in-Err.is at is)
+    c.report_unprinted.ensures.more (one-among S.takes_hints S.failed g.E.Write.contents S.fault_form (IsReplayReport c.args.paths.now c.in-Err.fault) c.report_unprinted.new.err c.report_end.new.err c.report_end.ensures) fault (rw c.in-Err.is at is)
 
 pub returns-in-Err-clause-unprinted : goal.returns-in-Err-clause-unprinted
 returns-in-Err-clause-unprinted g c = λ fails.
@@ -36,11 +36,11 @@ returns-in-Err-clause-unprinted g c = λ fails.
     let says = IsDevice StandardOutput in
     among-more S.takes_hints S.failed g.E.Write.contents S.fault_form says c.args.err.now c.report_unprinted.new.err c.report_end.new.err
     (one-among S.takes_hints S.failed g.E.Write.contents S.fault_form says c.args.err.now c.report_unprinted.new.err (c.report_unprinted.ensures.told fails))
-    (among-is-more S.takes_hints S.failed g.E.Write.contents S.fault_form (IsReplayReport c.args.paths.now c.in-Err.fault) c.report_unprinted.new.err c.report_end.new.err c.report_end.ensures)
+    (one-more S.takes_hints S.failed g.E.Write.contents S.fault_form (IsReplayReport c.args.paths.now c.in-Err.fault) c.report_unprinted.new.err c.report_end.new.err c.report_end.ensures)
 
 pub returns-in-Err-clause-more : goal.returns-in-Err-clause-more
 returns-in-Err-clause-more g c =
     let S = g.E.FaultSink in
     more-more S.takes_hints S.failed g.E.Write.contents S.fault_form c.args.err.now c.report_unprinted.new.err c.report_end.new.err
     c.report_unprinted.ensures.more
-    (among-is-more S.takes_hints S.failed g.E.Write.contents S.fault_form (IsReplayReport c.args.paths.now c.in-Err.fault) c.report_unprinted.new.err c.report_end.new.err c.report_end.ensures)
+    (one-more S.takes_hints S.failed g.E.Write.contents S.fault_form (IsReplayReport c.args.paths.now c.in-Err.fault) c.report_unprinted.new.err c.report_end.new.err c.report_end.ensures)
