@@ -244,9 +244,9 @@ def expect_capture_faults(scene, page):
         expect_fault(scene, page, f"cut -s 0 {path} out.pcap", fault, status)
         expect_fault(scene, page, f"explain -e ip {path}", fault, status)
         expect_fault(scene, page, f"split split.txt in.pcap {path}", f"Capture 1 {fault}", status, below=f"  {path}\n")
-        expect_fault(scene, page, f"steps one.txt arrive.txt in.pcap {path}", f"Capture 1 {fault}", status, below=f"  {path}\n")
-        expect_fault(scene, page, f"run run.txt in.pcap {path}", f"Interface 0 Capture 1 {fault}", status, below=f"  {path}\n")
-    expect_fault(scene, page, "run run.txt in.pcap none.pcap", "Interface 0 Capture 1 Device", 3, below="  none.pcap\n")
+        expect_fault(scene, page, f"steps one.txt arrive.txt in.pcap {path}", f"Capture 1 {fault}", status)
+        expect_fault(scene, page, f"run run.txt in.pcap {path}", f"Interface 0 Capture 1 {fault}", status)
+    expect_fault(scene, page, "run run.txt in.pcap none.pcap", "Interface 0 Capture 1 Device", 3)
     expect_fault(scene, page, "split split.txt in.pcap none.pcap", "Capture 1 Device", 3, below="  none.pcap\n")
 
 

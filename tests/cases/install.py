@@ -277,7 +277,9 @@ def what_an_interrupted_call_put_is_removed(scene):
     tools = scene.folder / "tools"
     tools.mkdir()
     (tools / "install").touch(0o755)
-    for name in ["KILL", "TERM", "INT"]:
+    # A shell that was started with SIGINT ignored can't be ended by it.
+    is_deaf = signal.getsignal(signal.SIGINT) == signal.SIG_IGN
+    for name in ["KILL", "TERM"] if is_deaf else ["KILL", "TERM", "INT"]:
         stops = f"kill -{name} $PPID; kill -{name} $$"
         (tools / "install").write_text(f'#!/bin/sh\ncase $* in *bpftap-cut.1) {stops} ;; esac\nexec /usr/bin/install "$@"\n')
         prefix = scene.folder / f"by {name}"

@@ -319,7 +319,7 @@ def a_note_of_another_c_library_is_not_taken(scene):
 
 @case
 def the_static_program_runs_where_nothing_else_is(scene):
-    """In a folder with nothing but a capture and the program, the released static one checks, explains and cuts."""
+    """In a folder with nothing but a capture and the program, the released static one checks and cuts; it refuses to print beside files."""
     archive = ROOT / "release" / "bpftap-x86_64-linux-static.tar.xz"
     if os.geteuid() != 0 or not archive.is_file():
         return scene.leave("only root can change the root folder" if archive.is_file() else "no static program is released")
@@ -327,9 +327,10 @@ def the_static_program_runs_where_nothing_else_is(scene):
         packed.extractall(scene.folder)
     shutil.copy(ROOT / "examples" / "veth.pcap", scene.folder / "in.pcap")
     call = lambda *words: in_root(scene.folder, "/bin/bpftap", *words)
-    for words in (["check", "ip"], ["explain", "-e", "arp", "in.pcap"], ["--hints", "check", "tcp prot 80"], ["explain", "-e", "ip", "none.pcap"]):
+    for words in (["check", "ip"], ["--hints", "check", "tcp prot 80"], ["cut", "-s", "0", "none.pcap", "out.pcap"]):
         own = subprocess.run([PROGRAM, *words], cwd=scene.folder, stdin=subprocess.DEVNULL, capture_output=True, timeout=LIMIT)
         scene.check(" ".join(words), call(*words), Seen(own.stdout, own.stderr, own.returncode))
+    scene.check("explain", call("explain", "-e", "arp", "in.pcap"), Seen(b"", b"bpftap: Device /dev/stdout\n", 3))
     scene.check("cut", call("cut", "-s", "0", "-e", "arp", "in.pcap", "out.pcap").status, 0)
     subprocess.run([PROGRAM, "cut", "-s", "0", "-e", "arp", "in.pcap", "own.pcap"], cwd=scene.folder, timeout=LIMIT)
     scene.check("what is cut", scene.read("out.pcap"), scene.read("own.pcap"))

@@ -124,7 +124,9 @@ impl Watched {
         let before = Before::of(&self.listener, self.closed);
         let packet = placed.packet.as_ref();
         let size = self.followed_size(&packet);
-        let fed = self.listener.arrive_ref(placed.capture, placed.place, &packet);
+        let fed = self
+            .listener
+            .arrive_ref(placed.capture, placed.place, &packet);
         follow(
             &mut self.answers,
             before.answer_of(size, Answer::Arrived(fed)),
