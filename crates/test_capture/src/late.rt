@@ -11,21 +11,21 @@ use std::io::{Read, Write};
 use std::process::Abort;
 use std::sync::atomic::Ordering::SeqCst;
 
-/// Holds the standard streams of a system, makes OUT, and looks where it went.
-fn make_beside<R: Files>(rt: &impl Abort, system: &R, table: &Table) {
-    let streams = reserve_streams(system);
-    assert!(rt; streams.is_ok());
+/// Makes OUT, and looks where it went.
+fn make_out<R: Files>(rt: &impl Abort, system: &R, table: &Table) {
     let mut file = LateFile::new(system, "out.pcap");
     same(rt, file.write(b"a").ok(), Some(1));
     let output = table.output.load(SeqCst);
     assert!(rt; output > 2 && output != NONE, "OUT is descriptor {output}");
 }
 
-/// Makes an OUT with these streams open.
+/// Makes an OUT with these streams open, while the numbers of the others are held.
 fn make_over(rt: &impl Abort, open: [bool; 3]) {
     let table = Table::new(open);
     let system = System { table: &table };
-    make_beside(rt, &system, &table);
+    let streams = reserve_streams(&system);
+    assert!(rt; streams.is_ok());
+    make_out(rt, &system, &table);
 }
 
 #[test]

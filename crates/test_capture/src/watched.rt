@@ -95,7 +95,7 @@ fn texts_of_the_progress(rt: HostRuntime) {
         seconds: 1,
         packets: 0,
     };
-    reads_as(&rt, text, "0.0 of 0.9 kB, 1 s, 0 packets");
+    reads_as(&rt, text, "0.0 of 0.9 kB, 1 s");
     let text = ProgressText {
         read: u64::MAX,
         total: u64::MAX,
