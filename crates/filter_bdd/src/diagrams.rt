@@ -27,13 +27,13 @@ const LEVELS: u32 = 256;
 /// The most entries that the computed cache has.
 const MOST_ENTRIES: usize = 1 << 20;
 
-/// As how many calls a step counts. A call whose result is kept or known at once takes about 1/32
+/// As how many calls a step counts. A call whose result is kept or known at once takes about 1/20
 /// of the time of a step.
-const STEP: u64 = 32;
+const STEP: u64 = 20;
 
 /// How many calls may be made for each step of a budget, with what its steps count. So a fifth of
 /// them is left if all steps are taken.
-const CALLS: u64 = 40;
+const CALLS: u64 = 25;
 
 /// What may be spent: the nodes of a table, and steps. A step is a call whose result was not kept.
 #[derive(Clone, Copy, Debug, PartialEq, Eq)]
