@@ -10,12 +10,13 @@ use Rattle.fault_report.specs.Words.{words_text, further_names, numbers_text, on
 use Rattle.fault_report.specs.declared.word.Word.TheVariants.{Nothing}
 use Rattle.fault_report.specs.declared.report.Report.{Report}
 use Rattle.fault_report.specs.declared.report.Subject.{Subject}
-use Rattle.fault_report.specs.declared.report.Subject.TheVariants.{File, Capture, StandardOutput}
+use Rattle.fault_report.specs.declared.report.Subject.TheVariants.{File, Capture, Argument, StandardOutput}
 
 -- the names and numbers of a fault, and what failed as the line names it
 abbrev pub in_line : List ℕ → List ℕ → Option Subject → List ℕ
 in_line name words None = name ++ words
 in_line name words (Some (Capture path)) = name ++ words
+in_line name words (Some (Argument argument)) = name ++ words
 in_line name words (Some StandardOutput) = name ++ words ++ codes " standard output"
 in_line name words (Some (File path)) = name ++ words ++ codes " " ++ escaped_path path.now
 
@@ -27,6 +28,7 @@ abbrev pub subject_member : Option Subject → List ℕ
 subject_member None = []
 subject_member (Some (File path)) = codes ",\"file\":" ++ json_string path.now
 subject_member (Some (Capture path)) = codes ",\"file\":" ++ json_string path.now
+subject_member (Some (Argument name)) = codes ",\"argument\":\"" ++ name.now ++ codes "\""
 subject_member (Some StandardOutput) = codes ",\"stream\":\"standard output\""
 
 -- the names of a fault, with a blank between, as a member

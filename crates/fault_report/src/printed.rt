@@ -24,7 +24,7 @@ impl Display for ReportText<'_, '_> {
         match self.0.subject {
             Some(Subject::File(path)) => write!(f, "{name}{words} {}", EscapedPath(path)),
             Some(Subject::StandardOutput) => write!(f, "{name}{words} standard output"),
-            Some(Subject::Capture(_)) | None => write!(f, "{name}{words}"),
+            Some(Subject::Capture(_) | Subject::Argument(_)) | None => write!(f, "{name}{words}"),
         }
     }
 }
@@ -41,6 +41,7 @@ impl Display for SubjectMember<'_> {
             Some(Subject::File(path) | Subject::Capture(path)) => {
                 write!(f, ",\"file\":{}", JsonString(path))
             }
+            Some(Subject::Argument(name)) => write!(f, ",\"argument\":\"{name}\""),
             Some(Subject::StandardOutput) => f.write_str(",\"stream\":\"standard output\""),
             None => Ok(()),
         }
@@ -73,8 +74,9 @@ impl Display for NumbersMember<'_, '_> {
 }
 
 /// Prints a report as an object of JSON: `{"fault":"NAMES","numbers":[N,N]}`, and with the key
-/// `"file"` the path of what has the fault, or with `"stream"` that standard output failed. It
-/// takes no memory, since it may have to say that memory ran out.
+/// `"file"` the path of what has the fault, with `"argument"` the name of an argument that has it,
+/// or with `"stream"` that standard output failed. It takes no memory, since it may have to say that
+/// memory ran out.
 #[derive(Clone, Copy)]
 pub struct ReportObject<'r, 'a>(pub &'r Report<'a>);
 

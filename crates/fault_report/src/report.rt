@@ -14,6 +14,8 @@ pub enum Subject<'a> {
     /// The capture at this path, which the line does not name: it has its number, or there is only
     /// one.
     Capture(&'a str),
+    /// The argument of this name on the command line, which the line does not name either.
+    Argument(&'static str),
     /// Standard output.
     StandardOutput,
 }
