@@ -2,9 +2,12 @@
 
 ghost use Rattle.std.specs.Prelude.{◌≡◌, false};
 ghost use Rattle.listener.specs.Messages.{size};
+ghost use Rattle.line_text.specs.declared.form.LineForm.TheVariants.{Json};
+ghost use Rattle.fault_report.specs.Reports.{TellsMore};
 
 use crate::captures::is_capture;
-use crate::stream::{HintSink, give_hint};
+use crate::stream::{HintSink, give_hint, print_below};
+use fault_report::FaultSink;
 use line_text::fields::first_line;
 use std::io;
 use visible_text::Shown;
@@ -98,21 +101,29 @@ fn line_with_return(text: &[u8]) -> Option<usize> {
     Some(before.saturating_add(1))
 }
 
-/// A hint on the first line of a file that ends in a carriage return: it is part of the field
-/// before it, such as the name of an OUT.
-pub fn hint_returns<E: HintSink>(file: &str, text: &[u8], err: &mut E)
-    ensures quiet { E.takes_hints err.old ≡ false → err.new ≡ err.old }
+/// Names the first line of a file that ends in a carriage return, whether hints are wanted or not:
+/// it is part of the field before it, such as the name of an OUT. Below an object of JSON it prints
+/// nothing.
+pub fn name_returns<E: FaultSink>(file: &str, text: &[u8], err: &mut E)
+    ensures object { E.fault_form err.old ≡ Json → err.new ≡ err.old }
+    ensures more { TellsMore E.takes_hints E.failed E.contents E.fault_form err.old err.new }
 {
-    if !err.takes_hints() {
-        return;
-    }
     if let Some(number) = line_with_return(text) {
-        give_hint(
+        let _ = print_below(
             format_args!(
                 "line {number} of {file} ends in a carriage return, which stays part of it: take that away, as by tr -d '\\r'"
             ),
             err,
         );
+    }
+}
+
+/// [`name_returns`] as a hint.
+pub fn hint_returns<E: HintSink>(file: &str, text: &[u8], err: &mut E)
+    ensures quiet { E.takes_hints err.old ≡ false → err.new ≡ err.old }
+{
+    if err.takes_hints() {
+        name_returns(file, text, err);
     }
 }
 
