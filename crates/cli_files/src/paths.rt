@@ -363,8 +363,9 @@ pub fn report_path<E: HintSink>(fault: &PathFault<'_>, err: &mut E) -> Status
 ///
 /// Two paths are one file if they lead to one regular file or fifo, or to one new file; one that is
 /// read and one that is written also if they have the same text. `standard_output` is its path, if
-/// the command prints there: then it has to lead somewhere, since what can't be compared is refused. With [`Opening::First`] a path that is read and leads to
-/// nothing is skipped: the command can't open it.
+/// the command prints there: then it has to lead somewhere, since what can't be compared is
+/// refused. With [`Opening::First`] a path that is read and leads to nothing is skipped: the command
+/// can't open it.
 pub fn check_shared_files<'a, R: Files + AllocGlobal>(
     rt: &R,
     opening: Opening,
