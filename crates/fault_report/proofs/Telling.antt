@@ -86,6 +86,14 @@ module _ {E : Type 0} (hints failed : E → Bool) (contents : E → Option (List
   )
 
   -- and hints after it, which are not wanted
+  pub one-quiet : (says : Report → Type 0) (a b c : E) → TellsOne hints failed contents form says a b → (hints b ≡ false → c ≡ b) → TellsOne hints failed contents form says a c
+  one-quiet says a b c told quiet = (
+    told.0,
+    told.1,
+    λ off. subst (λ d. (hints d ≡ false) × (form d ≡ form a) × (failed d ≡ false → (failed a ≡ false) × Appends (contents a) (contents d) (reported (form a) told.0)))
+        (sym (quiet (told.2 off).0)) (told.2 off),
+  )
+
   pub more-quiet : (a b c : E) → TellsMore hints failed contents form a b → (hints b ≡ false → c ≡ b) → TellsMore hints failed contents form a c
   more-quiet a b c told quiet = λ off. subst (λ d. (hints d ≡ false) × (form d ≡ form a) × (failed d ≡ false → (failed a ≡ false) × (more : List ℕ) × Appends (contents a) (contents d) more))
       (sym (quiet (told off).0)) (told off)
