@@ -1,8 +1,10 @@
 -- What files have before and after a call.
-use Rattle.std.specs.Prelude.{◌≡◌, ◌≢◌, ◌⊎◌, ℕ, ◌<◌, Bool, true, List, [], ◌∷◌, length, take, Option, Some, None, IfSome, All, ⊤}
+use Rattle.std.specs.Prelude.{◌≡◌, ◌≢◌, ◌⊎◌, ℕ, ◌<◌, Bool, true, List, [], ◌∷◌, length, take, Option, Some, None, All, ⊤}
 use Rattle.std.specs.List.{Any}
 use Rattle.std.specs.Borrow.{Bor}
+use Rattle.savefile.specs.Savefile.{RefusesHeader}
 use Rattle.savefile.specs.Writer.{IsBeginning}
+use Rattle.savefile.specs.declared.fault.Fault.{Fault}
 use Rattle.cli_files.specs.Reading.{IsRefusedMemory}
 use Rattle.cli_files.specs.declared.paths.Opening.{Opening}
 use Rattle.cli_files.specs.declared.paths.Opening.TheVariants.{First, Late}
@@ -25,6 +27,12 @@ Keeps place-old place-new old new pending-old pending-new = (place-new ≡ place
 abbrev pub bytes_of : Option (List ℕ) → List ℕ
 bytes_of None = []
 bytes_of (Some bytes) = bytes
+
+-- what is read of a capture: the 24 bytes of its file header if these are refused, and else all of it
+abbrev pub IsCaptureRead : List ℕ → List ℕ → Type 0
+IsCaptureRead whole bytes =
+    (((fault : Fault) × RefusesHeader (take 24 whole) fault) × (bytes ≡ take 24 whole))
+    ⊎ (((fault : Fault) → RefusesHeader (take 24 whole) fault → ⊥) × (bytes ≡ whole))
 
 -- a path that is read leads to another file than OUT; where files are opened first, it may also lead to none
 abbrev pub IsApart : Opening → Places → Texts → List ℕ → List ℕ → Type 0

@@ -1,5 +1,5 @@
 -- Files in memory, as a list.
-use Rattle.std.specs.Prelude.{ℕ, List, [], ◌∷◌, Option, Some, None, if◌then◌else◌, bytes_eq, map}
+use Rattle.std.specs.Prelude.{ℕ, List, [], ◌∷◌, Option, Some, None, if◌then◌else◌, bytes_eq}
 use Rattle.cli_store.specs.declared.memory.MemoryFile.{MemoryFile}
 
 -- the bytes of the first file of this name

@@ -12,7 +12,7 @@ use cli_report::FailureProbe;
 use cli_report::probe::ProbedOutput;
 use cli_watch::captures::WatchedInput;
 use cli_watch::{Screen, Watch};
-use savefile::Counted;
+use savefile::{Counted, HEADER_LEN, header_of};
 use std::fs::Files;
 use std::io::{Read, Write};
 use std::os::unix::fs::MetadataExt;
@@ -88,6 +88,16 @@ impl<'p, 'w, 'r, R: Files + AllocGlobal + Screen> FileStore<'p> for DiskFiles<'w
         let mut text = Vec::new(self.rt.alloc());
         let mut file = Retried::new(fs::open(self.rt, path)?).take(most as u64);
         file.read_to_end(&mut text)?;
+        Ok(text)
+    }
+
+    fn read_capture(&mut self, path: &'p str) -> io::Result<Vec<u8>> {
+        let mut text = Vec::new(self.rt.alloc());
+        let mut file = Retried::new(fs::open(self.rt, path)?).take(HEADER_LEN as u64);
+        file.read_to_end(&mut text)?;
+        if header_of(text.as_slice()).is_ok() {
+            file.into_inner().read_to_end(&mut text)?;
+        }
         Ok(text)
     }
 

@@ -2,13 +2,13 @@
 
 ghost use Rattle.std.specs.Prelude.{◌≡◌, ◌≢◌, ◌+◌, ◌++◌, ◌∷◌, [], ℕ, List, Some, None, true, false, Option, IfOk, IfErr, OnErr, OnOk, IfSome, IsTrue, ◌↔◌, option_copied, map, take, All};
 ghost use Rattle.std.specs.List.{Any};
-ghost use Rattle.cli_store.specs.Files.{BeginsAt, HaveOwnPlaces, IsApart, IsLost, IsUnprinted, StoresAt, text_at};
+ghost use Rattle.cli_store.specs.Files.{BeginsAt, HaveOwnPlaces, IsApart, IsCaptureRead, IsLost, IsUnprinted, StoresAt, text_at};
 ghost use Rattle.cli_store.specs.Memory.{itself, lookup};
 
 use crate::store::FileStore;
 use cli_files::paths::{Opening, PathFault, Use};
 use cli_report::FailureProbe;
-use savefile::{Broken, Counted, GatheringSink, Sink, Source};
+use savefile::{Broken, Counted, GatheringSink, HEADER_LEN, Sink, Source, header_of};
 use std::alloc::{AllocFailed, Global};
 use std::collections::VecDeque;
 use std::io;
@@ -314,6 +314,17 @@ fn copy_of(
     }
 }
 
+/// How many bytes of a capture are read: those of its file header, if these are refused, and else all.
+fn read_len(whole: &[u8]) -> usize
+    ensures { IsCaptureRead whole.now (take result whole.now) }
+{
+    let header = &whole[..HEADER_LEN.min(whole.len())];
+    match header_of(header) {
+        Ok(_) => whole.len(),
+        Err(_) => HEADER_LEN,
+    }
+}
+
 /// Opens the file at a path, if there is one, and notes that. If there is none, it can't be
 /// read.
 fn open_in<'p>(
@@ -481,6 +492,14 @@ impl<'p> FileStore<'p> for MemoryFiles<'p> {
             Ok(bytes) => Ok(bytes),
             Err(kind) => Err(self.deny(path, kind)),
         }
+    }
+
+    fn read_capture(&mut self, path: &'p str) -> io::Result<Vec<u8>> {
+        let most = match find(self.files.as_slice(), path) {
+            Some(whole) => read_len(whole),
+            None => 0,
+        };
+        self.read(path, most)
     }
 
     fn open(&mut self, path: &'p str) -> io::Result<MemoryInput> {

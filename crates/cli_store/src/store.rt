@@ -2,7 +2,7 @@
 
 ghost use Rattle.std.specs.Prelude.{◌≡◌, ◌≢◌, ◌⊎◌, ℕ, ◌+◌, ◌<◌, List, [], ◌∷◌, ◌++◌, Bool, true, Option, Some, IfErr, IfOk, IfSome, IsTrue, ◌↔◌, OnErr, OnOk, All, take};
 ghost use Rattle.cli_files.specs.Reading.{IsRefusedMemory};
-ghost use Rattle.cli_store.specs.Files.{BeginsAt, HaveOwnPlaces, IsApart, IsRefusal, IsUnprinted, Keeps, NamesDenied, StoresAt, text_at};
+ghost use Rattle.cli_store.specs.Files.{BeginsAt, HaveOwnPlaces, IsApart, IsCaptureRead, IsRefusal, IsUnprinted, Keeps, NamesDenied, StoresAt, text_at};
 
 use cli_files::paths::{Opening, PathFault};
 use cli_report::FailureProbe;
@@ -74,6 +74,16 @@ pub trait FileStore<'p> {
         ensures printed { printed self.new ≡ printed self.old }
         ensures opened { opened self.new ≡ opened self.old }
         ensures bytes { known ≡ true → IfOk result (λ bytes. (whole : List ℕ) × (text self.old (place self.old path.now) ≡ Some whole) × (bytes.items ≡ take most whole)) }
+        ensures failed { known ≡ true → IfErr result (λ error. IsRefusedMemory error ⊎ (failed self.new ≡ true)) }
+        ensures denied { known ≡ true → IfErr result (λ error. IsRefusedMemory error ⊎ (denied self.new ≡ Some (place self.old path.now))) };
+
+    /// A capture: the whole file, or its first 24 bytes if they are no file header of a capture. More than these is read only of a
+    /// header that is right.
+    fn read_capture(&mut self, path: &'p str) -> io::Result<Vec<u8>>
+        ensures kept { Keeps (place self.old) (place self.new) (text self.old) (text self.new) (pending self.old) (pending self.new) }
+        ensures printed { printed self.new ≡ printed self.old }
+        ensures opened { opened self.new ≡ opened self.old }
+        ensures bytes { known ≡ true → IfOk result (λ bytes. (whole : List ℕ) × (text self.old (place self.old path.now) ≡ Some whole) × IsCaptureRead whole bytes.items) }
         ensures failed { known ≡ true → IfErr result (λ error. IsRefusedMemory error ⊎ (failed self.new ≡ true)) }
         ensures denied { known ≡ true → IfErr result (λ error. IsRefusedMemory error ⊎ (denied self.new ≡ Some (place self.old path.now))) };
 
