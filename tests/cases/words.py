@@ -1,5 +1,6 @@
 """The words of the command line: those that are no command, and those that ask for help or the version."""
 from .common import HEADER, TCP_RECORD, VERSION, WHOLE, case, fault_lines, words_of
+from .manual import commands
 
 WRONG = [
     "",
@@ -238,7 +239,7 @@ def help_that_cannot_be_printed_is_reported(scene):
 
 @case
 def help_fits_100_columns(scene):
-    """The lines of help that were too long for a terminal."""
-    for command in ("check", "info", "parts"):
-        lines = scene.run(f"{command} --help").out.decode().splitlines()
-        scene.check(f"help of {command}", (len(lines) > 10, [line for line in lines if len(line) > 100]), (True, []))
+    """No line of help is too long for a terminal: of the program, of a command, or of the language."""
+    for words in ["--help", "help expressions", *(f"{command} --help" for command in commands(scene) if command != "help")]:
+        lines = scene.run(words).out.decode().splitlines()
+        scene.check(words, (len(lines) > 10, [line for line in lines if len(line) > 100]), (True, []))

@@ -162,7 +162,7 @@ fn default_snap<'a>(alloc: Global) -> Arg<'a> {
         "snap",
         's',
         "N",
-        "Snapshot length that the program returns, 0 to 262144; 0: that",
+        "Snapshot length of the program, 0 to 262144; 0: that",
     )
     .default_value("262144")
 }
@@ -187,7 +187,7 @@ fn order<'a>(alloc: Global) -> Arg<'a> {
 
 /// The unit of time of what is written.
 fn unit<'a>(alloc: Global) -> Arg<'a> {
-    option(alloc, "unit", 'u', "UNIT", "Unit of the time stamps of OUT")
+    option(alloc, "unit", 'u', "UNIT", "Unit of OUT's time stamps")
         .value_parser(["micro", "nano"].as_slice())
         .default_value("micro")
 }

@@ -36,7 +36,7 @@ const COMPARE_USAGE: &str = "bpftap compare [-s N] [-q] [--json] <EXPR1> <EXPR2>
 
 const COMPARE_EXAMPLES: &str = "Examples:
   bpftap compare 'tcp port 80' 'tcp dst port 80' examples/veth.pcap
-  tcpdump -y EN10MB -ddd 'udp port 53' | bpftap compare -f /dev/stdin 'udp port 53' examples/veth.pcap
+  tcpdump -y EN10MB -ddd 'port 53' | bpftap compare -f /dev/stdin 'port 53' examples/veth.pcap
   bpftap compare -q 'port 80 or 443' 'port 443 or 80' examples/veth.pcap && echo the same here
   bpftap compare 'tcp' 'ip proto 6' && echo the same on every packet there can be
 

@@ -52,7 +52,7 @@ over a torn IN, call them for each. --exactly, --at-least and --at-most ask how 
 IN are accepted; then all IN are read.
 With --json each packet is an object on a line of its own, and so are the counts; with -p the object
 has what each primitive looked at, and the program's run:
-  bpftap explain --json -e 'tcp port 8080' examples/veth.pcap | jq -r '.answer // empty' | sort | uniq -c
+  bpftap explain --json -e tcp examples/veth.pcap | jq -r '.answer // empty' | sort | uniq -c
 
 Exit status: 0 clean, with -q and -l: a packet is accepted, with a bound: as many as it asks for; 1
 bad usage, invalid input, no packet at PLACE, or out of memory; 2 a torn or bad record, after the
@@ -93,13 +93,11 @@ static ARGUMENTS: [Argument; 12] = [
         'l',
         "Print only the path of each IN that has an accepted packet",
     ),
-    Argument::Quiet(
-        "Print nothing; end with status 0 if a packet is accepted, or as a bound says; else 4",
-    ),
+    Argument::Quiet("Print nothing; status 0 if a packet is accepted, or as a bound says; else 4"),
     Argument::LongNumber(
         "exactly",
         "N",
-        "With -q or -c: end with status 0 if N packets of all IN are accepted, else with 4",
+        "With -q or -c: status 0 if N packets of all IN are accepted, else 4",
     ),
     Argument::LongNumber(
         "at-least",

@@ -47,7 +47,7 @@ static ARGUMENTS: [Argument; 3] = [
     Argument::Json,
     Argument::Path(
         "LISTENERS",
-        "File with a line INTERFACE FLUSH SNAP CAPACITY SPARES OUT EXPRESSION for each listener",
+        "File with a line INTERFACE FLUSH SNAP CAPACITY SPARES OUT EXPRESSION per listener",
     ),
     Argument::Paths(
         "IN",

@@ -33,7 +33,7 @@ counted from 0.
 Examples:
   bpftap steps examples/steps/listeners.txt examples/steps/script.txt examples/veth.pcap
   bpftap steps -v examples/steps/listeners.txt examples/steps/script.txt examples/veth.pcap
-  bpftap steps -p steps.svg examples/steps/listeners.txt examples/steps/script.txt examples/veth.pcap
+  bpftap steps -p out.svg examples/steps/listeners.txt examples/steps/script.txt examples/veth.pcap
 
 Exit status: 0 clean; 1 bad usage, invalid input, or out of memory; 2 a torn or bad record, after
 the reports; 3 a file or device failed.";
