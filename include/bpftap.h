@@ -541,7 +541,8 @@ struct bpftap_replay bpftap_picture(const char *listeners, size_t listeners_size
 
 /* Writes a fault as the program prints it: its name, and its place if it has one, as `BadWord 4`. Each name is that of one number: of
  * BPFTAP_RECORD_TOO_LONG it is `RecordTooLong`, where the program prints `TooLong`, and of BPFTAP_STEPS_TOO_MANY `StepsTooMany`, where it
- * prints `TooMany`. For a number that is no fault the text is `Unknown`. 64 bytes are always room enough. Faults: NO_ROOM, NO_MEMORY. */
+ * prints `TooMany`. For a number that is no fault the text is `Unknown`. 64 bytes are always room enough. The call takes no memory of its
+ * own, so that it can name BPFTAP_NO_MEMORY too. Faults: NO_ROOM. */
 struct bpftap_result bpftap_fault_text(uint32_t fault, size_t place, char *to, size_t room);
 
 /* Writes what helps to fix an expression that is refused: the sentence that the program prints below the line of such a fault. `fault` and

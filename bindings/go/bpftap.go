@@ -72,9 +72,6 @@ func (f Fault) Error() string {
 	text, _ := text(64, func(to *C.char, room C.size_t) C.struct_bpftap_result {
 		return C.bpftap_fault_text(C.uint32_t(f), 0, to, room)
 	})
-	if text == "" {
-		return "NoMemory"
-	}
 	name, _, _ := strings.Cut(text, " ")
 	return name
 }
@@ -93,13 +90,10 @@ type Error struct {
 // Error is the name of the fault, and its place if it has one, as "BadWord 5". It is what the program prints, but for RecordTooLong, where the
 // program prints TooLong.
 func (e *Error) Error() string {
-	text, _ := text(64, func(to *C.char, room C.size_t) C.struct_bpftap_result {
+	line, _ := text(64, func(to *C.char, room C.size_t) C.struct_bpftap_result {
 		return C.bpftap_fault_text(C.uint32_t(e.Fault), C.size_t(e.Place), to, room)
 	})
-	if text == "" {
-		return "NoMemory"
-	}
-	return text
+	return line
 }
 
 // Unwrap is the fault, so that errors.Is finds it.

@@ -19,7 +19,7 @@ int main(int argc, char **argv) {
     struct sock_filter insns[BPFTAP_MAX_INSNS];
     struct bpftap_result compiled = bpftap_compile(text, strlen(text), BPFTAP_MAX_SNAP, insns, BPFTAP_MAX_INSNS);
     if (compiled.fault) {
-        char fault[64] = "NoMemory"; /* if there is none for the name of the fault */
+        char fault[64];
         bpftap_fault_text(compiled.fault, compiled.place, fault, sizeof fault);
         return fprintf(stderr, "attach: %s\n", fault), 1;
     }

@@ -11,7 +11,7 @@
 #include <string.h>
 
 static int fail(const char *what, uint32_t fault, size_t place) {
-    char text[64] = "NoMemory"; /* if there is none for the name of the fault */
+    char text[64];
     bpftap_fault_text(fault, place, text, sizeof text);
     fprintf(stderr, "filter: %s: %s\n", what, text);
     return 1;

@@ -16,7 +16,7 @@
 enum { SNAP = 96, ROOM = 4096 };
 
 static int fail(const char *what, uint32_t fault, size_t place) {
-    char text[64] = "NoMemory"; /* if there is none for the name of the fault */
+    char text[64];
     bpftap_fault_text(fault, place, text, sizeof text);
     fprintf(stderr, "tap: %s: %s\n", what, text);
     return 1;

@@ -119,29 +119,6 @@ def takes_long_captures(scene):
     scene.check("filter: a folder", done(scene, ["./filter", "ip", VETH, "."]), ("filter: .: Is a directory\n", 1))
 
 
-# What malloc and realloc are for a program whose first LEFT calls of them succeed.
-REFUSING = """#include <stdlib.h>
-void *__real_malloc(size_t size), *__real_realloc(void *at, size_t size);
-static int is_left(void) { static long left = -1; if (left < 0) left = atol(getenv("LEFT")); return left > 0 && left--; }
-void *__wrap_malloc(size_t size) { return is_left() ? __real_malloc(size) : NULL; }
-void *__wrap_realloc(void *at, size_t size) { return is_left() ? __real_realloc(at, size) : NULL; }
-"""
-
-
-def reports_without_memory(scene, name):
-    """An example of a refused expression, each allocation of which fails in turn, and all after it: what it prints is the name of a fault."""
-    scene.put({"refusing.c": REFUSING})
-    words = ["gcc", "-O2", f"-I{ROOT / 'include'}", ROOT / "examples" / "c" / f"{name}.c", "refusing.c", ARCHIVE, "-Wl,--wrap=malloc,--wrap=realloc", "-o", "refusing"]
-    scene.check(f"{name}, refusing", done(scene, words)[1], 0)
-    seen, at_last = set(), f"{name}: port http: BadWord 5\n" if name != "attach" else "attach: BadWord 5\n"
-    for left in range(100):
-        said, _ = done(scene, ["./refusing", "port http", VETH, "1"], env={**os.environ, "LEFT": str(left)})
-        seen.add(said)
-        if said == at_last:
-            break
-    scene.check(f"{name} without memory", seen, {at_last.replace("BadWord 5", "NoMemory"), at_last})
-
-
 def loses_what_steps_loses(scene):
     """The example of a slow reader: its counts, and the packets that it reads, are those of `bpftap steps`."""
     scene.put({"listeners": "96 4096 len > 50\n", "script": ("arrive\n" * 90 + "read 0\n") * 2 + "arrive\n" * 73 + "read 0\nflush 0\nread 0\n"})
@@ -176,13 +153,13 @@ def examples_do_what_they_say(scene):
         for name in ("filter", "attach", "tap"):
             rest = ["-O2", *STRICT, f"-I{ROOT / 'include'}", ROOT / "examples" / "c" / f"{name}.c"]
             passes(scene, ["gcc", "-std=gnu11", *rest, ARCHIVE, "-o", name])
-            reports_without_memory(scene, name)
+            said = "attach: BadWord 5\n" if name == "attach" else f"{name}: port http: BadWord 5\n"
+            scene.check(f"{name}: a refused expression", done(scene, [f"./{name}", "port http", VETH, "1"]), (said, 1))
             if scene.has("g++"):
                 passes(scene, ["g++", "-x", "c++", "-std=c++11", "-pedantic", *rest, "-fsyntax-only"])
         scene.check("filter", done(scene, ["./filter", "udp port 5353", VETH, "dns.pcap"]), ("67 of 253 packets\n", 0))
         scene.run(["cut", "-s", "0", "-e", "udp port 5353", str(VETH), "cut.pcap"])
         scene.check("what it kept", scene.read("dns.pcap") == scene.read("cut.pcap"), True)
-        scene.check("a refused expression", done(scene, ["./filter", "port http", VETH, "x"]), ("filter: port http: BadWord 5\n", 1))
         loses_what_steps_loses(scene)
         takes_long_captures(scene)
         said, status = done(scene, ["./attach", "tcp port 80"])

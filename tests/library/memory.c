@@ -54,7 +54,7 @@ static struct seen call(int which) {
         case 2: result = bpftap_image(ALL, 1, text, ROOM); break;
         case 3: result = bpftap_print(TEXT, strlen(TEXT), text, ROOM); break;
         case 4: result = bpftap_cut(capture, sizeof capture, ALL, 1, 0, seen.written, ROOM); break;
-        case 5: result = bpftap_fault_text(BPFTAP_BAD_WORD, 4, text, ROOM); break;
+        case 5: result = bpftap_hint("ip.src == 10.0.0.1 and tcp", 26, BPFTAP_BAD_WORD, 3, text, ROOM); break;
         case 6:
         case 8:
             replay = (json ? bpftap_steps_json : bpftap_steps)(listeners, strlen(listeners), script, strlen(script), captures, 2, text, ROOM);
@@ -65,7 +65,6 @@ static struct seen call(int which) {
             result.fault = traced.fault, result.size = traced.size;
             break;
         case 11: result = bpftap_looks(TEXT, strlen(TEXT), packet, sizeof packet, sizeof packet, (void *)seen.written, ROOM / sizeof(struct bpftap_look)); break;
-        case 14: result = bpftap_hint("ip.src == 10.0.0.1 and tcp", 26, BPFTAP_BAD_WORD, 3, text, ROOM); break;
         case 13:
             replay = bpftap_steps_answers(listeners, strlen(listeners), script, strlen(script), captures, 2, text, ROOM);
             result.fault = replay.fault, result.size = replay.size;
@@ -90,7 +89,7 @@ int main(void) {
     static const uint8_t header[24] = {0xd4, 0xc3, 0xb2, 0xa1, 2, 0, 4, 0, 0, 0, 0, 0, 0, 0, 0, 0, 0, 0, 4, 0, 1, 0, 0, 0};
     memcpy(capture, header, 24);
     capture[32] = capture[36] = 60;
-    for (int which = 0; which < 15; which++) {
+    for (int which = 0; which < 14; which++) {
         static struct seen whole;
         whole = call(which);
         CHECK(whole.fault == BPFTAP_OK && whole.size > 0);
@@ -106,5 +105,11 @@ int main(void) {
         } while (refused && n < 10000);
         CHECK(n > 1);
     }
+    /* The name of a fault takes none. */
+    char name[64];
+    refused = 0, left = 0;
+    struct bpftap_result named = bpftap_fault_text(BPFTAP_NO_MEMORY, 4, name, sizeof name);
+    left = -1;
+    CHECK(named.fault == BPFTAP_OK && named.size == 8 && !refused && !strcmp(name, "NoMemory"));
     return failures != 0;
 }

@@ -78,7 +78,7 @@ faults! {
 
 /// The line of a fault, as `bpftap_fault_text` writes it.
 fn line(fault: Fault, place: u64) -> String {
-    text(|to, room| unsafe { ffi::bpftap_fault_text(fault as u32, place as usize, to, room) }).unwrap_or_else(|_| "NoMemory".to_owned())
+    text(|to, room| unsafe { ffi::bpftap_fault_text(fault as u32, place as usize, to, room) }).unwrap_or_default()
 }
 
 impl fmt::Display for Fault {

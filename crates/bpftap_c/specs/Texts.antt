@@ -33,9 +33,3 @@ IsPrinted text (Err failure) = IsUnread text failure
 -- the version of the library, and the processor that it is made for
 abbrev pub version : List ℕ
 version = codes "2.7.0 x86-64-v2"
-
--- some text, or memory was refused
-abbrev pub MayLackMemory : Result (List ℕ) Failure → Type 0
-MayLackMemory (Ok text) = Unit {0}
-MayLackMemory (Err NoMemory) = Unit {0}
-MayLackMemory (Err other) = ⊥

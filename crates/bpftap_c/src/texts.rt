@@ -3,13 +3,14 @@
 ghost use Rattle.std.specs.Prelude.{◌≡◌, IfErr, IfOk, Result, List, ℕ};
 ghost use Rattle.bpftap_c.specs.declared.outcome.Failure.{Failure};
 ghost use Rattle.bpftap_c.specs.Memory.{DeliversText, PutsText};
-ghost use Rattle.bpftap_c.specs.Texts.{version, IsPrinted, MayLackMemory};
+ghost use Rattle.bpftap_c.specs.Texts.{version, IsPrinted};
 
 use crate::filters::expression_of;
 use crate::memory::put_text;
 use crate::outcome::{BpftapResult, Failure, failed};
 use filter_print::Canonical;
-use std::alloc::{AllocError, Global};
+use line_text::Line;
+use std::alloc::Global;
 
 /// The canonical text of an expression, or why there is none.
 fn printed(alloc: Global, text: &[u8]) -> Result<String, Failure>
@@ -131,31 +132,25 @@ fn has_place(fault: u32) -> bool {
 }
 
 /// The line of a fault: its name, and its place if it has one.
-fn fault_line(alloc: Global, fault: u32, place: usize) -> Result<String, AllocError> {
-    let mut line = String::new(alloc);
+fn fault_line(fault: u32, place: usize) -> Line {
+    let mut line = Line::new();
     let name = fault_name(fault);
-    if has_place(fault) {
-        write!(line, "{name} {place}")?;
+    // A line has room for a name and a number.
+    let _ = if has_place(fault) {
+        write!(line, "{name} {place}")
     } else {
-        write!(line, "{name}")?;
-    }
-    Ok(line)
+        write!(line, "{name}")
+    };
+    line
 }
 
 /// Writes the name of a fault, and its place if it has one, as the program prints it; but a name
 /// stands for one number, so that what the program prints as `TooLong` of a record is
-/// `RecordTooLong`, and as `TooMany` of steps `StepsTooMany`.
+/// `RecordTooLong`, and as `TooMany` of steps `StepsTooMany`. It takes no memory, since it may have
+/// to name the fault that there is none.
 #[unsafe(no_mangle)]
-pub extern "C" fn bpftap_fault_text(
-    alloc: Global,
-    fault: u32,
-    place: usize,
-    to: &mut [u8],
-) -> BpftapResult
-    ensures { (made : Result (List ℕ) Failure) × MayLackMemory made × DeliversText made to.old to.new result }
+pub extern "C" fn bpftap_fault_text(fault: u32, place: usize, to: &mut [u8]) -> BpftapResult
+    ensures { (text : List ℕ) × PutsText text to.old to.new result }
 {
-    match fault_line(alloc, fault, place) {
-        Ok(line) => put_text(line.as_bytes(), to),
-        Err(_) => failed(Failure::NoMemory),
-    }
+    put_text(fault_line(fault, place).as_bytes(), to)
 }
