@@ -106,7 +106,7 @@ enum bpftap_fault {
     BPFTAP_NO_LISTENER = 91     /* step `place`, from 0, names a listener that does not exist */
 };
 
-#define BPFTAP_VERSION_NUMBER 20700 /* major * 10,000 + minor * 100 + patch */
+#define BPFTAP_VERSION_NUMBER 20800 /* major * 10,000 + minor * 100 + patch */
 
 #define BPFTAP_MAX_INSNS 512        /* instructions of a program */
 #define BPFTAP_MAX_SNAP 262144      /* captured bytes of a packet */
@@ -555,7 +555,7 @@ struct bpftap_result bpftap_fault_text(uint32_t fault, size_t place, char *to, s
  * Faults: NOT_TEXT, NO_ROOM, NO_MEMORY. */
 struct bpftap_result bpftap_hint(const char *text, size_t text_size, uint32_t fault, size_t place, char *to, size_t room);
 
-/* Writes the version of the library, as `2.7.0 x86-64-v2`: after a blank the processor that it is made for, `x86-64-v2` or `aarch64`. 64 bytes
+/* Writes the version of the library, as `2.8.0 x86-64-v2`: after a blank the processor that it is made for, `x86-64-v2` or `aarch64`. 64 bytes
  * are always room enough.
  * Faults: NO_ROOM. */
 struct bpftap_result bpftap_version(char *to, size_t room);

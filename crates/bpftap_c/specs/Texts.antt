@@ -32,4 +32,4 @@ IsPrinted text (Err failure) = IsUnread text failure
 
 -- the version of the library, and the processor that it is made for
 abbrev pub version : List ℕ
-version = codes "2.7.0 x86-64-v2"
+version = codes "2.8.0 x86-64-v2"

@@ -40,7 +40,7 @@ pub extern "C" fn bpftap_print(alloc: Global, text: &[u8], to: &mut [u8]) -> Bpf
 }
 
 /// The version of the library, and the processor that it is made for.
-const VERSION: &str = "2.7.0 x86-64-v2";
+const VERSION: &str = "2.8.0 x86-64-v2";
 
 /// Writes the version, and after a blank the processor that the library is made for.
 #[unsafe(no_mangle)]

@@ -43,7 +43,7 @@ pub enum Request<'a> {
 
 /// What the program calls itself, and in which logic it was proved, as `rt version` names it. Kits
 /// share one.
-const VERSION: &str = "2.7.0, proved in the logic dac8208d650f15bf";
+const VERSION: &str = "2.8.0, proved in the logic dac8208d650f15bf";
 
 const ABOUT: &str =
     "Filters captures offline, and replays them to listeners that keep and drop packets";
