@@ -45,6 +45,10 @@ REFUSED = [
     ("1 0 0 1048576 2 ./tu.pcap\n", "tu.pcap + t.pcap", "SameFile ./tu.pcap"),
     ("1 0 0 1048576 2 ./none.pcap\n", "tu.pcap + t.pcap none.pcap", "SameFile ./none.pcap"),
     ("1 0 0 1048576 2 kept.pcap\n0 0 0 1048576 2 ./kept.pcap\n", "tu.pcap + t.pcap", "SameFile ./kept.pcap"),
+    # More lines than a run takes: each expression is looked at first, and 1,030 are too many.
+    ("".join(f"0 0 0 1048576 2 {n}.pcap\n" for n in range(1031)) + "0 0 0 1048576 2 kept.pcap tcp and 80\n", "none.pcap",
+     "Expression 1031 NoQualifier 8"),
+    ("".join(f"0 0 0 1048576 2 {n}.pcap\n" for n in range(1030)), "none.pcap", "TooMany"),
 ]
 
 
@@ -102,9 +106,10 @@ def lines_beyond_the_most_take_little_memory(scene):
     """With 60,000 lines, too many are refused with little memory, after bad lines and refused expressions."""
     lines = [f"0 0 8 40 1 {line}\n" for line in range(60000)]
     scene.put({"t.pcap": HEADER + T})
-    for last in ["x\n", "0 0 8 40 1 7\n", "1 0 8 40 1 x\n"]:
+    for last, fault in [("x\n", "Listeners 60001"), ("0 0 8 40 1 7\n", "Listeners 60001"), ("1 0 8 40 1 x\n", "Listeners 60001"),
+                        ("0 0 8 40 1 x tcp and 80\n", "Expression 60000 NoQualifier 8")]:
         scene.put({"listeners.txt": "".join(lines) + last})
-        scene.expect("run listeners.txt t.pcap", 1, fault_lines("Listeners 60001"), first="ulimit -v 200000")
+        scene.expect("run listeners.txt t.pcap", 1, fault_lines(fault), first="ulimit -v 200000")
     scene.put({"listeners.txt": "".join(lines)})
     scene.expect("run listeners.txt t.pcap", 1, fault_lines("TooMany"), first="ulimit -v 200000")
     scene.put({"listeners.txt": "".join(lines).replace(" 1 9\n", " 1 9 tcp and 80\n")})

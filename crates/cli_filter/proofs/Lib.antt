@@ -1,3 +1,4 @@
 pub mod Outputs
 pub mod Planned
 pub mod Fields
+pub mod Kept

@@ -79,7 +79,7 @@ named-earlier output outputs asked name has old =
     (found.0, found.1, found.2, found.3, (bytes_eq-Decides (output found.1) name.now).0 found.4)
 
 -- how the next line is kept
-kept-few : {X : Type 0} (most : ℕ) (kept said : List X) (x : X) → kept ≡ take most said → length kept < most → kept ++ x ∷ [] ≡ take most (said ++ x ∷ [])
+pub kept-few : {X : Type 0} (most : ℕ) (kept said : List X) (x : X) → kept ≡ take most said → length kept < most → kept ++ x ∷ [] ≡ take most (said ++ x ∷ [])
 kept-few {X} most kept said x first few =
     let short : length said < most = omega (arith, ap length first, length-take most said) in
     first' short ∙ sym (take_all most (said ++ x ∷ []) (omega (arith, length-append said (x ∷ []))))
@@ -87,7 +87,7 @@ kept-few {X} most kept said x first few =
     first' : length said < most → kept ++ x ∷ [] ≡ said ++ x ∷ []
     first' short = ap (λ (t : List X). t ++ x ∷ []) (first ∙ take_all most said (omega arith))
 
-kept-many : {X : Type 0} (most : ℕ) (kept said : List X) (x : X) → kept ≡ take most said → most ≤ length kept → kept ≡ take most (said ++ x ∷ [])
+pub kept-many : {X : Type 0} (most : ℕ) (kept said : List X) (x : X) → kept ≡ take most said → most ≤ length kept → kept ≡ take most (said ++ x ∷ [])
 kept-many most kept said x first many =
     let long : most ≤ length said = omega (arith, ap length first, length-take most said) in
     first ∙ sym (take-append-le most said (x ∷ []) long)

@@ -35,6 +35,10 @@ pub record AreLastFields (rest output expression : List ℕ) : Type 0 where
 abbrev pub HaveOwnOutputs : {X : Type 0} → (X → List ℕ) → (List ℕ → Bool) → List X → Type 0
 HaveOwnOutputs output shared asked = AllPairs (λ earlier later. shared (output later) ≡ false → output earlier ≢ output later) asked
 
+-- each line of a text says something, with an OUT of its own
+abbrev pub AreAllLines : {X : Type 0} → (List ℕ → X → Type 0) → (X → List ℕ) → (List ℕ → Bool) → List ℕ → List X → Type 0
+AreAllLines Is output shared text asked = IsFileOf Is text asked × HaveOwnOutputs output shared asked
+
 -- Each line of a text says something, with an OUT of its own; the first of these, `most` at most, are kept.
 abbrev pub AreLines : {X : Type 0} → (List ℕ → X → Type 0) → (X → List ℕ) → (List ℕ → Bool) → ℕ → List ℕ → List X → Type 0
 AreLines {X} Is output shared most text kept = (asked : List X) × IsFileOf Is text asked × HaveOwnOutputs output shared asked × (kept ≡ take most asked)
@@ -62,6 +66,17 @@ AreNoLines Is output shared text NoMemory = Unit {0}
 abbrev pub IsCompiled : {X : Type 0} → (X → List ℕ) → (X → ℕ) → X → List Insn → Type 0
 IsCompiled expression snap asked program = IsProgramOf (expression asked) (snap asked) program
 
+-- each line's expression has a program, and the first of these, `most` at most, are kept
+abbrev pub AreFirstPrograms : {X : Type 0} → (X → List ℕ) → (X → ℕ) → ℕ → List X → List (List Insn) → Type 0
+AreFirstPrograms expression snap most lines kept = (all : List (List Insn)) × AllZip (IsCompiled expression snap) lines all × (kept ≡ take most all)
+
+-- Each line of a text says something, with an OUT of its own, and its expression has a program; the first of both, `most` at most, are kept.
+pub record ArePlanned {X : Type 0} (Is : List ℕ → X → Type 0) (output : X → List ℕ) (shared : List ℕ → Bool) (expression : X → List ℕ) (snap : X → ℕ) (most : ℕ) (text : List ℕ) (lines : List X) (programs : List (List Insn)) : Type 0 where
+  pub asked : List X
+  pub all : AreAllLines Is output shared text asked
+  pub first : lines ≡ take most asked
+  pub compiled : AreFirstPrograms expression snap most asked programs
+
 -- the n-th of these lines, from 0, is the first whose expression has no program, for this cause
 pub record IsFirstUncompiled {X : Type 0} (expression : X → List ℕ) (snap : X → ℕ) (lines : List X) (n : ℕ) (why : ExpressionFault) : Type 0 where
   pub asked : X
@@ -78,12 +93,12 @@ AreUncompiled expression snap lines TooMany = ⊥
 AreUncompiled expression snap lines NoMemory = Unit {0}
 
 -- why there is no plan: the first bad line; else the first expression that has no program; or out of memory
-abbrev pub IsRefusedPlan : {X : Type 0} → (List ℕ → X → Type 0) → (X → List ℕ) → (List ℕ → Bool) → (X → List ℕ) → (X → ℕ) → ℕ → List ℕ → PlanFault → Type 0
-IsRefusedPlan Is output shared expression snap most text (Line n) = IsFirstBadLine Is output shared text n
-IsRefusedPlan {X} Is output shared expression snap most text (Expression n why) =
-    (lines : List X) × AreLines Is output shared most text lines × IsFirstUncompiled expression snap lines n why
-IsRefusedPlan Is output shared expression snap most text TooMany = ⊥
-IsRefusedPlan Is output shared expression snap most text NoMemory = Unit {0}
+abbrev pub IsRefusedPlan : {X : Type 0} → (List ℕ → X → Type 0) → (X → List ℕ) → (List ℕ → Bool) → (X → List ℕ) → (X → ℕ) → List ℕ → PlanFault → Type 0
+IsRefusedPlan Is output shared expression snap text (Line n) = IsFirstBadLine Is output shared text n
+IsRefusedPlan {X} Is output shared expression snap text (Expression n why) =
+    (lines : List X) × AreAllLines Is output shared text lines × IsFirstUncompiled expression snap lines n why
+IsRefusedPlan Is output shared expression snap text TooMany = ⊥
+IsRefusedPlan Is output shared expression snap text NoMemory = Unit {0}
 
 -- whether it is memory that lacks, which is no fault of the expression
 abbrev pub lacks_memory : ExpressionFault → Bool

@@ -2,7 +2,7 @@
 
 ghost use Rattle.std.specs.Prelude.{◌≡◌, ◌||◌, ℕ, Bool, List, IfErr, IfNone, IfOk, IfSome, Some, length};
 ghost use Rattle.std.specs.List.{AllZip};
-ghost use Rattle.cli_filter.specs.Plan.{AreCut, AreLines, AreNoLines, AreLastFields, AreUncompiled, IsCompiled, IsRefusedPlan, lacks_memory, plan_fault_text, uncompiled_text};
+ghost use Rattle.cli_filter.specs.Plan.{AreCut, AreLines, AreNoLines, AreLastFields, AreFirstPrograms, ArePlanned, AreUncompiled, IsCompiled, IsRefusedPlan, lacks_memory, plan_fault_text, uncompiled_text};
 ghost use Rattle.cli_filter.specs.Reports.{IsPlanReport, IsUncompiledReport};
 ghost use Rattle.line_text.specs.Fields.{IsWord};
 ghost use Rattle.cli_filter.specs.declared.plan.PlanFault.TheVariants.{NoMemory};
@@ -247,6 +247,32 @@ pub fn read_lines<'a, L: PlanLine<'a>>(
     Ok(lines)
 }
 
+/// Compiles the expression of each line, for its snapshot length, and keeps the first programs,
+/// `most` at most.
+///
+/// [`PlanFault::Expression`] names the first line, from 0, whose expression has no program.
+/// [`PlanFault::NoMemory`] says that memory ran out.
+fn compile_first<'a, L: PlanLine<'a>>(
+    alloc: Global,
+    lines: &[L],
+    most: usize,
+) -> Result<Vec<Program>, PlanFault>
+    ensures programs { IfOk result (λ programs. AreFirstPrograms L.expression_of L.snap_of most lines.now programs.items) }
+    ensures fault { IfErr result (λ fault. AreUncompiled L.expression_of L.snap_of lines.now fault) }
+{
+    let mut programs = Vec::with_capacity(alloc, lines.len().min(most))?;
+    for (n, line) in lines.iter().enumerate() {
+        let program = match compile_text(alloc, line.expression(), line.snap()) {
+            Ok(program) => program,
+            Err(fault) => return Err(PlanFault::Expression(n, fault)),
+        };
+        if programs.len() < most {
+            programs.push(program)?;
+        }
+    }
+    Ok(programs)
+}
+
 /// The program of each line, for its snapshot length; or the fault of the first expression that has
 /// none.
 pub fn compile_lines<'a, L: PlanLine<'a>>(
@@ -256,34 +282,29 @@ pub fn compile_lines<'a, L: PlanLine<'a>>(
     ensures programs { IfOk result (λ programs. AllZip (IsCompiled L.expression_of L.snap_of) lines.now programs.items) }
     ensures fault { IfErr result (λ fault. AreUncompiled L.expression_of L.snap_of lines.now fault) }
 {
-    let mut programs = Vec::with_capacity(alloc, lines.len())?;
-    for (n, line) in lines.iter().enumerate() {
-        match compile_text(alloc, line.expression(), line.snap()) {
-            Ok(program) => programs.push(program)?,
-            Err(fault) => return Err(PlanFault::Expression(n, fault)),
-        }
-    }
-    Ok(programs)
+    compile_first(alloc, lines, lines.len())
 }
 
-/// Reads the lines of a text as [`read_lines`] does, and compiles the expressions of those that are
-/// kept.
+/// Reads the lines of a text as [`read_lines`] does and compiles all expressions, then keeps the
+/// first lines and their programs, `most` at most.
 ///
 /// A line's fault comes before any expression's. [`PlanFault::Expression`] names the first line,
-/// from 0, whose expression has no program.
+/// kept or not, from 0, whose expression has no program. [`PlanFault::NoMemory`] says that memory
+/// ran out.
 pub fn read_plan<'a, L: PlanLine<'a>>(
     alloc: Global,
     text: &'a [u8],
     terms: L::Terms,
     most: usize,
 ) -> Result<Plan<L>, PlanFault>
-    ensures lines { IfOk result (λ plan. AreLines (L.says terms) L.output_of L.shared most text.now plan.lines.items) }
-    ensures programs { IfOk result (λ plan. AllZip (IsCompiled L.expression_of L.snap_of) plan.lines.items plan.programs.items) }
-    ensures fault { IfErr result (λ fault. IsRefusedPlan (L.says terms) L.output_of L.shared L.expression_of L.snap_of most text.now fault) }
-    // What follows of `programs`, for callers that pair them.
+    ensures planned { IfOk result (λ plan. ArePlanned (L.says terms) L.output_of L.shared L.expression_of L.snap_of most text.now plan.lines.items plan.programs.items) }
+    ensures fault { IfErr result (λ fault. IsRefusedPlan (L.says terms) L.output_of L.shared L.expression_of L.snap_of text.now fault) }
+    // What follows of `planned`, for callers that pair them.
     ensures all { IfOk result (λ plan. length plan.programs.items ≡ length plan.lines.items) }
 {
-    let lines = read_lines(alloc, text, terms, most)?;
-    let programs = compile_lines(alloc, lines.as_slice())?;
+    // All lines: they are at most one more than the line feeds.
+    let mut lines = read_lines(alloc, text, terms, text.len() + 1)?;
+    let programs = compile_first(alloc, lines.as_slice(), most)?;
+    lines.truncate(most);
     Ok(Plan { lines, programs })
 }

@@ -56,9 +56,9 @@ bad-nowhere interfaces before behind line all said each own good bad =
     ∙ sym (ap (λ (x : RunLine). x.output.now) (get_or-append_seam cut.front cut.own cut.rest found.1)))
 
 pub none_bad : NoneIsBad
-none_bad interfaces text kept n right bad =
-    bad-nowhere interfaces bad.before bad.behind bad.line right.0 bad.said (subst (λ (lines : List (List ℕ)). Say (IsRunLine interfaces) lines right.0) bad.lines right.1)
-    right.2 bad.good (λ x is. (bad.bad x is).1)
+none_bad interfaces text asked n right bad =
+    bad-nowhere interfaces bad.before bad.behind bad.line asked bad.said (subst (λ (lines : List (List ℕ)). Say (IsRunLine interfaces) lines asked) bad.lines right.0)
+    right.1 bad.good (λ x is. (bad.bad x is).1)
 
 -- of two cuts of a list that with the shorter front is one of the other's front
 cut-in : {X : Type 0} (a b : List X) (x y : X) (c d : List X) → a ++ x ∷ c ≡ b ++ y ∷ d → length a < length b → (e : List X) × (b ≡ a ++ x ∷ e)

@@ -5,7 +5,7 @@ use Rattle.cli_run.specs.Listeners.{AreRunLines, IsFirstBadRunLine}
 
 -- a file whose lines all have their form, each with an OUT of its own, has no bad line
 abbrev pub NoneIsBad : Type 0
-NoneIsBad = (interfaces : ℕ) (text : List ℕ) (kept : List RunLine) (n : ℕ) → AreRunLines interfaces text kept → IsFirstBadRunLine interfaces text n → ⊥
+NoneIsBad = (interfaces : ℕ) (text : List ℕ) (asked : List RunLine) (n : ℕ) → AreRunLines interfaces text asked → IsFirstBadRunLine interfaces text n → ⊥
 
 -- a file has one first bad line
 abbrev pub FirstBadIsOne : Type 0

@@ -52,18 +52,18 @@ none_shared output = false
 abbrev pub HaveOwnOutputs : List RunLine → Type 0
 HaveOwnOutputs asked = plan.HaveOwnOutputs output_of none_shared asked
 
--- The lines of a text ask for listeners, each with an OUT of its own; of these the first 1,024 and one more are kept.
+-- the lines of a text ask for listeners, each with an OUT of its own
 abbrev pub AreRunLines : ℕ → List ℕ → List RunLine → Type 0
-AreRunLines interfaces text kept = plan.AreLines (IsRunLine interfaces) output_of none_shared 1025 text kept
+AreRunLines interfaces text asked = plan.AreAllLines (IsRunLine interfaces) output_of none_shared text asked
+
+-- The lines of a text ask for listeners, each with an OUT of its own, and each expression has a program; of both the first 1,024 and one more are kept.
+abbrev pub ArePlanned : ℕ → List ℕ → List RunLine → List (List Insn) → Type 0
+ArePlanned interfaces text lines programs = plan.ArePlanned (IsRunLine interfaces) output_of none_shared expression_of snap_of 1025 text lines programs
 
 -- the n-th line of a text, from 1, is the first bad one: it lacks the form, or has the OUT of an earlier line
 abbrev pub IsFirstBadRunLine : ℕ → List ℕ → ℕ → Type 0
 IsFirstBadRunLine interfaces text n = plan.IsFirstBadLine (IsRunLine interfaces) output_of none_shared text n
 
--- the program stands for a line's expression
-abbrev pub IsCompiled : RunLine → List Insn → Type 0
-IsCompiled asked program = plan.IsCompiled expression_of snap_of asked program
-
--- Why LISTENERS is not replayed: its first bad line; else its first expression that has no program; or out of memory.
+-- Why LISTENERS is not replayed: its first bad line; else its first expression that has no program, kept or not; or out of memory.
 abbrev pub IsRefusedPlan : ℕ → List ℕ → PlanFault → Type 0
-IsRefusedPlan interfaces text fault = plan.IsRefusedPlan (IsRunLine interfaces) output_of none_shared expression_of snap_of 1025 text fault
+IsRefusedPlan interfaces text fault = plan.IsRefusedPlan (IsRunLine interfaces) output_of none_shared expression_of snap_of text fault

@@ -23,7 +23,7 @@ use Rattle.cli_run.specs.declared.plan.RunLine.{RunLine}
 use Rattle.cli_filter.specs.declared.plan.PlanFault.{PlanFault}
 use Rattle.cli_run.specs.Faults.{listeners_fault_text}
 use Rattle.cli_run.specs.Layout.{places_of, tasks_of, AreLaidOut, AreSinksOf}
-use Rattle.cli_run.specs.Listeners.{AreRunLines, IsCompiled, IsRefusedPlan}
+use Rattle.cli_run.specs.Listeners.{ArePlanned, IsRefusedPlan}
 use Rattle.cli_run.specs.Replaying.{ReportsRun}
 
 -- The captures were replayed to the listeners of the lines, each with its program and its sink.
@@ -51,9 +51,8 @@ Makes step make (line ∷ lines) [] last = ⊥
 pub record Ran {S W M : Type 0} (left : S → Option (List ℕ)) (broken : S → ℕ) (taken : W → Option (List ℕ)) (failures : W → ℕ)
     (step : M → Bor (List ℕ) → W → M → Type 0) (make : M) (listeners : List ℕ) (captures : List (Vec S Global)) (old new : Streams) (outcome : Outcome) (back : List W) : Type 0 where
   pub lines : List RunLine
-  pub asked : AreRunLines (length captures) listeners lines
   pub programs : List (List Insn)
-  pub compiled : AllZip IsCompiled lines programs
+  pub planned : ArePlanned (length captures) listeners lines programs
   pub sinks : List W
   pub last : M
   pub made : Makes step make lines sinks last
@@ -79,9 +78,8 @@ pub record Unplanned {S W : Type 0} (listeners : List ℕ) (captures : List (Vec
 -- LISTENERS asks for listeners, each expression has a program, and there is no replay.
 pub record Unplayed {S W : Type 0} (listeners : List ℕ) (captures : List (Vec S Global)) (old new : Streams) (outcome : Outcome) (back : List W) : Type 0 where
   pub lines : List RunLine
-  pub asked : AreRunLines (length captures) listeners lines
   pub programs : List (List Insn)
-  pub compiled : AllZip IsCompiled lines programs
+  pub planned : ArePlanned (length captures) listeners lines programs
   pub sinks : List W
   pub fault : RunFault
   pub stands : IsNoReplayOf lines programs captures sinks fault

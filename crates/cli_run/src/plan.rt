@@ -2,8 +2,7 @@
 //! program of each line's expression.
 
 ghost use Rattle.std.specs.Prelude.{◌≡◌, ◌<◌, ℕ, List, All, IfErr, IfNone, IfOk, IfSome, codes, length};
-ghost use Rattle.std.specs.List.{AllZip};
-ghost use Rattle.cli_run.specs.Listeners.{AreNumbers, AreRunLines, IsCompiled, IsRefusedPlan, IsRunLine, none_shared};
+ghost use Rattle.cli_run.specs.Listeners.{AreNumbers, ArePlanned, IsRefusedPlan, IsRunLine, none_shared};
 
 use cli_filter::plan;
 use cli_filter::plan::{Plan, PlanFault, PlanFaultText, PlanLine, output_and_expression};
@@ -148,16 +147,15 @@ pub fn fault_text(fault: PlanFault) -> PlanFaultText
 /// rest of the line; if it is empty, the space before it may be missing. Both are UTF-8.
 ///
 /// The plan has at most 1,025 lines: one more than a replay takes, so that its caller sees that
-/// there are too many. Later lines are read all the same. [`PlanFault::Line`] names the first line,
-/// from 1, that lacks this form; else [`PlanFault::Expression`] the first line, from 0, whose
-/// expression has no program. [`PlanFault::NoMemory`] says that memory ran out.
+/// there are too many. Later lines are read and compiled all the same. [`PlanFault::Line`] names
+/// the first line, from 1, that lacks this form; else [`PlanFault::Expression`] the first line, from
+/// 0, whose expression has no program. [`PlanFault::NoMemory`] says that memory ran out.
 pub fn read_plan(
     alloc: Global,
     listeners: &[u8],
     interfaces: usize,
 ) -> Result<Plan<RunLine<'_>>, PlanFault>
-    ensures lines { IfOk result (λ plan. AreRunLines interfaces listeners.now plan.lines.items) }
-    ensures programs { IfOk result (λ plan. AllZip IsCompiled plan.lines.items plan.programs.items) }
+    ensures planned { IfOk result (λ plan. ArePlanned interfaces listeners.now plan.lines.items plan.programs.items) }
     ensures fault { IfErr result (λ fault. IsRefusedPlan interfaces listeners.now fault) }
     // What a replay of the plan requires.
     ensures there { IfOk result (λ plan. All (λ line. line.interface < interfaces) plan.lines.items) }

@@ -41,9 +41,8 @@ returns-in-Ok-replay_lines g c =
     let replayed = c.in-Ok-replay_lines.ensures.replayed in
     inr (inr (record {
       lines = c.in-Ok.plan.lines.items;
-      asked = rw many at c.in-Ok.ensures.lines;
       programs = c.in-Ok.plan.programs.items;
-      compiled = c.in-Ok.ensures.programs;
+      planned = rw many at c.in-Ok.ensures.planned;
       sinks = replayed.0;
       last = replayed.1;
       made = replayed.2;
@@ -59,9 +58,8 @@ returns-in-Err-replay_lines g c =
     let many : c.len.result ≡ length c.args.captures.items = search rules in
     inr (inl (record {
       lines = c.in-Ok.plan.lines.items;
-      asked = rw many at c.in-Ok.ensures.lines;
       programs = c.in-Ok.plan.programs.items;
-      compiled = c.in-Ok.ensures.programs;
+      planned = rw many at c.in-Ok.ensures.planned;
       sinks = c.in-Err-replay_lines.ensures.fault.0;
       fault = c.in-Err-replay_lines.fault;
       stands = c.in-Err-replay_lines.ensures.fault.1;
