@@ -1,5 +1,7 @@
 """`bpftap steps`: in which order its files are checked, and what is reported."""
-from .common import TORN, VETH, WHOLE, case, fault_lines
+import os
+
+from .common import HEADER, TORN, VETH, WHOLE, case, fault_lines
 
 FILES = {
     "l.txt": "32 64\n", "s.txt": "arrive\n", "bad.txt": "x\n", "refused.txt": "32 64 tcp and 80\n",
@@ -50,6 +52,32 @@ def reports_are_printed(scene):
     scene.expect("steps -v l.txt s.txt torn.pcap", 2, fault_lines("Capture 0 TornRecord 1"), EXPLAINED + REPORT)
     scene.expect("steps /dev/null /dev/null whole.pcap")
     scene.check("files", scene.files(), before)
+
+
+# What is no capture and has 2 GB or no end, as IN with its redirection, and the fault of its file header.
+ENDLESS = [
+    ("zeros", "", "NotSavefile"), ("/dev/zero", "", "NotSavefile"), ("/dev/stdin", "< <(cat cooked /dev/zero)", "LinkType"),
+]
+
+
+@case
+def what_is_no_capture_is_not_read_on(scene):
+    """In 64 MB what is no capture is refused in its turn, by its first 24 bytes; a capture is read whole, if a pipe gives it in pieces too."""
+    scene.put({**FILES, "far.txt": "read 1\n", "cooked": HEADER[:20] + bytes([113, 0, 0, 0])})
+    with open(scene.folder / "zeros", "wb") as zeros:
+        zeros.truncate(1 << 31)
+    for path, streams, fault in ENDLESS:
+        for words, status, line in [
+            (f"l.txt s.txt {path}", 1, f"Capture 0 {fault}"),
+            (f"refused.txt s.txt torn.pcap {path} empty.pcap", 1, f"Capture 1 {fault}"),
+            (f"l.txt far.txt {path}", 1, "NoListener 0"),
+            (f"l.txt s.txt {path} no.pcap", 3, "Device no.pcap"),
+        ]:
+            scene.expect(f"steps {words}", status, fault_lines(line), streams=streams, first="ulimit -v 65536")
+    os.mkfifo(scene.folder / "fifo")
+    for size in 10, 24, 30:
+        pieces = f"(head -c {size} whole.pcap; sleep 0.1; tail -c +{size + 1} whole.pcap) > fifo &"
+        scene.expect("steps l.txt s.txt fifo", out=REPORT, first=pieces)
 
 
 # Expressions that reject packets of the real capture: with No, with Abort at a byte and at a divisor, and by a part whose text is

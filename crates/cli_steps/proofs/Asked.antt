@@ -21,6 +21,7 @@ use Rattle.cli_steps.specs.Playing.{HandsOn, is_traced}
 use Rattle.cli_steps.specs.Telling.{PrintsPlayed}
 use Rattle.cli_steps.specs.FromFiles.{HasTrace, IsDrawn, IsInput, IsNotDrawn, IsReason, IsUndrawn, StepsFiles, detail_for, form_for}
 use Rattle.cli_steps.proofs.Beyond.{plays-as-all}
+use Rattle.cli_steps.proofs.Captures.{prints_whole}
 
 prints-all : (form : LineForm) (explained traced : Bool) (captures : List (List ℕ)) (all kept : List Spec) (steps : List Step) (before after : Option (List ℕ)) (status : Status) (replayed : Result Replayed Fault)
     → kept ≡ take 65 all → PrintsPlayed form explained traced captures kept steps before after status replayed → PrintsPlayed form explained traced captures all steps before after status replayed
@@ -61,17 +62,18 @@ steps_files place-old place-mid old mid new printed failed denied words before a
       came_to = record {
         listeners = report.input.listeners.items;
         script = report.input.script.items;
-        captures = map (λ c. c.items) report.input.captures.items;
+        captures = input.has_captures.0;
         has_listeners = input.has_listeners;
         has_script = input.has_script;
-        has_captures = input.has_captures;
+        has_captures = input.has_captures.1;
         apart = input.apart;
         specs = asked.all;
         steps = report.input.plan.steps.items;
         of_listeners = asked.asked;
         of_script = input.of_script;
-        plays = prints-all (form_for words.json) words.explained (is_traced (detail_for words.explained (option_copied words.picture))) (map (λ c. c.items) report.input.captures.items)
-            asked.all report.input.plan.specs.items report.input.plan.steps.items before after report.status report.replayed asked.first prints;
+        plays = prints-all (form_for words.json) words.explained (is_traced (detail_for words.explained (option_copied words.picture))) input.has_captures.0
+            asked.all report.input.plan.specs.items report.input.plan.steps.items before after report.status report.replayed asked.first
+            (prints_whole _ _ _ input.has_captures.0 _ _ _ before after report.status report.replayed input.has_captures.2 prints);
         unplayed = subst (λ (m : Texts). IfErr report.replayed (λ _. (at : List ℕ) → new at ≡ m at)) texts unplayed;
         drawn = subst (λ (m : Texts). IfOk report.drawn (IsDrawn place-old m new words.picture report.replayed)) texts
             (subst (λ (pl : Places). IfOk report.drawn (IsDrawn pl mid new words.picture report.replayed)) places (drawn (has_trace _ words.explained words.picture _ _ _ before after report.status report.replayed prints)));

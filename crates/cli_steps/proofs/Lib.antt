@@ -1,4 +1,5 @@
 mod Beyond
+mod Captures
 mod Drawing
 mod Ending
 mod Asked

@@ -12,7 +12,7 @@ use Rattle.line_text.specs.Files.{IsFileOf}
 use Rattle.tap_text.specs.Listeners.{AreFirstOf}
 use Rattle.tap_text.specs.Script.{IsStepLine}
 use Rattle.cli_steps.specs.declared.outcome.StepsInput.{StepsInput}
-use Rattle.cli_steps.specs.FromFiles.{AreTextsAt, AreUnread, ArePathsApart, ArePathsRefused, IsDenied, IsInput, IsReason, IsTextAt, IsUnread, IsWholeUnread, drawn_paths, read_paths}
+use Rattle.cli_steps.specs.FromFiles.{AreCapturesRead, AreUnread, ArePathsApart, ArePathsRefused, IsDenied, IsInput, IsReason, IsTextAt, IsUnread, IsCaptureUnread, drawn_paths, read_paths}
 
 -- the first bytes of a text that are fewer than could be taken are all of it
 take_short : (n : ℕ) (xs : List ℕ) → length (take n xs) < n → take n xs ≡ xs
@@ -27,10 +27,6 @@ long_front m n text whole front long = omega (arith, length-take n whole, ap len
 pub short_front : (m : ℕ) (text whole : List ℕ) → text ≡ take (suc m) whole → length text ≤ m → whole ≡ text
 short_front m text whole front short =
     sym (front ∙ take_short (suc m) whole (omega (arith, ap length front, short)))
-
--- bytes that are fewer than could be taken are the whole text
-pub whole_front : (n : ℕ) (text whole : List ℕ) → text ≡ take n whole → length text < n → whole ≡ text
-whole_front n text whole front short = sym (front ∙ take_short n whole (omega (arith, ap length front, short)))
 
 -- ---- Why nothing was played
 
@@ -139,29 +135,29 @@ again (x ∷ xs) zero d = refl
 again (x ∷ xs) (suc k) d = again xs k d
 
 -- a capture among these was not read
-pub whole_unread : (place-old place-mid : Places) (failed : Bool) (denied : Option (List ℕ)) (paths : List (Bor (List ℕ))) (k : ℕ) (d : Bor (List ℕ)) (r : StepsRefusal) → place-mid ≡ place-old → k < length paths →
-    IsWholeUnread place-mid failed denied (slice_index_or paths k d).now r → AreUnread place-old failed denied paths r
-whole_unread place-old place-mid failed denied paths k d (refusal.File unread error) places within (same, why) = (
+pub capture_unread : (place-old place-mid : Places) (failed : Bool) (denied : Option (List ℕ)) (paths : List (Bor (List ℕ))) (k : ℕ) (d : Bor (List ℕ)) (r : StepsRefusal) → place-mid ≡ place-old → k < length paths →
+    IsCaptureUnread place-mid failed denied (slice_index_or paths k d).now r → AreUnread place-old failed denied paths r
+capture_unread place-old place-mid failed denied paths k d (refusal.File unread error) places within (same, why) = (
   (k, slice_index_or paths k d, within, again paths k d, sym same),
   subst (λ (pl : Places). IsDenied pl failed denied unread.now error) places (denied_here place-mid failed denied unread.now (slice_index_or paths k d).now error same why),
 )
-whole_unread place-old place-mid failed denied paths k d (refusal.TextTooLong long) places within is = absurd is
-whole_unread place-old place-mid failed denied paths k d (refusal.Line listeners script fault) places within is = absurd is
-whole_unread place-old place-mid failed denied paths k d refusal.TooMany places within is = absurd is
-whole_unread place-old place-mid failed denied paths k d (refusal.Paths fault) places within is = absurd is
-whole_unread place-old place-mid failed denied paths k d refusal.NoMemory places within is = absurd is
+capture_unread place-old place-mid failed denied paths k d (refusal.TextTooLong long) places within is = absurd is
+capture_unread place-old place-mid failed denied paths k d (refusal.Line listeners script fault) places within is = absurd is
+capture_unread place-old place-mid failed denied paths k d refusal.TooMany places within is = absurd is
+capture_unread place-old place-mid failed denied paths k d (refusal.Paths fault) places within is = absurd is
+capture_unread place-old place-mid failed denied paths k d refusal.NoMemory places within is = absurd is
 
 -- what was read is what was asked for
 pub input_of : (place-old place-1 place-2 place-3 : Places) (old mid-1 mid-2 mid-3 : Texts) (printed-old printed-2 : Option (List ℕ)) (words : StepsWords) (input : StepsInput) (listeners script : List ℕ) (paths : List (Bor (List ℕ))) →
     place-1 ≡ place-old → mid-1 ≡ old → place-2 ≡ place-old → mid-2 ≡ old → printed-2 ≡ printed-old → place-3 ≡ place-old → mid-3 ≡ old →
     listeners ≡ input.listeners.items → script ≡ input.script.items → paths ≡ words.inputs.items →
-    IsTextAt place-old old words.listeners.now input.listeners.items → IsTextAt place-1 mid-1 words.script.now input.script.items → AreTextsAt place-3 mid-3 paths (map (λ c. c.items) input.captures.items) →
+    IsTextAt place-old old words.listeners.now input.listeners.items → IsTextAt place-1 mid-1 words.script.now input.script.items → AreCapturesRead place-3 mid-3 paths (map (λ c. c.items) input.captures.items) →
     AreFirstOf listeners input.plan.specs.items → IsFileOf IsStepLine script input.plan.steps.items → ArePathsApart place-2 mid-2 printed-2 words → IsInput place-old old printed-old words input
 input_of place-old place-1 place-2 place-3 old mid-1 mid-2 mid-3 printed-old printed-2 words input listeners script paths p1 m1 p2 m2 q2 p3 m3 l s ps has_listeners has_script has_captures of_listeners of_script apart = record {
   has_listeners = has_listeners;
   has_script = before place-old place-1 old mid-1 words.script.now input.script.items p1 m1 has_script;
-  has_captures = subst (λ (xs : List (Bor (List ℕ))). AreTextsAt place-old old xs (map (λ c. c.items) input.captures.items)) ps
-      (subst (λ (m : Texts). AreTextsAt place-old m paths (map (λ c. c.items) input.captures.items)) m3 (subst (λ (pl : Places). AreTextsAt pl mid-3 paths (map (λ c. c.items) input.captures.items)) p3 has_captures));
+  has_captures = subst (λ (xs : List (Bor (List ℕ))). AreCapturesRead place-old old xs (map (λ c. c.items) input.captures.items)) ps
+      (subst (λ (m : Texts). AreCapturesRead place-old m paths (map (λ c. c.items) input.captures.items)) m3 (subst (λ (pl : Places). AreCapturesRead pl mid-3 paths (map (λ c. c.items) input.captures.items)) p3 has_captures));
   of_listeners = subst (λ (t : List ℕ). AreFirstOf t input.plan.specs.items) l of_listeners;
   of_script = subst (λ (t : List ℕ). IsFileOf IsStepLine t input.plan.steps.items) s of_script;
   apart = subst (λ (q : Option (List ℕ)). ArePathsApart place-old old q words) q2

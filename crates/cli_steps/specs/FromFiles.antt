@@ -1,6 +1,6 @@
 -- `bpftap steps`, from files to printed lines. Read it from the last definition up.
 use Rattle.std.specs.Prelude.{◌≡◌, ◌≢◌, ◌⊎◌, ℕ, ◌<◌, length, Bool, true, false, List, [], ◌∷◌, Option, Some, None, Result, Ok, Err, All, IfErr, IfOk, Vec, map, option_copied, ⊤}
-use Rattle.std.specs.List.{Any}
+use Rattle.std.specs.List.{AllZip, Any}
 use Rattle.std.specs.Borrow.{Bor}
 use Rattle.std.specs.Io.KnownBytes.{Keeps as KeepsBytes}
 use Rattle.std.specs.declared.alloc.Global.{Global}
@@ -22,7 +22,7 @@ use Rattle.cli_files.specs.Paths.{IsPathStatus}
 use Rattle.cli_files.specs.Reading.{IsRefusedMemory}
 use Rattle.cli_files.specs.declared.reading.TheConstants.{MAX_TEXT}
 use Rattle.cli_files.specs.declared.paths.Opening.TheVariants.{First}
-use Rattle.cli_store.specs.Files.{IsApart, IsRefusal, IsUnprinted, Places, StoresAt, Texts}
+use Rattle.cli_store.specs.Files.{IsApart, IsCaptureRead, IsRefusal, IsUnprinted, Places, StoresAt, Texts}
 use Rattle.cli_args.specs.declared.steps.StepsWords.{StepsWords}
 use Rattle.cli_steps.specs.Playing.{is_traced}
 use Rattle.cli_steps.specs.Telling.{PrintsPlayed}
@@ -68,6 +68,10 @@ IsTextAt place text path whole = text (place path) ≡ Some whole
 abbrev pub AreTextsAt : Places → Texts → List (Bor (List ℕ)) → List (List ℕ) → Type 0
 AreTextsAt place text paths wholes = map (λ path. text (place path.now)) paths ≡ map Some wholes
 
+-- this was read of the captures at these paths, in order
+abbrev pub AreCapturesRead : Places → Texts → List (Bor (List ℕ)) → List (List ℕ) → Type 0
+AreCapturesRead place text paths captures = (wholes : List (List ℕ)) × AreTextsAt place text paths wholes × AllZip IsCaptureRead wholes captures
+
 -- No file that is read is the picture's, and standard output goes to none of these files.
 abbrev pub ArePathsApart : Places → Texts → Option (List ℕ) → StepsWords → Type 0
 ArePathsApart place text printed words =
@@ -93,9 +97,9 @@ IsUnread place text failed denied path (refusal.File unread error) = (unread.now
 IsUnread place text failed denied path other = ⊥
 
 -- why the capture at this path was not read
-abbrev pub IsWholeUnread : Places → Bool → Option (List ℕ) → List ℕ → StepsRefusal → Type 0
-IsWholeUnread place failed denied path (refusal.File unread error) = (unread.now ≡ path) × IsDenied place failed denied path error
-IsWholeUnread place failed denied path other = ⊥
+abbrev pub IsCaptureUnread : Places → Bool → Option (List ℕ) → List ℕ → StepsRefusal → Type 0
+IsCaptureUnread place failed denied path (refusal.File unread error) = (unread.now ≡ path) × IsDenied place failed denied path error
+IsCaptureUnread place failed denied path other = ⊥
 
 -- why a capture at one of these paths was not read
 abbrev pub AreUnread : Places → Bool → Option (List ℕ) → List (Bor (List ℕ)) → StepsRefusal → Type 0
@@ -129,12 +133,12 @@ IsReason place text printed failed denied words refusal.NoMemory = ⊤
 
 -- ---- What was read
 
--- What was read is what the files have: the texts of LISTENERS, SCRIPT and the INs, and the listeners and steps that these say. Of more
--- than 64 listeners the first 65 are kept, since a replay takes no more.
+-- What was read is what the files have: the texts of LISTENERS, SCRIPT and the INs, of an IN whose header is refused its first 24 bytes,
+-- and the listeners and steps that these say. Of more than 64 listeners the first 65 are kept, since a replay takes no more.
 pub record IsInput (place : Places) (text : Texts) (printed : Option (List ℕ)) (words : StepsWords) (input : StepsInput) : Type 0 where
   pub has_listeners : IsTextAt place text words.listeners.now input.listeners.items
   pub has_script : IsTextAt place text words.script.now input.script.items
-  pub has_captures : AreTextsAt place text words.inputs.items (map (λ c. c.items) input.captures.items)
+  pub has_captures : AreCapturesRead place text words.inputs.items (map (λ c. c.items) input.captures.items)
   pub of_listeners : AreFirstOf input.listeners.items input.plan.specs.items
   pub of_script : IsFileOf IsStepLine input.script.items input.plan.steps.items
   pub apart : ArePathsApart place text printed words

@@ -30,7 +30,7 @@ pub struct StepsInput {
     pub listeners: Vec<u8>,
     pub script: Vec<u8>,
     pub plan: StepsPlan,
-    /// The texts of the captures, in order.
+    /// What was read of the captures, in order: each whole, or the 24 bytes of a file header that is refused.
     pub captures: Vec<Vec<u8>>,
 }
 

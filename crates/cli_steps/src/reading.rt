@@ -1,9 +1,8 @@
 //! The files that `bpftap steps` reads.
 
-ghost use Rattle.std.specs.Prelude.{◌≡◌, ◌<◌, ◌≤◌, true, [], ◌∷◌, IfErr, IfOk, OnOk, length, map, option_copied};
-ghost use Rattle.cli_files.specs.declared.paths.Opening.TheVariants.{First};
-ghost use Rattle.cli_store.specs.Files.{HaveOwnPlaces, IsRefusal, Keeps};
-ghost use Rattle.cli_steps.specs.FromFiles.{AreTextsAt, AreUnread, ArePathsApart, ArePathsRefused, IsInput, IsReason, IsTextAt, IsUnread, IsWholeUnread, drawn_paths, read_paths};
+ghost use Rattle.std.specs.Prelude.{◌≡◌, ℕ, List, true, IfErr, IfOk, OnOk, map};
+ghost use Rattle.cli_store.specs.Files.{IsCaptureRead, Keeps};
+ghost use Rattle.cli_steps.specs.FromFiles.{AreCapturesRead, AreUnread, ArePathsApart, ArePathsRefused, IsInput, IsReason, IsTextAt, IsUnread, IsCaptureUnread, drawn_paths, read_paths};
 
 use crate::outcome::{StepsInput, StepsRefusal};
 use cli_args::steps::StepsWords;
@@ -32,34 +31,24 @@ fn read_text<'p, F: FileStore<'p>>(
     }
 }
 
-/// How many bytes a text in memory has: a number of 64 bits counts them.
-fn byte_count(text: &Vec<u8>) -> usize
-    ensures { length text.now.items < 18446744073709551615 }
-{
-    text.as_slice().len()
-}
-
-/// The whole text of a capture.
-fn read_whole<'p, F: FileStore<'p>>(
+/// A capture, or the 24 bytes of its file header if these are refused.
+fn read_capture<'p, F: FileStore<'p>>(
     files: &mut F,
     path: &'p str,
 ) -> Result<Vec<u8>, StepsRefusal<'p>>
     ensures kept { Keeps (F.place files.old) (F.place files.new) (F.text files.old) (F.text files.new) (F.pending files.old) (F.pending files.new) }
     ensures opened { F.opened files.new ≡ F.opened files.old }
     ensures printed { F.printed files.new ≡ F.printed files.old }
-    ensures text { F.known ≡ true → IfOk result (λ text. IsTextAt (F.place files.old) (F.text files.old) path.entry.now text.items) }
-    ensures refused { F.known ≡ true → IfErr result (IsWholeUnread (F.place files.old) (F.failed files.new) (F.denied files.new) path.entry.now) }
+    ensures text { F.known ≡ true → IfOk result (λ text. (whole : List ℕ) × IsTextAt (F.place files.old) (F.text files.old) path.entry.now whole × IsCaptureRead whole text.items) }
+    ensures refused { F.known ≡ true → IfErr result (IsCaptureUnread (F.place files.old) (F.failed files.new) (F.denied files.new) path.entry.now) }
 {
-    match files.read(path, usize::MAX) {
+    match files.read_capture(path) {
         Err(error) => Err(StepsRefusal::File(path, error)),
-        Ok(text) => {
-            byte_count(&text);
-            Ok(text)
-        }
+        Ok(text) => Ok(text),
     }
 }
 
-/// The texts of the captures, each whole, in order.
+/// What is read of the captures, in order.
 fn read_captures<'p, F: FileStore<'p>>(
     alloc: Global,
     files: &mut F,
@@ -67,12 +56,12 @@ fn read_captures<'p, F: FileStore<'p>>(
 ) -> Result<Vec<Vec<u8>>, StepsRefusal<'p>>
     ensures kept { Keeps (F.place files.old) (F.place files.new) (F.text files.old) (F.text files.new) (F.pending files.old) (F.pending files.new) }
     ensures opened { F.opened files.new ≡ F.opened files.old }
-    ensures texts { F.known ≡ true → IfOk result (λ texts. AreTextsAt (F.place files.old) (F.text files.old) paths.now (map (λ t. t.items) texts.items)) }
+    ensures texts { F.known ≡ true → IfOk result (λ texts. AreCapturesRead (F.place files.old) (F.text files.old) paths.now (map (λ t. t.items) texts.items)) }
     ensures refused { F.known ≡ true → IfErr result (AreUnread (F.place files.old) (F.failed files.new) (F.denied files.new) paths.now) }
 {
     let mut texts = Vec::new(alloc);
     for path in paths {
-        let text = read_whole(files, *path)?;
+        let text = read_capture(files, *path)?;
         if texts.push(text).is_err() {
             return Err(StepsRefusal::NoMemory);
         }
