@@ -11,3 +11,4 @@ pub mod Closings
 pub mod Openings
 pub mod Parting
 pub mod Silence
+pub mod Telling

@@ -4,13 +4,13 @@ ghost use Rattle.std.specs.Prelude.{◌≡◌, [], true, false, codes};
 ghost use Rattle.cli_text.specs.declared.status.Status.TheVariants.{Clean, Failed, Refused};
 ghost use Rattle.fault_report.specs.Reports.{TellsOne};
 ghost use Rattle.cli_filter.specs.Reports.{IsPlanReport};
-ghost use Rattle.cli_split.specs.Reporting.{IsRefusalReport, TellsOutcome, TellsStop};
+ghost use Rattle.cli_split.specs.Reporting.{IsRefusalReport, TellsEnded, TellsOutcome};
 ghost use Rattle.cli_split.specs.SplitFiles.{IsRefusalStatus, ReportsOutcome, SplitsFiles, form_of};
 ghost use Rattle.cli_split.specs.Statuses.{ReportsSplit};
 ghost use Rattle.cli_split.specs.declared.outcome.SplitOutcome.{SplitOutcome};
 
 use crate::files::split_files;
-use crate::hints::{counts_frames, hint_ended};
+use crate::hints::{counts_frames, hint_ended, names_return};
 use crate::outcome::{Refusal, SplitOutcome, SplitReport};
 use crate::plan::{MAX_LINES, SplitLine, fault_text};
 use crate::report::EndedSplit;
@@ -22,7 +22,7 @@ use cli_filter::plan::PlanFault;
 use cli_filter::plan_hints::hint_plan;
 use cli_report::HintSink;
 use cli_report::failures::hint_printed;
-use cli_report::files::{LINES, hint_returns};
+use cli_report::files::{LINES, hint_returns, name_returns};
 use cli_report::stream::give_hint;
 use cli_store::{DiskFiles, FileStore};
 use cli_text::Status;
@@ -50,7 +50,10 @@ pub struct Reported<'p> {
     pub status: Status,
     /// The text of LINES, if captures were split as it asks.
     pub text: Option<&'p [u8]>,
-    /// Whether captures were split by an expression: then the frames into which it does not look are reported.
+    /// Whether the name of an OUT ends in a carriage return.
+    pub names_return: bool,
+    /// Whether captures were split by an expression, and each OUT was written whole: then the frames
+    /// into which it does not look are reported.
     pub is_asked: bool,
 }
 
@@ -96,6 +99,7 @@ fn report_refused<'p, E: HintSink>(
     Reported {
         status: report_refusal(alloc, refusal, err),
         text: None,
+        names_return: false,
         is_asked: false,
     }
 }
@@ -120,7 +124,7 @@ fn report_ended<'p, O: PrintSink, E: HintSink>(
 ) -> Reported<'p>
     ensures prints { ReportsSplit form report.entry.lines.items report.entry.end (O.contents out.old) (O.contents out.new) result.status }
     ensures silent { result.status ≡ Clean → E.takes_hints err.old ≡ false → err.new ≡ err.old }
-    ensures told { TellsStop E.takes_hints E.failed E.contents E.fault_form words.now.inputs.items report.entry.end.end err.old err.new }
+    ensures told { TellsEnded E.takes_hints E.failed E.contents E.fault_form report.entry.lines.items words.now.inputs.items report.entry.end err.old err.new }
     ensures handed_on { O.waits out.old ≡ false → (result.status ≡ Failed → ⊥) → O.waits out.new ≡ false }
 {
     let SplitReport {
@@ -139,7 +143,8 @@ fn report_ended<'p, O: PrintSink, E: HintSink>(
     Reported {
         status,
         text: Some(text),
-        is_asked: counts_frames(lines.as_slice()),
+        names_return: names_return(split.lines),
+        is_asked: counts_frames(split.lines, &end),
     }
 }
 
@@ -194,10 +199,22 @@ fn split_on_disk<'w: 'p, 'p, R: Files + AllocGlobal + Screen, O: Write, E: HintS
     };
     let reported = split_and_report(alloc, &mut files, call, &mut out, err);
     hint_printed(out.get_ref(), err);
-    if reported.is_asked {
-        let _ = report_unseen(watch.frames(), reported.status, err);
+    if reported.is_asked && out.get_ref().failure().is_none() {
+        let _ = report_unseen(watch.frames(), Status::Clean, err);
     }
     Ok(reported)
+}
+
+/// Names the first line of LINES, of this text, that ends in a carriage return: if hints are wanted,
+/// or if that is part of the name of an OUT.
+fn report_returns<E: HintSink>(text: &[u8], names_return: bool, err: &mut E)
+    ensures quiet { names_return ≡ false → E.takes_hints err.old ≡ false → err.new ≡ err.old }
+{
+    if names_return {
+        name_returns("LINES", text, err);
+    } else {
+        hint_returns("LINES", text, err);
+    }
 }
 
 /// `bpftap split`: LINES is accepted and the paths are compared before a capture is opened.
@@ -211,7 +228,7 @@ pub fn split_command<R: Files + AllocGlobal + Screen, O: Write, E: HintSink>(
     match split_on_disk(rt, words, &mut text, out, err) {
         Ok(reported) => {
             if let Some(text) = reported.text {
-                hint_returns("LINES", text, err);
+                report_returns(text, reported.names_return, err);
             }
             reported.status
         }

@@ -48,7 +48,14 @@ pub fn hint_ended<E: HintSink>(
     }
 }
 
-/// Whether it is reported into how many frames the expressions of the lines do not look.
-pub(crate) fn counts_frames(lines: &[SplitLine<'_>]) -> bool {
-    lines.iter().any(|line| is_asked(line.expression))
+/// Whether it is reported into how many frames the expressions of the lines do not look: each OUT
+/// was written whole.
+pub(crate) fn counts_frames(lines: &[SplitLine<'_>], end: &ClosedEnd) -> bool {
+    end.parts.iter().all(|part| part.written.is_ok())
+        && lines.iter().any(|line| is_asked(line.expression))
+}
+
+/// Whether the name of an OUT ends in a carriage return.
+pub(crate) fn names_return(lines: &[SplitLine<'_>]) -> bool {
+    lines.iter().any(|line| line.output.ends_with('\r'))
 }

@@ -1,13 +1,11 @@
 //! What `bpftap split` prints of each OUT, what it reports, and its exit status.
 
-ghost use Rattle.std.specs.Prelude.{◌≡◌, All, Err, false, IsOk, OnOk, slice_get};
+ghost use Rattle.std.specs.Prelude.{◌≡◌, All, false, IsOk, OnOk, slice_get};
 ghost use Rattle.line_text.specs.Sending.{Takes};
 ghost use Rattle.line_text.specs.Texts.{numbered};
-ghost use Rattle.cli_text.specs.Telling.{fault_status, print_status_of};
+ghost use Rattle.cli_text.specs.Telling.{print_status_of};
 ghost use Rattle.cli_text.specs.declared.status.Status.TheVariants.{Clean, Failed};
-ghost use Rattle.fault_report.specs.Captures.{IsNthCaptureFault};
-ghost use Rattle.fault_report.specs.Reports.{TellsAmong, TellsMore};
-ghost use Rattle.cli_split.specs.Reporting.{IsStopReport, TellsStop};
+ghost use Rattle.cli_split.specs.Reporting.{TellsEnded, TellsFaults, TellsPart, TellsParts, TellsPrinted, TellsRead};
 ghost use Rattle.cli_split.specs.Printed.{line_text, output_of, part_line, printed_split};
 ghost use Rattle.cli_split.specs.Splitting.{passes_header};
 ghost use Rattle.cli_split.specs.Statuses.{ReportsSplit, WentWell, parts_status, split_status, stop_status, written_status};
@@ -16,8 +14,6 @@ use crate::line::put_count;
 use crate::part::PartEnd;
 use crate::plan::SplitLine;
 use crate::split::{SplitEnd, Stop};
-use cli_report::HintSink;
-use cli_report::failures::name_source;
 use cli_text::Status;
 use cli_text::report::fault_status;
 use cli_watch::output::PrintSink;
@@ -113,7 +109,7 @@ fn print_split<R, W, O: PrintSink>(
 fn report_part<W, E: FaultSink>(output: &str, part: &PartEnd<W>, err: &mut E) -> Status
     ensures status { result ≡ written_status part.now.written }
     ensures silent { IsOk part.now.written → err.new ≡ err.old }
-    ensures more { TellsMore E.takes_hints E.failed E.contents E.fault_form err.old err.new }
+    ensures told { TellsPart E.takes_hints E.failed E.contents E.fault_form output.now part.now.written err.old err.new }
 {
     match part.written {
         Ok(()) => Status::Clean,
@@ -129,7 +125,7 @@ fn report_parts<W, E: FaultSink>(
 ) -> Status
     ensures status { result ≡ parts_status parts.now }
     ensures silent { All (λ part. IsOk part.written) parts.now → err.new ≡ err.old }
-    ensures more { TellsMore E.takes_hints E.failed E.contents E.fault_form err.old err.new }
+    ensures told { TellsParts E.takes_hints E.failed E.contents E.fault_form lines.now 0 parts.now err.old err.new }
 {
     let mut status = Status::Clean;
     for (n, part) in parts.iter().enumerate() {
@@ -138,36 +134,17 @@ fn report_parts<W, E: FaultSink>(
     status
 }
 
-/// Reports the fault of the capture of this number, and of several captures which one. Returns the exit status.
-fn report_capture<E: HintSink>(number: usize, fault: Fault, paths: &[&str], err: &mut E) -> Status
-    ensures status { result ≡ fault_status fault }
-    ensures told { TellsAmong E.takes_hints E.failed E.contents E.fault_form (IsNthCaptureFault fault number paths.now) err.old err.new }
-{
-    let status = report_nth_capture(fault, number, paths, err);
-    let _ = name_source(paths, number, err);
-    status
-}
-
-/// Reports what ended the reading, and returns the exit status.
-fn report_stopped<E: HintSink>(stop: Stop, paths: &[&str], err: &mut E) -> Status
-    ensures status { result ≡ stop_status (Err stop) }
-    ensures told { TellsAmong E.takes_hints E.failed E.contents E.fault_form (IsStopReport paths.now stop) err.old err.new }
-{
-    match stop {
-        Stop::AtHeader(n, fault) => report_capture(n, fault, paths, err),
-        Stop::AtRecord(n, fault) => report_capture(n, fault, paths, err),
-    }
-}
-
 /// Reports what ended the reading, if something did, and returns the exit status.
-fn report_stop<E: HintSink>(end: Result<(), Stop>, paths: &[&str], err: &mut E) -> Status
+fn report_stop<E: FaultSink>(end: Result<(), Stop>, paths: &[&str], err: &mut E) -> Status
     ensures status { result ≡ stop_status end }
     ensures silent { IsOk end → err.new ≡ err.old }
-    ensures told { TellsStop E.takes_hints E.failed E.contents E.fault_form paths.now end err.old err.new }
+    ensures told { TellsRead E.takes_hints E.failed E.contents E.fault_form paths.now end err.old err.new }
 {
     match end {
         Ok(()) => Status::Clean,
-        Err(stop) => report_stopped(stop, paths, err),
+        Err(Stop::AtHeader(n, fault) | Stop::AtRecord(n, fault)) => {
+            report_nth_capture(fault, n, paths, err)
+        }
     }
 }
 
@@ -175,7 +152,7 @@ fn report_stop<E: HintSink>(end: Result<(), Stop>, paths: &[&str], err: &mut E) 
 fn report_printed<E: FaultSink>(printed: &io::Result<()>, err: &mut E) -> Status
     ensures status { result ≡ print_status_of printed.now }
     ensures silent { IsOk printed.now → err.new ≡ err.old }
-    ensures more { TellsMore E.takes_hints E.failed E.contents E.fault_form err.old err.new }
+    ensures told { TellsPrinted E.takes_hints E.failed E.contents E.fault_form printed.now err.old err.new }
 {
     match printed {
         Ok(()) => Status::Clean,
@@ -186,10 +163,10 @@ fn report_printed<E: FaultSink>(printed: &io::Result<()>, err: &mut E) -> Status
 impl<R, W> EndedSplit<'_, R, W> {
     /// Reports the OUT of each part that was not written whole, and what ended the reading, and returns the greatest of their statuses, as
     /// [`report`](EndedSplit::report) does.
-    pub fn report_faults<E: HintSink>(&self, err: &mut E) -> Status
+    pub fn report_faults<E: FaultSink>(&self, err: &mut E) -> Status
         ensures status { result ≡ split_status self.now.end.now }
         ensures silent { WentWell self.now.end.now → err.new ≡ err.old }
-        ensures told { TellsStop E.takes_hints E.failed E.contents E.fault_form self.now.captures.now self.now.end.now.end err.old err.new }
+        ensures told { TellsFaults E.takes_hints E.failed E.contents E.fault_form self.now.lines.now self.now.captures.now self.now.end.now err.old err.new }
     {
         let parts = report_parts(self.lines, self.end.parts.as_slice(), err);
         parts.max(report_stop(self.end.end, self.captures, err))
@@ -206,7 +183,7 @@ impl<R, W> EndedSplit<'_, R, W> {
     /// `out` took exactly these lines, or a prefix of them if it failed; then the status is [`Status::Failed`]. The status of a part is that of
     /// its fault, [`Status::Failed`] if its sink failed. So is that of a capture: [`Status::Failed`] if its source failed, and
     /// [`Status::Damaged`] for the fault of a record.
-    pub fn report<O: PrintSink, E: HintSink>(
+    pub fn report<O: PrintSink, E: FaultSink>(
         &self,
         form: NamingForm,
         line: &mut String,
@@ -215,7 +192,7 @@ impl<R, W> EndedSplit<'_, R, W> {
     ) -> Status
         ensures prints { ReportsSplit form self.now.lines.now self.now.end.now (O.contents out.old) (O.contents out.new) result }
         ensures silent { result ≡ Clean → err.new ≡ err.old }
-        ensures told { TellsStop E.takes_hints E.failed E.contents E.fault_form self.now.captures.now self.now.end.now.end err.old err.new }
+        ensures told { TellsEnded E.takes_hints E.failed E.contents E.fault_form self.now.lines.now self.now.captures.now self.now.end.now err.old err.new }
         ensures handed_on { O.waits out.old ≡ false → (result ≡ Failed → ⊥) → O.waits out.new ≡ false }
     {
         let printed = print_split(form, self.lines, self.end, line, out);

@@ -1,16 +1,13 @@
 use Rattle.std.proofs.Common.{ap, ◌∙◌}
 use Rattle.cli_text.specs.Status.{greater}
 use Rattle.cli_text.specs.Telling.{print_status_of}
-use Rattle.fault_report.proofs.Telling.{more-among}
-use Rattle.cli_split.specs.Reporting.{IsStopReport}
 use Rattle.cli_split.specs.Statuses.{split_status}
 use Rattle.cli_split.proofs.Printing.{printed-ok}
 use Rattle.cli_split.proofs.Silence.{all-well}
 use Rattle.cli_split.proofs.report.EndedSplit.report.Goals as goal
 
 pub returns-clause-told : goal.returns-clause-told
-returns-clause-told g c = λ stop is.
-    more-among g.E.FaultSink.takes_hints g.E.FaultSink.failed g.E.Write.contents g.E.FaultSink.fault_form (IsStopReport c.args.self.now.captures.now stop) c.args.err.now _ _ c.report_printed-status.ensures.more (c.report_faults.ensures.told stop is)
+returns-clause-told g c = (c.print_split-printed.result, c.report_printed-status.new.err, c.report_printed-status.ensures.told, c.report_faults.ensures.told)
 
 pub returns-clause-handed_on : goal.returns-clause-handed_on
 returns-clause-handed_on g c = λ none not_failed.
