@@ -14,7 +14,7 @@ mod printer;
 use bpfvm::Program;
 use cli_cut::report::report_print;
 pub use cli_cut::report::tell;
-use cli_filter::report::report_filter;
+use cli_filter::report_filter;
 pub use cli_steps::steps::steps;
 use fault_report::TextSink;
 pub use pcap_cut::cut::{CutEnd, End, Tally};
@@ -22,6 +22,7 @@ use printer::Printer;
 use savefile::{Fault, Header, Order, Sink, Source, Unit};
 use std::alloc::Global;
 use std::io::Write;
+use std::sync::Wait;
 use std::thread::Threads;
 
 /// Writes the packets of a capture that a program accepts, each cut, as a capture of its own, in this byte order and unit of time. The
@@ -56,7 +57,7 @@ pub fn filter<E: Write>(
     ensures refused { IfErr result (IsRefusedFilter (option_copied listing.entry) (option_copied expr.entry) snap) }
     ensures silent { IfOk result (λ _. err.new ≡ err.old) }
 {
-    match cli_filter::program::filter(alloc, listing, expr, snap) {
+    match cli_filter::filter(alloc, listing, expr, snap) {
         Ok(program) => Ok(program),
         Err(fault) => Err(report_filter(fault, &mut TextSink(err)).code()),
     }
