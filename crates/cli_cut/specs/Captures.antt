@@ -91,21 +91,28 @@ IsStatusOfAll (Ok end) ended = ended ≡ split_status end
 IsStatusOfAll (Err reason) ended = IsRefusalStatus reason ended
 
 -- of an OUT that was written whole
-abbrev pub written_told : LineForm → Tally → Result (Unit {0}) Fault → List ℕ
-written_told form tally (Ok done) = tally_line form tally
-written_told form tally (Err fault) = []
+abbrev pub written_tally : Tally → Result (Unit {0}) Fault → Option Tally
+written_tally tally (Ok done) = Some tally
+written_tally tally (Err fault) = None
 
-abbrev pub part_told : {W : Type 0} → LineForm → PartEnd W → List ℕ
-part_told form part = written_told form part.tally part.written
+abbrev pub part_tally : {W : Type 0} → PartEnd W → Option Tally
+part_tally part = written_tally part.tally part.written
 
 -- of the OUT, where there is one
-abbrev pub first_told : {W : Type 0} → LineForm → Option (PartEnd W) → List ℕ
-first_told form None = []
-first_told form (Some part) = part_told form part
+abbrev pub first_tally : {W : Type 0} → Option (PartEnd W) → Option Tally
+first_tally None = None
+first_tally (Some part) = part_tally part
 
 -- where the header of the first capture was read
+abbrev pub total_tally : {R W : Type 0} → SplitEnd R W → Option Tally
+total_tally end = if passes_header end.end then first_tally (slice_get end.parts.items 0) else None
+
+abbrev pub tally_told : LineForm → Option Tally → List ℕ
+tally_told form None = []
+tally_told form (Some tally) = tally_line form tally
+
 abbrev pub total_told : {R W : Type 0} → LineForm → SplitEnd R W → List ℕ
-total_told form end = if passes_header end.end then first_told form (slice_get end.parts.items 0) else []
+total_told form end = tally_told form (total_tally end)
 
 -- ---- The command
 

@@ -1,5 +1,5 @@
 -- What `bpftap cut` and `bpftap check` report on standard error.
-use Rattle.std.specs.Prelude.{◌≡◌, ◌≢◌, ◌⊎◌, ℕ, Bool, true, false, if◌then◌else◌, List, Option, Some, None, Result, Ok, Err}
+use Rattle.std.specs.Prelude.{◌≡◌, ◌≢◌, ◌⊎◌, ℕ, Bool, true, false, if◌then◌else◌, List, [], ◌∷◌, Option, Some, None, Result, Ok, Err}
 use Rattle.std.specs.Borrow.{Bor}
 use Rattle.std.specs.IoError.{error_kind}
 use Rattle.std.specs.declared.io.Error.{Error}
@@ -17,8 +17,9 @@ use Rattle.cli_files.specs.Reading.{IsFileReport, IsLongTextReport}
 use Rattle.cli_filter.specs.Reports.{IsExpressionReport, IsFilterReport}
 use Rattle.cli_args.specs.declared.cut.CutWords.{CutWords}
 use Rattle.cli_store.specs.Files.{Places}
-use Rattle.cli_split.specs.Reporting.{TellsStop}
+use Rattle.cli_split.specs.Reporting.{TellsFaults}
 use Rattle.cli_split.specs.Statuses.{WentWell, split_status}
+use Rattle.cli_split.specs.declared.plan.SplitLine.{SplitLine}
 use Rattle.pcap_cut.specs.declared.cut.End.{End}
 use Rattle.pcap_cut.specs.declared.cut.End.TheVariants.{Clean, Input, Output}
 use Rattle.pcap_cut.specs.declared.cut.Tally.{Tally}
@@ -85,9 +86,11 @@ module _ {E : Type 0} (hints failed : E → Bool) (contents : E → Option (List
 
   -- ---- Several captures
 
-  -- What ended the reading was reported, and nothing if all went well; and then the count of the packets, if it was asked for.
+  -- That OUT was not written whole was reported, and then what ended the reading, as of a split by a line with this OUT; nothing if all went well.
+  -- Then the count of the packets was, if it was asked for; and nothing more.
   abbrev pub TellsCut : CutWords → Closed → E → E → Type 0
-  TellsCut words end old new = (mid : E) × (WentWell end → TellsNothing old mid) × TellsStop hints failed contents form words.inputs.items end.end old mid
+  TellsCut words end old new = (mid : E) × (WentWell end → TellsNothing old mid)
+      × ((line : SplitLine) × (line.output.now ≡ words.output.now) × TellsFaults hints failed contents form (line ∷ []) words.inputs.items end old mid)
       × TellsAsked words.counted (total_told (form_of words) end) mid new
 
   -- Of a refusal exactly its reason was reported, and of a cut how it ended, unless the status is Failed.

@@ -8,7 +8,7 @@ ghost use Rattle.cli_split.specs.Statuses.{split_status, written_status};
 ghost use Rattle.cli_text.specs.declared.status.Status.TheVariants.{Failed};
 ghost use Rattle.fault_report.specs.Reports.{Tells};
 ghost use Rattle.cli_store.specs.Files.{Keeps};
-ghost use Rattle.cli_cut.specs.Captures.{CutsAll, CutsPackets, HasSpace, IsUnopened, first_told, listing_path, part_told, total_told};
+ghost use Rattle.cli_cut.specs.Captures.{CutsAll, CutsPackets, HasSpace, IsUnopened, listing_path, part_tally, total_tally, total_told};
 ghost use Rattle.cli_cut.specs.Cutting.{IsUncompared, IsUnmade, SparesListing};
 ghost use Rattle.cli_cut.specs.Reporting.{TellsCut};
 
@@ -31,6 +31,7 @@ use cli_split::split::{Room, SplitEnd};
 use cli_store::FileStore;
 use cli_text::Status;
 use line_text::LineForm;
+use pcap_cut::cut::Tally;
 use savefile::Fault;
 use savefile::laws::packets_take_room;
 use std::alloc::{AllocError, Global};
@@ -167,15 +168,27 @@ pub fn cut_several<'p, F: FileStore<'p>>(
     }
 }
 
-/// Reports how many of the packets were written, if OUT was written whole.
-#[tactic(auto, using(crate::proofs::Telling::nothing_told))]
-fn report_part<W, E: HintSink>(part: &PartEnd<W>, form: LineForm, err: &mut E) -> io::Result<()>
-    ensures taken { Takes (E.contents err.old) (E.contents err.new) result (part_told form part.now) }
-    ensures told { Tells E.takes_hints E.failed E.contents E.fault_form err.old err.new (part_told form part.now) }
+/// How many of the packets were written, if OUT was written whole.
+fn part_tally<W>(part: &PartEnd<W>) -> Option<Tally>
+    ensures { result ≡ part_tally part.now }
 {
     match part.written {
-        Ok(()) => report_tally(part.tally, form, err),
-        Err(_) => Ok(()),
+        Ok(()) => Some(part.tally),
+        Err(_) => None,
+    }
+}
+
+/// How many of the packets of all captures were written, if the header of the first capture was
+/// read and OUT was written whole. Packets count up to the fault that ended the reading.
+pub(crate) fn total_tally<R, W>(end: &SplitEnd<R, W>) -> Option<Tally>
+    ensures { result ≡ total_tally end.now }
+{
+    if !was_begun(end.end) {
+        return None;
+    }
+    match end.parts.get(0) {
+        Some(part) => part_tally(part),
+        None => None,
     }
 }
 
@@ -192,11 +205,8 @@ pub fn report_total<R, W, E: HintSink>(
     ensures taken { Takes (E.contents err.old) (E.contents err.new) result (total_told form end.now) }
     ensures told { Tells E.takes_hints E.failed E.contents E.fault_form err.old err.new (total_told form end.now) }
 {
-    if !was_begun(end.end) {
-        return Ok(());
-    }
-    match end.parts.get(0) {
-        Some(part) => report_part(part, form, err),
+    match total_tally(end) {
+        Some(tally) => report_tally(tally, form, err),
         None => Ok(()),
     }
 }

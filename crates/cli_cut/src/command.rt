@@ -11,12 +11,12 @@ ghost use Rattle.cli_cut.specs.Telling.{status_of};
 ghost use Rattle.cli_cut.specs.declared.outcome.CutOutcome.{CutOutcome};
 ghost use Rattle.cli_cut.specs.declared.outcome.Refusal.{Refusal};
 
-use crate::captures::{cut_several, is_unread, report_captures};
+use crate::captures::{cut_several, is_unread, report_captures, total_tally};
 use crate::checking::check_files;
 use crate::hints::{counts_frames, hint_cut, hint_print, hint_replaced, replaced_size};
 use crate::one::cut_one;
-use crate::outcome::{CutOutcome, CutReport};
-use crate::report::{report_count, report_end, report_print, report_refusal};
+use crate::outcome::{CutOutcome, CutReport, Reported};
+use crate::report::{is_counted, report_count, report_end, report_print, report_refusal};
 use cli_args::check::CheckWords;
 use cli_args::cut::CutWords;
 use cli_report::HintSink;
@@ -56,19 +56,28 @@ pub fn cut_and_report<'p, F: FileStore<'p>, E: HintSink>(
     words: &CutWords<'p>,
     path: &'p str,
     err: &mut E,
-) -> Status
+) -> Reported
     requires none_open { F.opened files.old ≡ [] }
     ensures cuts { F.known ≡ true → (outcome : CutOutcome) × CutsFiles (F.place files.old) (F.text files.old) (F.text files.new) (F.failed files.new) (F.denied files.new) words.now path.entry outcome
-        × IsStatusOf outcome result × TellsOutcome E.takes_hints E.failed E.contents E.fault_form (F.place files.new) (F.printed files.new) path.entry words.now outcome err.old err.new }
+        × IsStatusOf outcome result.status × TellsOutcome E.takes_hints E.failed E.contents E.fault_form (F.place files.new) (F.printed files.new) path.entry words.now outcome err.old err.new }
     ensures closed { F.known ≡ true → F.pending files.new ≡ F.pending files.old }
 {
     match cut_one(alloc, files, words, path) {
-        CutOutcome::Refused(refusal) => report_refusal(alloc, &refusal, words.expr, err),
+        CutOutcome::Refused(refusal) => Reported {
+            status: report_refusal(alloc, &refusal, words.expr, err),
+            is_counted: false,
+        },
         CutOutcome::Ended(report) => {
             if report.is_unread() && files.is_standard_output(words.output) {
-                return Status::Failed;
+                return Reported {
+                    status: Status::Failed,
+                    is_counted: false,
+                };
             }
-            report_cut(&report, words, path, err)
+            Reported {
+                status: report_cut(&report, words, path, err),
+                is_counted: is_counted(report.end),
+            }
         }
     }
 }
@@ -79,19 +88,28 @@ pub fn cut_several_and_report<'p, F: FileStore<'p>, E: HintSink>(
     files: &mut F,
     words: &CutWords<'p>,
     err: &mut E,
-) -> Status
+) -> Reported
     requires none_open { F.opened files.old ≡ [] }
     ensures cuts { F.known ≡ true → (outcome : Result Closed Refusal) × CutsAll (F.place files.old) (F.text files.old) (F.text files.new) (F.failed files.new) (F.denied files.new) words.now outcome
-        × IsStatusOfAll outcome result × TellsClosed E.takes_hints E.failed E.contents E.fault_form words.now outcome err.old err.new }
+        × IsStatusOfAll outcome result.status × TellsClosed E.takes_hints E.failed E.contents E.fault_form words.now outcome err.old err.new }
     ensures closed { F.known ≡ true → F.pending files.new ≡ F.pending files.old }
 {
     match cut_several(alloc, files, words) {
-        Err(refusal) => report_refusal(alloc, &refusal, words.expr, err),
+        Err(refusal) => Reported {
+            status: report_refusal(alloc, &refusal, words.expr, err),
+            is_counted: false,
+        },
         Ok(end) => {
             if is_unread(&end) && files.is_standard_output(words.output) {
-                return Status::Failed;
+                return Reported {
+                    status: Status::Failed,
+                    is_counted: false,
+                };
             }
-            report_captures(&end, words, err)
+            Reported {
+                status: report_captures(&end, words, err),
+                is_counted: total_tally(&end).is_some(),
+            }
         }
     }
 }
@@ -102,13 +120,13 @@ pub fn cut_inputs_and_report<'p, F: FileStore<'p>, E: HintSink>(
     files: &mut F,
     words: &CutWords<'p>,
     err: &mut E,
-) -> Status
+) -> Reported
     requires none_open { F.opened files.old ≡ [] }
     ensures cuts { F.known ≡ true → ByInputs words.now.inputs.items
         (λ path. (outcome : CutOutcome) × CutsFiles (F.place files.old) (F.text files.old) (F.text files.new) (F.failed files.new) (F.denied files.new) words.now path outcome
-        × IsStatusOf outcome result × TellsOutcome E.takes_hints E.failed E.contents E.fault_form (F.place files.new) (F.printed files.new) path words.now outcome err.old err.new)
+        × IsStatusOf outcome result.status × TellsOutcome E.takes_hints E.failed E.contents E.fault_form (F.place files.new) (F.printed files.new) path words.now outcome err.old err.new)
         ((outcome : Result Closed Refusal) × CutsAll (F.place files.old) (F.text files.old) (F.text files.new) (F.failed files.new) (F.denied files.new) words.now outcome
-        × IsStatusOfAll outcome result × TellsClosed E.takes_hints E.failed E.contents E.fault_form words.now outcome err.old err.new) }
+        × IsStatusOfAll outcome result.status × TellsClosed E.takes_hints E.failed E.contents E.fault_form words.now outcome err.old err.new) }
     ensures closed { F.known ≡ true → F.pending files.new ≡ F.pending files.old }
 {
     match words.inputs.as_slice() {
@@ -129,12 +147,12 @@ pub fn cut_command<R: Files + AllocGlobal + Screen, E: HintSink>(
     let watch = Watch::new(rt, words.inputs.as_slice(), takes_hints).counting(is_counting);
     let replaced = replaced_size(rt, words.output, err);
     let mut files = DiskFiles::new(rt, &watch);
-    let status = cut_inputs_and_report(rt.alloc(), &mut files, words, err);
-    if is_counting {
-        let _ = report_unseen(watch.frames(), status, err);
+    let reported = cut_inputs_and_report(rt.alloc(), &mut files, words, err);
+    if is_counting && reported.is_counted {
+        let _ = report_unseen(watch.frames(), Status::Clean, err);
     }
-    hint_replaced(replaced, words.output, status, err);
-    status
+    hint_replaced(replaced, words.output, reported.status, err);
+    reported.status
 }
 
 /// Prints the program of an expression or of a listing's file, or the expression as it was read, and

@@ -9,6 +9,7 @@ use cli_files::paths::PathFault;
 use cli_filter::FilterFault;
 use cli_report::FailureProbe;
 use cli_report::probe::{ProbedInput, ProbedOutput};
+use cli_text::Status;
 use pcap_cut::cut::{CutEnd, End, Tally};
 use savefile::Fault;
 use std::io;
@@ -66,6 +67,15 @@ impl CutReport {
             _ => false,
         }
     }
+}
+
+/// A call of `bpftap cut` that was reported.
+#[derive(Clone, Copy, Debug, PartialEq, Eq)]
+pub struct Reported {
+    pub status: Status,
+    /// Whether what OUT has is known by packets, as `-c` counts them: the captures were read to
+    /// their ends or up to a fault, and all was written.
+    pub is_counted: bool,
 }
 
 /// What a call of `bpftap cut` came to.

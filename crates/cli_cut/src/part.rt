@@ -6,7 +6,7 @@ ghost use Rattle.cli_cut.specs.Parts.{IsCutAndEmptied, IsEmptied, PrintsPart};
 ghost use Rattle.cli_cut.specs.Telling.{status_of};
 
 use crate::command::report_cut;
-use crate::hints::{hint_replaced, replaced_size};
+use crate::hints::{counts_frames, hint_replaced, replaced_size};
 use crate::outcome::CutReport;
 use crate::paths::late_output;
 use crate::plan::read_filter;
@@ -22,9 +22,11 @@ use cli_report::HintSink;
 use cli_report::stream::give_hint;
 use cli_store::disk::is_standard_output;
 use cli_text::Status;
+use cli_watch::hints::report_unseen;
 use cli_watch::output::PrintSink;
 use cli_watch::{Screen, Watch};
-use line_text::LineForm;
+use fault_report::reporting::report_memory;
+use line_text::{LineForm, NamingForm};
 use pcap_cut::cut::{CutEnd, End, cut};
 use pcap_parts::part::PartCut;
 use savefile::{Counted, Fault, Header, Source};
@@ -40,11 +42,12 @@ pub struct Job<I, O> {
     pub output: O,
 }
 
-/// What a cut of a part needs: the range, how many bytes the whole capture has, and what a cut
-/// needs.
-pub struct PartJob<I, O> {
+/// What a cut of a part needs: the range, how many bytes the whole capture has, OUT as the line of
+/// the part names it, and what a cut needs.
+pub struct PartJob<'n, I, O> {
     pub bytes: ByteRange,
     pub size: u64,
+    pub name: &'n str,
     pub job: Job<I, O>,
 }
 
@@ -85,16 +88,21 @@ fn cut_job<R: Source + Drop, W: PrintSink + Drop>(
 pub fn cut_and_print<R: Source + Drop, W: PrintSink + Drop, O: Write>(
     alloc: Global,
     words: &CutWords<'_>,
-    part: PartJob<R, Counted<W>>,
+    part: PartJob<'_, R, Counted<W>>,
     out: &mut O,
 ) -> (CutEnd<R, Counted<W>>, io::Result<()>)
-    ensures cut { IsCutAndEmptied R.left (λ sink. W.contents sink.inner) (λ sink. W.waits sink.inner) part.job.input part.job.output part.job.program words.now.snap words.now.order words.now.«unit» result.0 }
-    ensures line { PrintsPart part.bytes part.size words.now.output.now result.0 (O.contents out.old) (O.contents out.new) result.1 }
+    ensures cut { IsCutAndEmptied R.left (λ sink. W.contents sink.inner) (λ sink. W.waits sink.inner) part.entry.job.input part.entry.job.output part.entry.job.program words.now.snap words.now.order words.now.«unit» result.0 }
+    ensures line { PrintsPart part.entry.bytes part.entry.size part.entry.name.now result.0 (O.contents out.old) (O.contents out.new) result.1 }
     ensures none { (IsCounted result.0.end → ⊥) → out.new ≡ out.old }
 {
-    let PartJob { bytes, size, job } = part;
+    let PartJob {
+        bytes,
+        size,
+        name,
+        job,
+    } = part;
     let end = cut_job(alloc, words, job);
-    let printed = match PartCut::of(bytes.first, bytes.end, size, words.output, &end) {
+    let printed = match PartCut::of(bytes.first, bytes.end, size, name, &end) {
         Some(part) => print_part(alloc, &part, out),
         None => Ok(()),
     };
@@ -140,7 +148,27 @@ fn report_part<F: Files, E: HintSink>(
     }
 }
 
-/// Accepts the filter, compares the paths, and opens the part, in this order; then cuts it.
+/// OUT as the line of its part names it: on a terminal with `?` in place of each hidden character;
+/// or reports that memory ran out.
+fn printed_name<R: AllocGlobal + Screen, E: HintSink>(
+    rt: &R,
+    output: &str,
+    err: &mut E,
+) -> Result<String, Status> {
+    let form = NamingForm {
+        form: LineForm::Text,
+        is_terminal: rt.is_output_terminal(),
+    };
+    let mut name = String::new(rt.alloc());
+    match write!(name, "{}", form.named(output)) {
+        Ok(()) => Ok(name),
+        Err(_) => Err(report_memory(err)),
+    }
+}
+
+/// Accepts the filter, compares the paths, and opens the part, in this order; then cuts it. Into how
+/// many frames the expression does not look is reported last, if OUT was written whole and the line
+/// was printed.
 fn cut_part<'r, R: Files + AllocGlobal + Screen, O: Write, E: HintSink>(
     rt: &'r R,
     words: &CutWords<'_>,
@@ -151,22 +179,33 @@ fn cut_part<'r, R: Files + AllocGlobal + Screen, O: Write, E: HintSink>(
     let Some(path) = words.inputs.first().copied() else {
         return Err(Status::Refused);
     };
-    let watch = Watch::new(rt, &[], err.takes_hints());
+    let is_counting = counts_frames(words, err.takes_hints());
+    let watch = Watch::new(rt, &[], err.takes_hints()).counting(is_counting);
     let program = read_filter(rt, words, &watch, err)?;
     let read = [words.listing.unwrap_or(path), path];
     let printed = Some(STANDARD_OUTPUT);
     refuse_shared_files(rt, Opening::First, printed, &read, &[words.output], err)?;
+    let name = printed_name(rt, words.output, err)?;
     let OpenPart { input, size } = open_part(rt, path, bytes, &watch, err)?;
     let output = late_output(rt, words.output, err)?;
-    let job = Job {
-        program,
-        input,
-        output,
+    let part = PartJob {
+        bytes,
+        size,
+        name: name.as_str(),
+        job: Job {
+            program,
+            input,
+            output,
+        },
     };
-    let (end, printed) = cut_and_print(rt.alloc(), words, PartJob { bytes, size, job }, out);
+    let (end, printed) = cut_and_print(rt.alloc(), words, part, out);
     let printed = report_printed(&printed, err);
     let from = (path, bytes.end < size);
-    Ok(report_part(rt, &CutReport::of(end), words, from, err).max(printed))
+    let status = report_part(rt, &CutReport::of(end), words, from, err).max(printed);
+    if is_counting {
+        let _ = report_unseen(watch.frames(), status, err);
+    }
+    Ok(status)
 }
 
 /// `bpftap cut --bytes`: the filter is accepted, and the paths are compared, before IN is opened,

@@ -69,7 +69,7 @@ pub(crate) fn report_refusal<E: HintSink>(
 
 /// Whether what OUT has is known by packets: the capture was read to its end or to a torn or bad
 /// record, and all was written.
-fn is_counted(end: End) -> bool
+pub(crate) fn is_counted(end: End) -> bool
     ensures { result ≡ is_counted end }
 {
     match end {
