@@ -2,24 +2,28 @@
 //! the toolchain lets nobody call a program's crate.
 #![tactic(auto)]
 
-ghost use Rattle.std.specs.Prelude.{◌≡◌, ◌≢◌, ◌↔◌, IfErr, IfOk, option_copied};
+ghost use Rattle.std.specs.Prelude.{◌≡◌, ◌≢◌, ◌↔◌, IfErr, IfOk, OnOk, option_copied};
+ghost use Rattle.std.specs.Io.KnownBytes.{Appends};
+ghost use Rattle.bpfvm.specs.Listing.{listing_of};
+ghost use Rattle.cli_cut.specs.Printing.{IsPart, IsUnchecked, IsUnshown, Prints};
+ghost use Rattle.cli_cut.specs.declared.print.ProgramForm.TheVariants.{Listing};
 ghost use Rattle.cli_filter.specs.Filter.{IsFilter};
 ghost use Rattle.cli_run.specs.Running.{RunsTo};
 ghost use Rattle.line_text.specs.Sending.{streams};
 ghost use Rattle.pcap_cut.specs.Outcome.{Cuts};
 ghost use Rattle.bpftap_calls.specs.Calls.{Checks, IsRefusedFilter};
 
-mod printer;
-
-use bpfvm::Program;
+use bpfvm::{Program, write_listing};
+use cli_cut::print::PrintFault;
 use cli_cut::report::report_print;
 pub use cli_cut::report::tell;
 use cli_filter::report_filter;
 pub use cli_steps::steps::steps;
 use fault_report::TextSink;
+use filtergen::compile_text;
+use line_text::sending::send;
 pub use pcap_cut::cut::{CutEnd, End, Tally};
-use printer::Printer;
-use savefile::{Fault, Header, Order, Sink, Source, Unit};
+use savefile::{Fault, Header, MAX_SNAP, Order, Sink, Source, Unit};
 use std::alloc::Global;
 use std::io::Write;
 use std::sync::Wait;
@@ -63,13 +67,46 @@ pub fn filter<E: Write>(
     }
 }
 
-/// Prints the listing of an expression's program at the largest snapshot length, 262,144. The exit status is 0; 1 if the expression has no
-/// program, or without memory, and nothing is printed; 3 if `out` fails, which then took a beginning of the listing. A fault is reported
-/// in a line.
+/// Sends a text, and hands on what was gathered of it. If that fails, a beginning of the text was taken.
+fn print<O: Write>(text: &[u8], out: &mut O) -> Result<(), PrintFault>
+    ensures printed { OnOk result (Appends (O.contents out.old) (O.contents out.new) text.now) }
+    ensures fault { IfErr result (IsPart (O.contents out.old) (O.contents out.new) text.now) }
+{
+    match send(text, out) {
+        Ok(()) => out.flush().map_err(PrintFault::Output),
+        Err(error) => Err(PrintFault::Output(error)),
+    }
+}
+
+/// Prints the listing of a program.
+fn print_listing<O: Write>(alloc: Global, program: &Program, out: &mut O) -> Result<(), PrintFault>
+    ensures printed { OnOk result (Appends (O.contents out.old) (O.contents out.new) (listing_of program.now)) }
+    ensures fault { IfErr result (IsUnshown (O.contents out.old) (O.contents out.new) Listing program.now) }
+{
+    match write_listing(alloc, program) {
+        Ok(listing) => print(listing.as_slice(), out),
+        Err(_) => Err(PrintFault::NoMemory),
+    }
+}
+
+/// Prints the listing of an expression's program, if it has one.
+fn print_program<O: Write>(alloc: Global, expr: &str, out: &mut O) -> Result<(), PrintFault>
+    ensures printed { OnOk result (Prints (O.contents out.old) (O.contents out.new) expr.now) }
+    ensures fault { IfErr result (IsUnchecked (O.contents out.old) (O.contents out.new) expr.now) }
+{
+    match compile_text(alloc, expr, MAX_SNAP) {
+        Ok(program) => print_listing(alloc, &program, out),
+        Err(fault) => Err(PrintFault::Expression(fault)),
+    }
+}
+
+/// Prints the listing of an expression's program at the largest snapshot length, 262,144 bytes. The exit status is 0; 1 if the expression
+/// has no program, or without memory, and nothing is printed; 3 if `out` fails, which then took a beginning of the listing. A fault is
+/// reported in a line.
 pub fn check<O: Write, E: Write>(alloc: Global, expr: &str, out: &mut O, err: &mut E) -> u8
     ensures { Checks (O.contents out.old) (O.contents out.new) expr.now result }
 {
-    let printed = cli_cut::print::check(alloc, expr, &mut Printer(out));
+    let printed = print_program(alloc, expr, out);
     report_print(&printed, &mut TextSink(err)).code()
 }
 
