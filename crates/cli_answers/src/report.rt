@@ -15,7 +15,6 @@ use cli_files::paths::report_path;
 use cli_files::reading::{report_io, report_long_text};
 use cli_filter::report_no_filter;
 use cli_report::HintSink;
-use cli_report::failures::name_source;
 use cli_text::Status;
 use cli_text::report::fault_status;
 use cli_walk::Stop;
@@ -63,28 +62,24 @@ fn fault_of<'a>(paths: &[&'a str], number: usize, fault: Fault) -> Report<'a>
 }
 
 /// Reports the fault of the capture of this number, of those at these paths: a failed device by its
-/// path; any other fault by its name, after the capture's number if there are several captures, and
-/// then its path below that. It answers the exit status.
-pub fn report_capture<E: HintSink>(
+/// path; any other fault by its name, after the capture's number if there are several captures. It
+/// answers the exit status.
+pub fn report_capture<E: FaultSink>(
     paths: &[&str],
     number: usize,
     fault: Fault,
     err: &mut E,
 ) -> Status
     ensures status { result ≡ fault_status fault }
-    ensures told { TellsAmong E.takes_hints E.failed E.contents E.fault_form (IsFaultReport paths.now number fault (slice_get paths.now number)) err.old err.new }
+    ensures told { TellsOne E.takes_hints E.failed E.contents E.fault_form (IsFaultReport paths.now number fault (slice_get paths.now number)) err.old err.new }
 {
-    let status = report_fault(&fault_of(paths, number, fault), fault_status(fault), err);
-    if fault != Fault::Device {
-        let _ = name_source(paths, number, err);
-    }
-    status
+    report_fault(&fault_of(paths, number, fault), fault_status(fault), err)
 }
 
 /// Reports the capture that ended the reading, if one did, and answers the exit status.
-fn report_stop<E: HintSink>(read: Result<(), Stop>, paths: &[&str], err: &mut E) -> Status
+fn report_stop<E: FaultSink>(read: Result<(), Stop>, paths: &[&str], err: &mut E) -> Status
     ensures status { result ≡ stop_status read }
-    ensures told { TellsStop (λ says. TellsAmong E.takes_hints E.failed E.contents E.fault_form says err.old err.new) paths.now read }
+    ensures told { TellsStop (λ says. TellsOne E.takes_hints E.failed E.contents E.fault_form says err.old err.new) paths.now read }
     ensures more { TellsMore E.takes_hints E.failed E.contents E.fault_form err.old err.new }
 {
     match read {
@@ -105,8 +100,8 @@ pub fn report_end<C, E: HintSink>(end: &LinesEnd<C>, paths: &[&str], err: &mut E
     status
 }
 
-/// [`report_end`] of the lines of captures. If frames were counted, it reports below that into how
-/// many of them no filter looks.
+/// [`report_end`] of the lines of captures. If frames were counted and all was printed, it reports
+/// below that into how many of them no filter looks, whatever capture ended the reading.
 pub fn report_lines<C, E: HintSink>(
     end: &LinesEnd<C>,
     frames: Option<FrameCounts>,
@@ -117,15 +112,15 @@ pub fn report_lines<C, E: HintSink>(
     ensures told { TellsEnd (λ says. TellsAmong E.takes_hints E.failed E.contents E.fault_form says err.old err.new) paths.now end.now.printed end.now.read }
 {
     let status = report_end(end, paths, err);
-    if let Some(frames) = frames {
-        let _ = report_unseen(frames, status, err);
+    if let (Some(frames), Ok(())) = (frames, &end.printed) {
+        let _ = report_unseen(frames, Status::Clean, err);
     }
     status
 }
 
 /// Reports the capture that ended the looking for a packet, if one did, and answers the exit
 /// status: the one where a packet was found, or the one where none was.
-fn report_found<E: HintSink>(
+fn report_found<E: FaultSink>(
     sought: Result<bool, Stop>,
     found: Status,
     none: Status,
@@ -133,7 +128,7 @@ fn report_found<E: HintSink>(
     err: &mut E,
 ) -> Status
     ensures status { result ≡ sought_status found none sought }
-    ensures told { TellsStop (λ says. TellsAmong E.takes_hints E.failed E.contents E.fault_form says err.old err.new) paths.now sought }
+    ensures told { TellsStop (λ says. TellsOne E.takes_hints E.failed E.contents E.fault_form says err.old err.new) paths.now sought }
 {
     match sought {
         Ok(true) => found,
@@ -153,7 +148,7 @@ pub fn report_sought<E: HintSink>(
     err: &mut E,
 ) -> Status
     ensures status { result ≡ sought_status found none end.now.found }
-    ensures told { TellsStop (λ says. TellsAmong E.takes_hints E.failed E.contents E.fault_form says err.old err.new) paths.now end.now.found }
+    ensures told { TellsStop (λ says. TellsOne E.takes_hints E.failed E.contents E.fault_form says err.old err.new) paths.now end.now.found }
 {
     let status = report_found(end.found, found, none, paths, err);
     hint_ended(paths, read_of(end.found), &end.noted, err);

@@ -11,5 +11,6 @@ returns-clause-told g c =
           (among-more g.E.FaultSink.takes_hints g.E.FaultSink.failed g.E.Write.contents g.E.FaultSink.fault_form (IsUnprintedReport why) c.args.err.now first.new.err second.new.err
           (one-among g.E.FaultSink.takes_hints g.E.FaultSink.failed g.E.Write.contents g.E.FaultSink.fault_form (IsUnprintedReport why) c.args.err.now first.new.err (first.ensures.told why is told)) second.ensures.more) c.hint_ended.ensures.quiet),
       (λ stop is. among-quiet g.E.FaultSink.takes_hints g.E.FaultSink.failed g.E.Write.contents g.E.FaultSink.fault_form (IsStopReport c.args.paths.now stop) c.args.err.now second.new.err last
-          (more-among g.E.FaultSink.takes_hints g.E.FaultSink.failed g.E.Write.contents g.E.FaultSink.fault_form (IsStopReport c.args.paths.now stop) c.args.err.now first.new.err second.new.err first.ensures.more (second.ensures.told stop is)) c.hint_ended.ensures.quiet),
+          (more-among g.E.FaultSink.takes_hints g.E.FaultSink.failed g.E.Write.contents g.E.FaultSink.fault_form (IsStopReport c.args.paths.now stop) c.args.err.now first.new.err second.new.err first.ensures.more
+          (one-among g.E.FaultSink.takes_hints g.E.FaultSink.failed g.E.Write.contents g.E.FaultSink.fault_form (IsStopReport c.args.paths.now stop) first.new.err second.new.err (second.ensures.told stop is))) c.hint_ended.ensures.quiet),
     )

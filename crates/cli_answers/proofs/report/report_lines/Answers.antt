@@ -3,8 +3,8 @@ use Rattle.fault_report.proofs.Telling.{among-more}
 use Rattle.cli_answers.proofs.Telling.{end-later}
 use Rattle.cli_answers.proofs.report.report_lines.Goals as goal
 
-pub returns-in-Some-clause-told : goal.returns-in-Some-clause-told
-returns-in-Some-clause-told g c =
+pub returns-in-Some-Ok-clause-told : goal.returns-in-Some-Ok-clause-told
+returns-in-Some-Ok-clause-told g c =
     let end = c.args.end.now in
     let first = c.report_end-status in
     let last = c.report_unseen in
