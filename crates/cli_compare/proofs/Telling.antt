@@ -1,4 +1,4 @@
--- What standard error takes of a refusal, with the line below it, and of what comes after another.
+-- What standard error takes of a refusal, with the name below it, and of what comes after another.
 use Rattle.std.proofs.Common.{◌≡◌, ℕ, Bool, false, List, [], ◌++◌, Option, Some, None, Result, Bor, refl, sym, subst, ◌∙◌}
 use Rattle.std.proofs.lemmas.List.{append-nil}
 use Rattle.std.proofs.KnownBytes.{Appends-nil, Appends-trans}
@@ -18,19 +18,19 @@ module _ {E : Type 0} (hints failed : E → Bool) (contents : E → Option (List
   pub tells-none : (a : E) → Tells hints failed contents form a a []
   tells-none a = λ off. (off, refl, λ ok. (ok, Appends-nil (contents a)))
 
-  -- a line was told in the form of text, and in that of JSON none
-  pub line-below : (line : List ℕ) (a b : E) (f : LineForm) → f ≡ form a → f ≡ Text → Tells hints failed contents form a b line → Tells hints failed contents form a b (below (Some line) (form a))
-  line-below line a b f is text told = subst (λ g. Tells hints failed contents form a b (below (Some line) g)) (sym text ∙ is) told
+  -- a name was told in the form of text, and in that of JSON none
+  pub name-below : (name : List ℕ) (a b : E) (f : LineForm) → f ≡ form a → f ≡ Text → Tells hints failed contents form a b (below (Some name) Text) → Tells hints failed contents form a b (below (Some name) (form a))
+  name-below name a b f is text told = subst (λ g. Tells hints failed contents form a b (below (Some name) g)) (sym text ∙ is) told
 
-  pub none-below : (line : List ℕ) (a : E) (f : LineForm) → f ≡ form a → f ≡ Json → Tells hints failed contents form a a (below (Some line) (form a))
-  none-below line a f is json = subst (λ g. Tells hints failed contents form a a (below (Some line) g)) (sym json ∙ is) (tells-none a)
+  pub none-below : (name : List ℕ) (a : E) (f : LineForm) → f ≡ form a → f ≡ Json → Tells hints failed contents form a a (below (Some name) (form a))
+  none-below name a f is json = subst (λ g. Tells hints failed contents form a a (below (Some name) g)) (sym json ∙ is) (tells-none a)
 
   -- hints after it are not wanted
   tells-quiet : (text : List ℕ) (a b c : E) → Tells hints failed contents form a b text → (hints b ≡ false → c ≡ b) → Tells hints failed contents form a c text
   tells-quiet text a b c told quiet = λ off.
       subst (λ d. (hints d ≡ false) × (form d ≡ form a) × (failed d ≡ false → (failed a ≡ false) × Appends (contents a) (contents d) text)) (sym (quiet (told off).0)) (told off)
 
-  -- a fault, a line below it, and hints
+  -- a fault, a name below it, and hints
   pub fault-with : (says : Report → Type 0) (line : Option (List ℕ)) (report : Report) (a b c d : E) → says report → Tells hints failed contents form a b (reported (form a) report) →
       Tells hints failed contents form b c (below line (form b)) → (hints c ≡ false → d ≡ c) → TellsWith hints failed contents form line says a d
   fault-with says line report a b c d is first second quiet = (
@@ -48,7 +48,7 @@ module _ {E : Type 0} (hints failed : E → Bool) (contents : E → Option (List
         )) quiet,
   )
 
-  -- a fault with no line below it
+  -- a fault with no name below it
   pub one-with : (says : Report → Type 0) (a b : E) → TellsOne hints failed contents form says a b → TellsWith hints failed contents form None says a b
   one-with says a b one = (
     one.0,

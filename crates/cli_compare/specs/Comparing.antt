@@ -44,7 +44,7 @@ use Rattle.cli_compare.specs.Captures.{ComparesIn}
 use Rattle.cli_compare.specs.Deciding.{HoldsOfPair, Prints, answer_status, packet_of, packet_of_witness}
 use Rattle.cli_compare.specs.Pairs.{differs}
 use Rattle.cli_compare.specs.Printed.{line_of}
-use Rattle.cli_compare.specs.Telling.{IsRefusedReport, TellsOut, line_of_refusal}
+use Rattle.cli_compare.specs.Telling.{IsRefusedReport, TellsOut, name_of_refusal}
 
 -- ---- What is asked
 
@@ -102,12 +102,12 @@ IsRefusedStatus (First reason) ended = IsUnaskedStatus reason ended
 IsRefusedStatus (Second reason) ended = IsUnaskedStatus reason ended
 IsRefusedStatus (Files reason) ended = IsUnaskedStatus reason ended
 
--- Nothing was printed, and the status says why. That reason alone was reported, with the line below
--- it: `one` says of a line and a fault that they were.
+-- Nothing was printed, and the status says why. That reason alone was reported, with the name below
+-- it: `one` says of a name and a fault that they were.
 abbrev pub Refuses : {O : Type 0} → Places → Texts → Option (List ℕ) → Bool → CompareWords → (Option (List ℕ) → (Report → Type 0) → Type 0) → O → O → Status → Type 0
 Refuses place text printed failed words one old new ended =
     (reason : Uncompared) × IsRefused place text printed failed words reason × IsRefusedStatus reason ended
-    × one (line_of_refusal words reason) (IsRefusedReport reason) × (new ≡ old)
+    × one (name_of_refusal words reason) (IsRefusedReport words reason) × (new ≡ old)
 
 -- ---- A line for each packet that is treated differently
 
@@ -200,11 +200,11 @@ LinesAnswer left failures contents place text printed failed words one among old
     × (ended ≡ greater (printed_status end.printed) (stop_status end.read)) × TellsEnd among words.inputs.items end.printed end.read)
 
 -- only the status answers
-abbrev pub StatusAnswers : {R O : Type 0} → (R → Option (List ℕ)) → (R → ℕ) → Places → Texts → Option (List ℕ) → Bool → CompareWords → (Option (List ℕ) → (Report → Type 0) → Type 0) → ((Report → Type 0) → Type 0) → O → O → Status → Type 0
-StatusAnswers left failures place text printed failed words one among old new ended =
+abbrev pub StatusAnswers : {R O : Type 0} → (R → Option (List ℕ)) → (R → ℕ) → Places → Texts → Option (List ℕ) → Bool → CompareWords → (Option (List ℕ) → (Report → Type 0) → Type 0) → O → O → Status → Type 0
+StatusAnswers left failures place text printed failed words one old new ended =
     Refuses place text printed failed words one old new ended
     ⊎ ((end : SoughtEnd) × Seeks left failures place text printed failed words end × (new ≡ old) × (ended ≡ sought_status Negative Clean end.found)
-    × TellsStop among words.inputs.items end.found)
+    × TellsStop (one None) words.inputs.items end.found)
 
 -- the filters were decided, or nothing was printed and no file changed
 abbrev pub DecidesAnswer : {O : Type 0} → (O → Option (List ℕ)) → Places → Texts → Texts → Option (List ℕ) → Bool → CompareWords → (Option (List ℕ) → (Report → Type 0) → Type 0) → ((Report → Type 0) → Type 0) → O → O → Status → Type 0
@@ -220,8 +220,8 @@ KeepsOthers place old new (Some output) = (p : List ℕ) → p ≢ place output.
 -- A call of `bpftap compare`: what standard output had, which was `old`, is now `new`, and the
 -- files, which had `text`, have `after`. Without IN the filters are decided; with IN the packets
 -- that they treat differently are printed, or with `-q` only the status answers. `one` says what the
--- only fault is that was reported, and which line is below it; `among` what one of several is.
+-- only fault is that was reported, and which name is below it; `among` what one of several is.
 pub record Answers {R O : Type 0} (left : R → Option (List ℕ)) (failures : R → ℕ) (contents : O → Option (List ℕ)) (place : Places) (text after : Texts) (printed : Option (List ℕ)) (failed : Bool) (words : CompareWords) (one : Option (List ℕ) → (Report → Type 0) → Type 0) (among : (Report → Type 0) → Type 0) (old new : O) (ended : Status) : Type 0 where
   pub decided : words.inputs.items ≡ [] → DecidesAnswer contents place text after printed failed words one among old new ended
-  pub sought : words.inputs.items ≢ [] → words.quiet ≡ true → StatusAnswers left failures place text printed failed words one among old new ended
+  pub sought : words.inputs.items ≢ [] → words.quiet ≡ true → StatusAnswers left failures place text printed failed words one old new ended
   pub compared : words.inputs.items ≢ [] → words.quiet ≡ false → LinesAnswer left failures contents place text printed failed words one among old new ended

@@ -1,14 +1,14 @@
 //! What comparing two filters came to, as it is reported, and its exit status.
 
-ghost use Rattle.std.specs.Prelude.{◌≡◌, option_copied};
+ghost use Rattle.std.specs.Prelude.{◌≡◌, Some, option_copied};
 ghost use Rattle.cli_text.specs.declared.status.Status.TheVariants.{Refused};
 ghost use Rattle.fault_report.specs.Reports.{Tells, TellsMore, TellsOne};
-ghost use Rattle.cli_filter.specs.Reports.{IsExpressionReport};
-ghost use Rattle.cli_answers.specs.Asked.{IsUnaskedReport, IsUnaskedStatus};
+ghost use Rattle.line_text.specs.declared.form.LineForm.TheVariants.{Text};
+ghost use Rattle.cli_answers.specs.Asked.{IsUnaskedStatus};
 ghost use Rattle.cli_answers.specs.Telling.{TellsUnprinted};
 ghost use Rattle.cli_compare.specs.Comparing.{IsOutStatus, IsRefusedStatus};
 ghost use Rattle.cli_compare.specs.Deciding.{answer_status};
-ghost use Rattle.cli_compare.specs.Telling.{IsRefusedReport, TellsOut, TellsWith, below, line_of, line_of_refusal};
+ghost use Rattle.cli_compare.specs.Telling.{IsNamedReport, IsRefusedReport, IsUngivenReport, TellsOut, TellsWith, below, name_of, name_of_refusal};
 
 use crate::asked::Uncompared;
 use crate::outcome::OutFault;
@@ -21,18 +21,18 @@ use cli_filter::{FilterFault, expression_report, hint_expression};
 use cli_report::HintSink;
 use cli_report::files::hint_reason;
 use cli_text::Status;
-use fault_report::FaultSink;
 use fault_report::reporting::{report_device, report_fault, report_memory, report_unwritten};
+use fault_report::{FaultSink, Report, Subject};
 use filter_same::Sameness;
 use filtergen::ExpressionFault;
-use line_text::LineForm;
+use line_text::{Line, LineForm};
 use std::alloc::Global;
 
-/// The line that names the first of two expressions, below that of its fault.
-const FIRST: &str = "  EXPR1:\n";
+/// The name of the first of two expressions.
+const FIRST: &str = "EXPR1";
 
-/// The line that names the second one.
-const SECOND: &str = "  EXPR2:\n";
+/// The name of the second one.
+const SECOND: &str = "EXPR2";
 
 /// Reports why the answer about two expressions was not printed, if it was not, and answers the
 /// exit status: [`Status::Clean`] if they are the same, [`Status::Negative`] if a packet shows a
@@ -51,36 +51,53 @@ pub fn report_answer<E: FaultSink>(answer: &Result<Sameness, Unprinted>, err: &m
     }
 }
 
-/// Prints this line below that of a fault, if there is one. Below an object of JSON it prints none.
-fn print_line<E: FaultSink>(line: Option<&str>, err: &mut E)
-    ensures { Tells E.takes_hints E.failed E.contents E.fault_form err.old err.new (below (option_copied line.entry) (E.fault_form err.old)) }
+/// Prints the name of an argument in a line below that of its fault.
+fn print_name<E: HintSink>(name: &str, err: &mut E)
+    ensures { Tells E.takes_hints E.failed E.contents E.fault_form err.old err.new (below (Some name.now) Text) }
 {
-    let Some(line) = line else {
-        return;
-    };
-    match err.fault_form() {
-        LineForm::Text => {
-            // `tell_line` promises the whole line, `print_below` a beginning of it.
+    let mut line = Line::new();
+    match writeln!(line, "  {name}:") {
+        // `tell_line` promises the whole line, `print_below` a beginning of it.
+        Ok(()) => {
             let _ = err.tell_line(line.as_bytes());
         }
-        LineForm::Json => {}
+        Err(_) => err.fail(),
     }
 }
 
-/// Reports why an expression is no filter, with hints: below the fault the line that names it, if
-/// it is one of two.
+/// Names what has a fault below its line, if it has a name. An object of JSON has the name itself.
+fn name_below<E: HintSink>(name: Option<&str>, err: &mut E)
+    ensures { Tells E.takes_hints E.failed E.contents E.fault_form err.old err.new (below (option_copied name.entry) (E.fault_form err.old)) }
+{
+    match (name, err.fault_form()) {
+        (Some(name), LineForm::Text) => print_name(name, err),
+        _ => {}
+    }
+}
+
+/// The fault of an expression, about the argument of this name, if it has one.
+fn named_report(name: Option<&'static str>, fault: ExpressionFault) -> Report<'static>
+    ensures { IsNamedReport (option_copied name.entry) fault result }
+{
+    match name {
+        Some(name) => expression_report(fault).about(Subject::Argument(name)),
+        None => expression_report(fault),
+    }
+}
+
+/// Reports why an expression is no filter, with hints: the fault names it if it is one of two.
 fn report_expression<E: HintSink>(
     alloc: Global,
-    line: Option<&str>,
+    name: Option<&'static str>,
     expr: &str,
     fault: ExpressionFault,
     err: &mut E,
 ) -> Status
     ensures status { result ≡ Refused }
-    ensures told { TellsWith E.takes_hints E.failed E.contents E.fault_form (option_copied line.entry) (IsExpressionReport fault) err.old err.new }
+    ensures told { TellsWith E.takes_hints E.failed E.contents E.fault_form (option_copied name.entry) (IsNamedReport (option_copied name.entry) fault) err.old err.new }
 {
-    let status = report_fault(&expression_report(fault), Status::Refused, err);
-    print_line(line, err);
+    let status = report_fault(&named_report(name, fault), Status::Refused, err);
+    name_below(name, err);
     hint_expression(alloc, expr, fault, err);
     status
 }
@@ -88,24 +105,24 @@ fn report_expression<E: HintSink>(
 /// Reports why there is no filter, with hints, and returns the exit status.
 fn report_ungiven<E: HintSink>(
     alloc: Global,
-    line: Option<&str>,
+    name: Option<&'static str>,
     expr: &str,
     reason: &Unasked<'_>,
     err: &mut E,
 ) -> Status
     ensures status { IsUnaskedStatus reason.now result }
-    ensures told { TellsWith E.takes_hints E.failed E.contents E.fault_form (line_of (option_copied line.entry) reason.now) (IsUnaskedReport reason.now) err.old err.new }
+    ensures told { TellsWith E.takes_hints E.failed E.contents E.fault_form (name_of (option_copied name.entry) reason.now) (IsUngivenReport (option_copied name.entry) reason.now) err.old err.new }
 {
     match reason {
         Unasked::Filter(None, FilterFault::Expression(fault)) => {
-            report_expression(alloc, line, expr, *fault, err)
+            report_expression(alloc, name, expr, *fault, err)
         }
         _ => report_unasked(alloc, reason, Some(expr), err),
     }
 }
 
-/// Reports why two filters are not compared, with hints, and returns the exit status. A line names
-/// the expression, if there are two.
+/// Reports why two filters are not compared, with hints, and returns the exit status. The fault
+/// names its expression, if there are two: in a line below, or in its object.
 pub fn report_uncompared<E: HintSink>(
     alloc: Global,
     reason: &Uncompared<'_>,
@@ -113,13 +130,13 @@ pub fn report_uncompared<E: HintSink>(
     err: &mut E,
 ) -> Status
     ensures status { IsRefusedStatus reason.now result }
-    ensures told { TellsWith E.takes_hints E.failed E.contents E.fault_form (line_of_refusal words.now reason.now) (IsRefusedReport reason.now) err.old err.new }
+    ensures told { TellsWith E.takes_hints E.failed E.contents E.fault_form (name_of_refusal words.now reason.now) (IsRefusedReport words.now reason.now) err.old err.new }
 {
     let second = words.second.unwrap_or("");
     match reason {
         Uncompared::First(reason) => {
-            let line = words.listing.is_none().then_some(FIRST);
-            report_ungiven(alloc, line, words.first, reason, err)
+            let name = words.listing.is_none().then_some(FIRST);
+            report_ungiven(alloc, name, words.first, reason, err)
         }
         Uncompared::Second(reason) => report_ungiven(alloc, Some(SECOND), second, reason, err),
         Uncompared::Files(reason) => report_unasked(alloc, reason, None, err),

@@ -121,16 +121,16 @@ LinesAnswer left failures contents place text printed failed words one among old
     × (ended ≡ greater (printed_status end.printed) (stop_status end.read)) × TellsEnd among words.inputs.items end.printed end.read)
 
 -- only the status answers
-abbrev pub StatusAnswers : {R O : Type 0} → (R → Option (List ℕ)) → (R → ℕ) → Places → Texts → Option (List ℕ) → Bool → ExplainWords → ((Report → Type 0) → Type 0) → ((Report → Type 0) → Type 0) → O → O → Status → Type 0
-StatusAnswers left failures place text printed failed words one among old new ended =
+abbrev pub StatusAnswers : {R O : Type 0} → (R → Option (List ℕ)) → (R → ℕ) → Places → Texts → Option (List ℕ) → Bool → ExplainWords → ((Report → Type 0) → Type 0) → O → O → Status → Type 0
+StatusAnswers left failures place text printed failed words one old new ended =
     Refuses place text printed failed words one old new ended
     ⊎ ((end : SoughtEnd) × Seeks left failures place text printed failed words end × (new ≡ old) × (ended ≡ sought_status Clean Negative end.found)
-    × TellsStop among words.inputs.items end.found)
+    × TellsStop one words.inputs.items end.found)
 
 -- by whether only the status answers, and whether places are given
 abbrev pub AnswersBy : {R O : Type 0} → (R → Option (List ℕ)) → (R → ℕ) → (O → Option (List ℕ)) → Places → Texts → Option (List ℕ) → Bool → ExplainWords → Bool → Option PlaceRange → ((Report → Type 0) → Type 0) → ((Report → Type 0) → Type 0) → O → O → Status → Type 0
 AnswersBy left failures contents place text printed failed words true places one among old new ended =
-    StatusAnswers left failures place text printed failed words one among old new ended
+    StatusAnswers left failures place text printed failed words one old new ended
 AnswersBy left failures contents place text printed failed words false (Some places) one among old new ended =
     PlacesAnswer left failures contents place text printed failed words places one among old new ended
 AnswersBy left failures contents place text printed failed words false None one among old new ended =

@@ -59,7 +59,7 @@ fn ask_quietly<'p, F: FileStore<'p>, O: PrintSink, E: HintSink>(
     err: &mut E,
 ) -> Status
     ensures kept { Keeps (F.place files.old) (F.place files.new) (F.text files.old) (F.text files.new) (F.pending files.old) (F.pending files.new) }
-    ensures answers { F.known ≡ true → StatusAnswers F.Input.left F.Input.failures (F.place files.old) (F.text files.old) (F.printed files.old) (F.failed files.new) words.now (λ says. TellsOne E.takes_hints E.failed E.contents E.fault_form says err.old err.new) (λ says. TellsAmong E.takes_hints E.failed E.contents E.fault_form says err.old err.new) _out.old _out.new result }
+    ensures answers { F.known ≡ true → StatusAnswers F.Input.left F.Input.failures (F.place files.old) (F.text files.old) (F.printed files.old) (F.failed files.new) words.now (λ says. TellsOne E.takes_hints E.failed E.contents E.fault_form says err.old err.new) _out.old _out.new result }
     ensures silent { _out.new ≡ _out.old }
 {
     match seek_files(alloc, files, words) {

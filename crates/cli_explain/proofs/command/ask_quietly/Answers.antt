@@ -1,5 +1,5 @@
 use Rattle.std.proofs.Common.{ℕ, List, Bor, inr, refl, subst}
-use Rattle.fault_report.specs.Reports.{TellsAmong}
+use Rattle.fault_report.specs.Reports.{TellsOne}
 use Rattle.cli_answers.specs.Telling.{TellsStop}
 use Rattle.cli_explain.proofs.command.ask_quietly.Goals as goal
 
@@ -7,5 +7,5 @@ pub returns-in-Ok-clause-answers : goal.returns-in-Ok-clause-answers
 returns-in-Ok-clause-answers g c tells =
     let end = c.in-Ok.end in
     let sought = c.report_sought in
-    let told = subst (λ (paths : List (Bor (List ℕ))). TellsStop (λ says. TellsAmong g.E.FaultSink.takes_hints g.E.FaultSink.failed g.E.Write.contents g.E.FaultSink.fault_form says c.args.err.now sought.new.err) paths end.found) c.as_slice-paths.ensures.value sought.ensures.told in
+    let told = subst (λ (paths : List (Bor (List ℕ))). TellsStop (λ says. TellsOne g.E.FaultSink.takes_hints g.E.FaultSink.failed g.E.Write.contents g.E.FaultSink.fault_form says c.args.err.now sought.new.err) paths end.found) c.as_slice-paths.ensures.value sought.ensures.told in
     inr (end, c.in-Ok.ensures.seeks tells, refl, sought.ensures.status, told)
