@@ -10,5 +10,10 @@ returns-in-Ok-clause-answers g c tells =
     let end = c.in-Ok.end in
     let sought = c.report_sought in
     let told = subst (λ (paths : List (Bor (List ℕ))). TellsStop (λ says. TellsOne S.takes_hints S.failed g.E.Write.contents S.fault_form says c.args.err.now sought.new.err) paths end.found) c.as_slice-paths.ensures.value sought.ensures.told in
-    inr (end, c.in-Ok.ensures.seeks tells, refl, sought.ensures.status,
-        λ stop is. one-with S.takes_hints S.failed g.E.Write.contents S.fault_form (IsStopReport c.args.words.now.inputs.items stop) c.args.err.now sought.new.err (told stop is))
+    inr (
+      end,
+      c.in-Ok.ensures.seeks tells,
+      refl,
+      sought.ensures.status,
+      λ stop is. one-with S.takes_hints S.failed g.E.Write.contents S.fault_form (IsStopReport c.args.words.now.inputs.items stop) c.args.err.now sought.new.err (told stop is),
+    )
