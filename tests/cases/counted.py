@@ -94,7 +94,7 @@ def captures_with_an_accepted_packet_are_listed(scene):
     scene.expect("explain -l --json -e udp one.pcap in.pcap", out='{"file":"in.pcap"}\n')
     # Each is read up to its first match.
     scene.expect("explain -l -e ip torn.pcap in.pcap", out="torn.pcap\nin.pcap\n")
-    scene.expect("explain -l -e arp in.pcap torn.pcap in.pcap", 2, fault_lines("Capture 1 TornRecord 1\n  torn.pcap"), "in.pcap\n")
+    scene.expect("explain -l -e arp in.pcap torn.pcap in.pcap", 2, fault_lines("Capture 1 TornRecord 1"), "in.pcap\n")
 
 
 # Bounds on how many of the five packets of in.pcap and one.pcap `ip` accepts, of which there are four, and the status.
@@ -144,10 +144,10 @@ def no_capture_or_listing_takes_the_counts(scene):
 def faults_come_before_the_answer(scene):
     """The first fault ends the reading; the packets before it are counted. Nothing is printed of a capture whose header is refused."""
     start(scene)
-    scene.expect("explain -c -e ip torn.pcap in.pcap", 2, fault_lines("Capture 0 TornRecord 1\n  torn.pcap"), f"torn.pcap {text_of((1, 0, 0))}{text_of((1, 0, 0))}")
-    scene.expect("explain -c -e ip in.pcap text.pcap one.pcap", 1, fault_lines("Capture 1 NotSavefile\n  text.pcap"), f"in.pcap {text_of((3, 1, 0))}{text_of((3, 1, 0))}")
+    scene.expect("explain -c -e ip torn.pcap in.pcap", 2, fault_lines("Capture 0 TornRecord 1"), f"torn.pcap {text_of((1, 0, 0))}{text_of((1, 0, 0))}")
+    scene.expect("explain -c -e ip in.pcap text.pcap one.pcap", 1, fault_lines("Capture 1 NotSavefile"), f"in.pcap {text_of((3, 1, 0))}{text_of((3, 1, 0))}")
     scene.expect("explain -c -e ip text.pcap", 1, fault_lines("NotSavefile"))
-    scene.expect("explain -c -e ip text.pcap in.pcap", 1, fault_lines("Capture 0 NotSavefile\n  text.pcap"))
+    scene.expect("explain -c -e ip text.pcap in.pcap", 1, fault_lines("Capture 0 NotSavefile"))
     scene.expect("explain -c -e ip in.pcap gone.pcap", 3, fault_lines("Device gone.pcap"), f"in.pcap {text_of((3, 1, 0))}{text_of((3, 1, 0))}")
     scene.expect("explain -c -e ip in.pcap", 3, fault_lines("Device standard output"), streams=">/dev/full")
     scene.expect("explain -l -e ip in.pcap", 3, fault_lines("Device standard output"), streams=">/dev/full")

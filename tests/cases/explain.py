@@ -239,11 +239,11 @@ def several_captures_are_explained(scene):
     names = ["in.pcap", "one.pcap", "empty.pcap", str(VETH), "in.pcap"]
     scene.expect([*words, *names], out=each_line(scene, words, names))
     torn = each_line(scene, words, ["in.pcap", "torn.pcap"])
-    scene.expect([*words, "in.pcap", "torn.pcap", "one.pcap"], 2, fault_lines("Capture 1 TornRecord 1\n  torn.pcap"), torn)
-    scene.expect([*words, "in.pcap", "text.pcap", "one.pcap"], 1, fault_lines("Capture 1 NotSavefile\n  text.pcap"), each_line(scene, words, ["in.pcap"]))
+    scene.expect([*words, "in.pcap", "torn.pcap", "one.pcap"], 2, fault_lines("Capture 1 TornRecord 1"), torn)
+    scene.expect([*words, "in.pcap", "text.pcap", "one.pcap"], 1, fault_lines("Capture 1 NotSavefile"), each_line(scene, words, ["in.pcap"]))
     scene.expect([*words, "in.pcap", "none.pcap", "one.pcap"], 3, fault_lines("Device none.pcap"), each_line(scene, words, ["in.pcap"]))
-    scene.expect([*words, "text.pcap", "in.pcap"], 1, fault_lines("Capture 0 NotSavefile\n  text.pcap"))
-    scene.expect([*words, "empty.pcap", "text.pcap"], 1, fault_lines("Capture 1 NotSavefile\n  text.pcap"), "0 packets: 0 Yes, 0 No, 0 Abort\n")
+    scene.expect([*words, "text.pcap", "in.pcap"], 1, fault_lines("Capture 0 NotSavefile"))
+    scene.expect([*words, "empty.pcap", "text.pcap"], 1, fault_lines("Capture 1 NotSavefile"), "0 packets: 0 Yes, 0 No, 0 Abort\n")
     shown = [scene.run([*words, "-p", "0", name]).out.decode() for name in ("in.pcap", "one.pcap")]
     scene.expect([*words, "-p", "0", "in.pcap", "one.pcap"], out="".join(shown))
     scene.expect([*words, "-p", "2", "one.pcap", "in.pcap"], 1, fault_lines("NoPacket 2\n  one.pcap"), scene.run([*words, "-p", "2", "in.pcap"]).out.decode())
@@ -265,7 +265,7 @@ def a_range_of_packets_is_explained_in_full(scene):
     scene.expect("explain -p 0-1 -e ip torn.pcap", 2, fault_lines("TornRecord 1"), one)
     scene.expect("explain -p 0-0 -e ip torn.pcap", out=one)
     scene.expect("explain -p 1-2 -e ip torn.pcap", 2, fault_lines("TornRecord 1"))
-    scene.expect("explain -p 0-5 -e ip one.pcap torn.pcap one.pcap", 2, fault_lines("Capture 1 TornRecord 1\n  torn.pcap"), one + one)
+    scene.expect("explain -p 0-5 -e ip one.pcap torn.pcap one.pcap", 2, fault_lines("Capture 1 TornRecord 1"), one + one)
     scene.expect("explain -p 0-5 -e ip one.pcap none.pcap", 3, fault_lines("Device none.pcap"), one)
     scene.expect("explain -p 0-5 -e ip one.pcap", 3, fault_lines("Device standard output"), streams=">/dev/full")
 
@@ -280,7 +280,7 @@ ASKED = [
     ("-e ip torn.pcap", 0, None), ("-e arp torn.pcap", 2, "TornRecord 1"), ("-e ip text.pcap", 1, "NotSavefile"),
     ("-e ip gone.pcap", 3, "Device gone.pcap"),
     ("-e udp one.pcap in.pcap", 0, None), ("-e rarp one.pcap in.pcap", 4, None), ("-e udp in.pcap gone.pcap", 0, None),
-    ("-e rarp one.pcap torn.pcap in.pcap", 2, "Capture 1 TornRecord 1\n  torn.pcap"), ("-e udp gone.pcap in.pcap", 3, "Device gone.pcap"),
+    ("-e rarp one.pcap torn.pcap in.pcap", 2, "Capture 1 TornRecord 1"), ("-e udp gone.pcap in.pcap", 3, "Device gone.pcap"),
     ("-e 'port http' in.pcap", 1, "BadWord 5"),
 ]
 

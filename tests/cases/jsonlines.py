@@ -414,6 +414,21 @@ def a_stream_is_no_file(scene):
 
 
 @case
+def an_expression_that_is_refused_is_named(scene):
+    """The fault of one of two expressions has its name, as the line below its text. Beside a listing there is only one."""
+    scene.start({"in.pcap": WHOLE, "ip.bpf": IP})
+    for words, fault, number, argument in [
+        ("'port http' arp", "BadWord", 5, "EXPR1"), ("arp 'tcp port https'", "BadWord", 9, "EXPR2"), ("'port http' 'ip or'", "BadWord", 5, "EXPR1"),
+        ("-f ip.bpf 'port http'", "BadWord", 5, None), ("-q arp 'ip or' in.pcap", "Syntax", 5, "EXPR2"), ("arp 'ip or' in.pcap", "Syntax", 5, "EXPR2"),
+    ]:
+        named = {"argument": argument} if argument else {}
+        seen = scene.run(f"compare --json {words}")
+        scene.check(f"compare --json {words}", (json.loads(seen.err), seen.out, seen.status), ({"fault": fault, "numbers": [number], **named}, b"", 1))
+        text = scene.run(f"compare {words}").err.decode().splitlines()[1:]
+        scene.check(f"compare {words}", text, [f"  {argument}:"] if argument else [])
+
+
+@case
 def a_failed_output_is_an_object(scene):
     """What standard output does not take is reported so too."""
     scene.start(FILES)

@@ -33,7 +33,7 @@ REFUSED = [
     ("0 lines.txt\n", "t.pcap", "SameFile lines.txt"),
     ("0 ./none.pcap\n", "t.pcap none.pcap", "SameFile ./none.pcap"),
     # The header of the first capture.
-    ("0 kept.pcap\n0 new.pcap\n", "empty.pcap t.pcap", "Capture 0 ShortHeader\n  empty.pcap"),
+    ("0 kept.pcap\n0 new.pcap\n", "empty.pcap t.pcap", "Capture 0 ShortHeader"),
     ("0 kept.pcap\n0 new.pcap\n", "bad.pcap", "Capture 0 NotSavefile"),
     # The first bad line, and then the first bad expression
     *((lines, "none.pcap", fault) for lines, fault in [
@@ -121,11 +121,11 @@ def a_fault_of_a_capture_ends_the_reading(scene):
     """What was read before it is written, and no later capture is read."""
     scene.put({**CAPTURES, "lines.txt": "0 all.pcap\n0 udp.pcap udp\n"})
     for captures, fault, status, packets in [
-            ("tu.pcap torn.pcap t.pcap", "Capture 1 TornRecord 1\n  torn.pcap", 2, [T, U, IP_RECORD]),
-            ("t.pcap empty.pcap tu.pcap", "Capture 1 ShortHeader\n  empty.pcap", 1, [T]),
-            ("t.pcap bad.pcap tu.pcap", "Capture 1 NotSavefile\n  bad.pcap", 1, [T]),
-            ("t.pcap none.pcap tu.pcap", "Capture 1 Device\n  none.pcap", 3, [T]),
-            ("t.pcap . tu.pcap", "Capture 1 Device\n  .", 3, [T])]:
+            ("tu.pcap torn.pcap t.pcap", "Capture 1 TornRecord 1", 2, [T, U, IP_RECORD]),
+            ("t.pcap empty.pcap tu.pcap", "Capture 1 ShortHeader", 1, [T]),
+            ("t.pcap bad.pcap tu.pcap", "Capture 1 NotSavefile", 1, [T]),
+            ("t.pcap none.pcap tu.pcap", "Capture 1 Device", 3, [T]),
+            ("t.pcap . tu.pcap", "Capture 1 Device", 3, [T])]:
         udp = [packet for packet in packets if packet == U]
         out = f"all.pcap {len(packets)} of {len(packets)}\nudp.pcap {len(udp)} of {len(packets)}\n"
         scene.expect(f"split lines.txt {captures}", status, fault_lines(fault), out)
@@ -158,7 +158,7 @@ def streams_are_captures_too(scene):
     scene.expect("split /dev/stdin tu.pcap", out="a.pcap 1 of 2\n", streams="<<< '0 a.pcap tcp'")
     # An empty LINES reads the captures, whose faults are reported.
     scene.put({"lines.txt": ""})
-    scene.expect("split lines.txt tu.pcap torn.pcap", 2, fault_lines("Capture 1 TornRecord 1\n  torn.pcap"))
+    scene.expect("split lines.txt tu.pcap torn.pcap", 2, fault_lines("Capture 1 TornRecord 1"))
 
 
 @case

@@ -43,7 +43,7 @@ def last_line(seen):
 @case
 def frames_are_counted(scene):
     """Below what `explain`, `compare`, `split` and `cut -c` print is how many frames no filter looks into, with hints or without; with `--json`
-    an object. `explain -c` prints it of those that were read before a capture that can't be."""
+    an object. It is of those that were read, also before a capture that can't be."""
     scene.start({"in.pcap": MIXED, "two.pcap": HEADER + record(0x88a8), "lines.txt": "0 all.pcap \n0 ip.pcap ip\n", "text.pcap": "a text, and no capture"})
     scene.expect("--hints cut -c -s 0 -e ip in.pcap out.pcap", 0, "2 of 5 packets\n" + line(2, 5))
     scene.expect("--hints cut -c -s 0 -e ip -w more.pcap in.pcap two.pcap in.pcap", 0, "4 of 11 packets\n" + line(5, 11))
@@ -57,9 +57,15 @@ def frames_are_counted(scene):
     scene.expect("cut -c -s 0 -e ip in.pcap out.pcap", 0, "2 of 5 packets\n" + line(2, 5))
     scene.expect("cut --json -c -s 0 -e ip in.pcap out.pcap", 0, '{"kept":2,"packets":5}\n{"frames":5,"unseen":2}\n')
     scene.expect("explain -c -e ip two.pcap", 0, line(1, 1), "two.pcap 1 packets: 0 Yes, 1 No, 0 Abort\n")
-    for last, fault, status in (("none", "Device none", 3), ("text.pcap", "Capture 1 ShortHeader\n  text.pcap", 1)):
-        seen = scene.run(f"explain -c -e ip two.pcap {last}")
-        scene.check(f"before {last}", (seen.err.decode(), seen.status), (fault_lines(fault) + line(1, 1), status))
+    whole = f"cut --bytes 24-{len(MIXED)} -s 0 -e ip in.pcap"
+    for json, lines in (("", "2 of 5 packets\n" + line(2, 5)), ("--json ", '{"kept":2,"packets":5}\n{"frames":5,"unseen":2}\n')):
+        seen = scene.run(f"{whole} {json}-c part.pcap")
+        scene.check(f"a part {json}", (seen.err.decode(), seen.status), (lines, 0))
+    for words, numbered, counted in [("explain -e ip", False, ""), ("explain -c -e ip", False, ""), ("compare ip tcp", False, ""), ("split lines.txt", True, ""),
+                                     ("cut -c -s 0 -e ip -w more.pcap", True, "0 of 1 packets\n")]:
+        for last, fault, status in (("none", "Capture 1 Device" if numbered else "Device none", 3), ("text.pcap", "Capture 1 ShortHeader", 1)):
+            seen = scene.run(f"{words} two.pcap {last}")
+            scene.check(f"{words}, before {last}", (seen.err.decode(), seen.status), (fault_lines(fault) + counted + line(1, 1), status))
 
 
 @case
@@ -68,6 +74,7 @@ def frames_are_counted_for_hints(scene):
     scene.start({"in.pcap": MIXED, "two.pcap": HEADER + record(0x88a8), "run.txt": "0 0 0 1048576 2 run.pcap ip\n",
                  "empty.txt": "0 0 0 1048576 2 run.pcap \n"})
     for words, counts in (("cut -s 0 -e ip in.pcap one.pcap", line(2, 5)), ("cut -s 0 -e ip -w two_ip.pcap in.pcap two.pcap", line(3, 6)),
+                          (f"cut --bytes 24-{len(MIXED)} -s 0 -e ip in.pcap one.pcap", line(2, 5)),
                           ("run run.txt in.pcap two.pcap", line(3, 6)), ("run empty.txt in.pcap", ""), ("cut -s 0 in.pcap all.pcap", ""),
                           ("cut --json -s 0 -e ip in.pcap json.pcap", "")):
         seen = scene.run(f"--hints {words}")
@@ -100,10 +107,12 @@ def no_frames_are_counted(scene):
                   "--hints compare -f ip.bpf ip in.pcap", "--hints cut -c -s 0 -f ip.bpf in.pcap out.pcap",
                   "--hints cut -c -s 0 in.pcap out.pcap", "--hints explain -e '' in.pcap", "--hints compare '' ' ' in.pcap",
                   "--hints split empty.txt in.pcap", "--hints explain -e ip none", "--hints cut -c -s 0 -e ip in.pcap no/such.pcap",
-                  "--hints split lost.txt in.pcap"]:
+                  "--hints split lost.txt in.pcap", "--hints cut -c -s 0 -e ip -w no/such.pcap in.pcap none", "cut --bytes 24-54 -s 0 -e ip in.pcap out.pcap"]:
         seen = scene.run(words)
         scene.check(words, b"IPv6" in seen.err or b"unseen" in seen.err, False)
-    scene.check("nobody reads", scene.run_unread("--hints explain -e ip in.pcap").err, b"")
+    for words in ("explain -e ip in.pcap", "split lines.txt in.pcap", f"cut -c --bytes 24-{len(MIXED)} -s 0 -e ip in.pcap out.pcap"):
+        seen = scene.run_unread(f"--hints {words}")
+        scene.check(f"nobody reads {words}", (b"IPv6" in seen.err, seen.status), (False, 3))
 
 
 @case
@@ -164,6 +173,11 @@ def names_do_not_control_a_terminal(scene):
         shown, _, status = watch(words, scene.folder, on_output=True)
         scene.check(f"{words[0]} on a terminal", (shown[: len(marked(name) + rest)], status), (marked(name) + rest, 0))
         scene.check(f"{words[0]} in a pipe", scene.run(words).out.decode()[: len(name + rest)], name + rest)
+    size = len(HEADER) + len(IP_RECORD)
+    words, counts = ["cut", "--bytes", f"24-{size}", "-s", "0", "plain.pcap", out], f"24-{size} of {size} packets 1 kept 1 bytes {size} Clean "
+    shown, _, status = watch(words, scene.folder, on_output=True)
+    scene.check("cut --bytes on a terminal", (shown[: len(counts + out) + 1], status), (f"{counts}{marked(out)}\n", 0))
+    scene.expect(words, out=f"{counts}{out}\n")
 
 
 # ---- Progress

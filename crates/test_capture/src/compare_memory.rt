@@ -82,7 +82,7 @@ fn captures_are_read_to_the_first_fault(rt: HostRuntime) {
     let line = "place 0 time 1.000000000 len 14 captured 14 first No ip second Yes arp
 1 packets: 1 differ, 0 accepted by the first alone, 1 by the second\n";
     let words = words_of(&rt, "ip", Some("arp"), &["torn.pcap", "in.pcap"]);
-    let fault = "bpftap: Capture 0 TornRecord 1\n  torn.pcap\n";
+    let fault = "bpftap: Capture 0 TornRecord 1\n";
     compares(&rt, &mut files, &words, (Status::Damaged, line, fault, 3));
     let words = words_of(&rt, "ip", Some("arp"), &["none.pcap"]);
     let fault = "bpftap: Device none.pcap\n";

@@ -89,7 +89,7 @@ fn several_captures_are_read_to_the_first_fault(rt: HostRuntime) {
     ];
     let text = text_of(&rt, &lines);
     let words = words_of(&rt, Some("ip"), &["in.pcap", "torn.pcap", "in.pcap"]);
-    let fault = "bpftap: Capture 1 TornRecord 1\n  torn.pcap\n";
+    let fault = "bpftap: Capture 1 TornRecord 1\n";
     explains(
         &rt,
         &mut files,
@@ -121,7 +121,7 @@ fn only_the_status_answers(rt: HostRuntime) {
     words.quiet = true;
     explains(&rt, &mut files, &words, (Status::Clean, "", ""));
     words.expr = Some("tcp");
-    let fault = "bpftap: Capture 1 TornRecord 1\n  torn.pcap\n";
+    let fault = "bpftap: Capture 1 TornRecord 1\n";
     explains(&rt, &mut files, &words, (Status::Damaged, "", fault));
 }
 

@@ -77,9 +77,9 @@ fn cuts<R: Abort + AllocGlobal>(
 ) {
     let mut err: Vec<u8> = Vec::new(rt.alloc());
     files.opened.clear();
-    let status = cut_and_report(rt.alloc(), files, words, input, &mut err);
+    let reported = cut_and_report(rt.alloc(), files, words, input, &mut err);
     let (ended, line, count) = wanted;
-    same(rt, status, ended);
+    same(rt, reported.status, ended);
     same_in(rt, line, err.as_slice(), line.as_bytes());
     same(rt, files.files.len(), count);
     same(rt, files.pending, 0);
@@ -95,9 +95,9 @@ fn cuts_all<R: Abort + AllocGlobal>(
 ) {
     let mut err: Vec<u8> = Vec::new(rt.alloc());
     files.opened.clear();
-    let status = cut_several_and_report(rt.alloc(), files, words, &mut err);
+    let reported = cut_several_and_report(rt.alloc(), files, words, &mut err);
     let (ended, line, count) = wanted;
-    same(rt, status, ended);
+    same(rt, reported.status, ended);
     same_in(rt, line, err.as_slice(), line.as_bytes());
     same(rt, files.files.len(), count);
     same(rt, files.pending, 0);
