@@ -1,8 +1,8 @@
 #!/usr/bin/env python3
 """Tries wrong bodies in batches: the prover has to refuse each of them.
 
-  tests/edits.py [NAME..]          the edits in crates/NAME/more-must-fail/, of these crates or of all
-  tests/edits.py NAME/EDIT..       these edits, in whichever folder
+  tests/edits.py [NAME..]          the edits in the text crates/NAME/wrong-bodies, of these crates or of all
+  tests/edits.py NAME/EDIT..       these edits, wherever they stand
   tests/edits.py --all [NAME..]    those in crates/NAME/must-fail/ too, which `rt ci` tries one by one
   tests/edits.py --list [NAME..]   prints the batches, and says which edits can't be applied; it tries nothing
 
@@ -28,7 +28,7 @@ import threading
 import time
 
 ROOT = pathlib.Path(__file__).resolve().parent.parent
-GATE, APART = "must-fail", "more-must-fail"
+GATE, APART = "must-fail", "wrong-bodies"
 PARTS = ("src", "specs", "proofs")
 
 # The head of a function or of an impl, in rt fmt's layout: its block ends at the next `}` with the same indentation.
@@ -91,11 +91,11 @@ def functions_of(crate):
 class Edit:
     """An edit: its changed files, and the function that it changes, if it changes only one."""
 
-    def __init__(self, crate, file, functions):
-        self.crate, self.file, self.name = crate, file, file.stem
+    def __init__(self, crate, name, said, functions):
+        self.crate, self.name = crate, name
         self.why = ""
         try:
-            self.texts = self.apply(file.read_text())
+            self.texts = self.apply(said)
         except (OSError, ValueError) as error:
             self.texts, self.why = {}, f"it can't be applied: {error}"
         self.function = self.changed(functions)
@@ -138,11 +138,21 @@ class Edit:
         return f"{self.crate}/{self.name}"
 
 
+def said_of(crate):
+    """What the edits of a crate say, by their names: those of the text, and those of the gate's folder."""
+    folder = ROOT / "crates" / crate
+    text = (folder / APART).read_text() if (folder / APART).is_file() else ""
+    parts = [it.partition("\n") for it in f"\n{text}".split("\nwrong: ")[1:]]
+    apart = {name: said for name, _, said in parts}
+    if len(apart) < len(parts):
+        sys.exit(f"two edits in crates/{crate}/{APART} have one name")
+    return apart, {it.stem: it.read_text() for it in sorted((folder / GATE).glob("*.edit"))}
+
+
 def edits_of(crate):
-    """The edits of a crate, and its functions."""
+    """The edits of a crate that the gate doesn't try, those that it tries, and the functions."""
     functions = functions_of(crate)
-    files = [it for folder in (APART, GATE) for it in sorted((ROOT / "crates" / crate / folder).glob("*.edit"))]
-    return [Edit(crate, it, functions) for it in files], functions
+    return *([Edit(crate, name, said, functions) for name, said in part.items()] for part in said_of(crate)), functions
 
 
 def called(function, functions):
@@ -393,7 +403,7 @@ class Trial:
 def parsed():
     parser = argparse.ArgumentParser(description=__doc__, formatter_class=argparse.RawDescriptionHelpFormatter)
     parser.add_argument("names", nargs="*", metavar="NAME", help="a crate, or one edit of it as NAME/EDIT")
-    parser.add_argument("--all", action="store_true", help=f"the edits of {GATE}/ too")
+    parser.add_argument("--all", action="store_true", help=f"the edits in {GATE}/ too")
     parser.add_argument("--list", action="store_true", help="print the batches, and try nothing")
     parser.add_argument("--jobs", type=int, default=1, metavar="N", help="run N checks at once (1; each takes up to 4 GB)")
     parser.add_argument("--logs", type=pathlib.Path, metavar="FOLDER", help="keep what the check says of each batch there")
@@ -407,10 +417,9 @@ def chosen(given):
     for crate in crates:
         if crate not in listed()[0]:
             sys.exit(f"crates.txt lists no crate {crate}")
-        edits, functions = edits_of(crate)
-        is_whole = crate in given.names or not given.names
-        whole = [it for it in edits if is_whole and (given.all or it.file.parent.name == APART)]
-        edits = [it for it in edits if it in whole or str(it) in left]
+        apart, gate, functions = edits_of(crate)
+        whole = [*apart, *(gate if given.all else [])] if crate in given.names or not given.names else []
+        edits = whole + [it for it in [*apart, *gate] if it not in whole and str(it) in left]
         left -= {str(it) for it in edits}
         waiting[crate] = batches_of(edits, functions)
     if left:
