@@ -228,11 +228,11 @@ class Page:
         return [row for row in self.rows if row.is_made != (row in self.seen)]
 
 
-def expect_fault(scene, page, words, fault, status, streams="", below=""):
-    """The program reports only this fault, with this status and with this line below it, and the page lists it so for the command."""
+def expect_fault(scene, page, words, fault, status, streams=""):
+    """The program reports only this fault, with this status, and the page lists it so for the command."""
     seen = scene.run(words, streams)
     line = f"bpftap: {fault}"
-    scene.check(f"standard error of {words}", (seen.err.decode(), seen.status), (line + "\n" + below, status))
+    scene.check(f"standard error of {words}", (seen.err.decode(), seen.status), (line + "\n", status))
     command = words[0] if isinstance(words, list) else words.split()[0]
     scene.check(f"{line}, status {status}, on the page of {command}", status in page.statuses(line, SECTIONS[command]), True)
 
@@ -243,11 +243,11 @@ def expect_capture_faults(scene, page):
     for path, fault, status in CAPTURES:
         expect_fault(scene, page, f"cut -s 0 {path} out.pcap", fault, status)
         expect_fault(scene, page, f"explain -e ip {path}", fault, status)
-        expect_fault(scene, page, f"split split.txt in.pcap {path}", f"Capture 1 {fault}", status, below=f"  {path}\n")
+        expect_fault(scene, page, f"split split.txt in.pcap {path}", f"Capture 1 {fault}", status)
         expect_fault(scene, page, f"steps one.txt arrive.txt in.pcap {path}", f"Capture 1 {fault}", status)
         expect_fault(scene, page, f"run run.txt in.pcap {path}", f"Interface 0 Capture 1 {fault}", status)
     expect_fault(scene, page, "run run.txt in.pcap none.pcap", "Interface 0 Capture 1 Device", 3)
-    expect_fault(scene, page, "split split.txt in.pcap none.pcap", "Capture 1 Device", 3, below="  none.pcap\n")
+    expect_fault(scene, page, "split split.txt in.pcap none.pcap", "Capture 1 Device", 3)
 
 
 def expect_expression_faults(scene, page):
