@@ -17,7 +17,7 @@ ROOT = pathlib.Path(__file__).resolve().parent.parent
 sys.path[:0] = [str(ROOT / "tests"), str(ROOT / "tests" / "page")]
 import browsers
 from cases.common import HEADER, VETH, records
-from cases.page import PAGE, SPIN
+from visit import PAGE, SPIN
 
 PACKETS, OPENED, TYPED, ASKED = 100_000, 11, 60, 5
 

@@ -18,12 +18,11 @@ import subprocess
 import sys
 
 HERE = pathlib.Path(__file__).resolve().parent
-sys.path.insert(0, str(HERE / "module"))
+sys.path[:0] = [str(HERE), str(HERE / "module")]
 import lower
+import wording
 
 EXAMPLES = {"example": HERE.parent / "examples" / "veth.pcap", "options": HERE.parent / "examples" / "lessons" / "options.pcap"}
-# Where the program has its hints on captures and on lines of files: the page prints the same texts.
-CAPTURE_HINTS, LINE_HINTS = (HERE.parent / "crates" / "cli_report" / "src" / name for name in ("captures.rt", "files.rt"))
 # No scripts but the page's own, no styles but its own, no request, no form; a worker only of the page's own text.
 POLICY = ("default-src 'none'; script-src 'sha256-{script}' 'wasm-unsafe-eval'; style-src 'sha256-{style}'; worker-src blob:; "
           "base-uri 'none'; form-action 'none'")
@@ -150,42 +149,6 @@ def script():
     return f'// SPDX-License-Identifier: MIT OR Apache-2.0\n"use strict";\n(() => {{\n{joined}}})();\n'
 
 
-def bytes_of(literal):
-    """The bytes of a literal of Rust: `&[0x1f, b'7']` or `b"text"`."""
-    if text := re.fullmatch(r'b"(.*)"', literal):
-        return [*text[1].encode().decode("unicode_escape").encode("latin-1")]
-    return [int(number, 0) if number else ord(character) for number, character in re.findall(r"(0x\w+)|b'(.)'", literal)]
-
-
-# The texts on captures, and the link types that cooked.py takes, by the names that the page has for them.
-CAPTURE_TEXTS = {
-    "other": r'"(not a classic .*?)\{\}"', "link": r'"link type \{number\}\{\}(; .*?)"', "checked": r'"(link type 1 .*?)"',
-    "capture": r'"(capture on an Ethernet .*?)"', "convert": r'"(one that you have: .*?)"', "cooked": r"fn is_cooked\(number: u32\) -> bool \{\s+(.*)",
-    "short": r'"(it has \{\} bytes; .*?)"', "version": r'"(version \{major\}.*?)"', "torn": r'TornRecord\(_\), _\) => give_hint\(\s+"(.*?)"',
-    "fraction": r'"(its fraction [^"]*: the file is damaged)"\s', "smallFraction": r'"(its fraction .* microseconds)"',
-    "long": r'TooLong\(_\), _\) => give_hint\(\s+"(.*?)"',
-}
-
-
-def hints():
-    """What the program prints below faults that the library has no hints on: what files of other formats begin with, and what to do with them; the
-    forms of lines. A page has no standard input."""
-    captures, lines = CAPTURE_HINTS.read_text(), LINE_HINTS.read_text()
-    named = dict(re.findall(r'const (\w+): &str =\s+"((?:[^"\\]|\\.)*)";', captures + lines))
-    table = re.search(r"static OTHER_FORMATS: .*?= \[(.*?)\n\];", captures, re.S)
-    rows = re.findall(r'\(\s*(&\[.*?\]|b".*?"),\s*(?:"(.*?)"|(\w+)),?\s*\)', table[1] if table else "", re.S)
-    found = {name: re.search(form, captures) for name, form in CAPTURE_TEXTS.items()}
-    names = re.findall(r'^ +(\d[\d |]*) => "(.*?)",', captures, re.M)
-    is_known = table and len(rows) == table[1].count("(") and all(found.values()) and names and {"LISTENERS_OF_STEPS", "SCRIPT"} <= set(named)
-    if not is_known:
-        raise Refused(f"the hints of {CAPTURE_HINTS.parent} have another form, which this does not know")
-    formats = [[bytes_of(begins), (text or named[name]).removesuffix(", into a file or to /dev/stdin")] for begins, text, name in rows]
-    texts = {name: text[1] for name, text in found.items()}
-    numbers = lambda words: [int(number) for number in re.findall(r"\d+", words)]
-    links = {"linkNames": [[numbers(words), text] for words, text in names], "cooked": numbers(texts["cooked"])}
-    return {**texts, **links, "formats": formats, "listeners": named["LISTENERS_OF_STEPS"], "script": named["SCRIPT"]}
-
-
 def packed(content):
     return base64.b64encode(gzip.compress(content, 9, mtime=0)).decode()
 
@@ -194,15 +157,22 @@ def digest(text):
     return base64.b64encode(hashlib.sha256(text.encode()).digest()).decode()
 
 
+def program_texts():
+    try:
+        return wording.all_texts()
+    except wording.Unknown as why:
+        raise Refused(str(why)) from why
+
+
 def page_of(module, scripts=None):
     """The page of a module, with its own scripts if no others are named."""
     parts = {"script": scripts or script(), "style": (HERE / "style.css").read_text(), "module": packed(module)}
-    parts["hints"] = json.dumps(hints(), separators=(",", ":")).replace("<", "\\u003c")
+    parts["wording"] = json.dumps(program_texts(), separators=(",", ":")).replace("<", "\\u003c")
     parts.update({name: packed(path.read_bytes()) for name, path in EXAMPLES.items()})
     parts["policy"] = POLICY.format(script=digest(parts["script"]), style=digest(parts["style"]))
     if "</script" in parts["script"] or "</style" in parts["style"]:
         raise Refused("a script or the style ends the element that it is in")
-    return re.sub(r"@(policy|style|module|hints|example|options|script)@", lambda found: parts[found[1]], (HERE / "page.html").read_text())
+    return re.sub(r"@(policy|style|module|wording|example|options|script)@", lambda found: parts[found[1]], (HERE / "page.html").read_text())
 
 
 def make(bitcode, kit, work, out):

@@ -1,25 +1,26 @@
-// The page as a whole: what is typed and chosen, and which view follows which.
+// The page as a whole: what is typed and chosen, and which view follows which. A filter, a capture and its answers each have one place where they
+// change, which takes away what was shown of the one before.
 
+import { Answers, CaptureDesk } from "./answers.js";
+import { CaptureBar } from "./capturebar.js";
 import { ComparisonView } from "./comparison.js";
 import { Desk, Ended } from "./jobs.js";
 import { FilterView } from "./filter.js";
 import { GraphView } from "./graph.js";
 import { LessonView } from "./lessons.js";
-import { ListView, NO_ANSWERS } from "./list.js";
+import { ListView } from "./list.js";
 import { ListenersView } from "./listeners.js";
-import { OK } from "./library.js";
+import { MOST_LINK, linkTo, readLink } from "./state.js";
 import { PacketView } from "./packet.js";
-import { Stopped } from "./memory.js";
-import { captureOf, cutCapture, exampleOf } from "./captures.js";
-import { captureHint } from "./hints.js";
-import { counted, find, settled } from "./dom.js";
-import { linkTo, readState } from "./state.js";
-import { takeFiles } from "./files.js";
+import { captureOf, exampleOf } from "./captures.js";
+import { closeMenus, stoppable, takeKeys, takeTraps } from "./shell.js";
+import { coded, counted, find, settled } from "./dom.js";
+import { wording } from "./wording.js";
 
 /** @typedef {import("./library.js").Library} Library */
+/** @typedef {import("./capturebar.js").Source} Source */
 /** @typedef {import("./captures.js").Records} Records */
 /** @typedef {import("./filter.js").Filter} Filter */
-/** @typedef {import("./state.js").PageState} PageState */
 /**
  * A capture: its name, the file and the packets in it.
  * @typedef {{ name: string, file: Uint8Array, records: Records }} Capture
@@ -34,67 +35,74 @@ export class App {
   constructor(library, startWorker, examples) {
     this.library = library;
     this.examples = examples;
-    this.state = readState(location.hash);
-    /** @type {Filter | null} */
+    const desk = (/** @type {boolean} */ yields) => new Desk(startWorker, library.module, yields);
+    this.state = readLink("").state;
+    /**
+     * The last filter that could be read.
+     * @type {Filter | null}
+     */
     this.filter = null;
     /** @type {Capture | null} */
     this.capture = null;
-    this.source = exampleOf(examples, this.state.example);
-    const desk = (/** @type {boolean} */ yields) => new Desk(startWorker, library.module, yields);
-    this.packetDesk = desk(true);
+    /** @type {Source | null} */
+    this.source = null;
+    this.desk = new CaptureDesk(desk(true), wording().unseenTypes);
     this.write = settled(150, () => this.writeLink());
-    this.filterView = new FilterView((filter) => this.follow(filter));
+    this.bar = new CaptureBar((source) => this.open(source), (cut) => this.cut(cut));
+    this.filterView = new FilterView(() => this.read());
     this.graph = new GraphView(() => this.packet.go(this.packet.at));
     this.packet = new PacketView((trace, at) => this.mark(trace, at));
     this.list = new ListView((place) => this.choose(place));
-    this.comparison = new ComparisonView(desk(false), (packet, wire) => this.openWitness(packet, wire), this.write);
-    this.listeners = new ListenersView(desk(false), this.write);
+    this.comparison = new ComparisonView(library, desk(false), (packet, wire) => this.openWitness(packet, wire), this.write);
+    this.listeners = new ListenersView(library, desk(false), this.write);
     this.lessons = new LessonView();
-    [this.filterView, this.comparison, this.listeners].forEach((view) => view.use(library));
   }
 
   start() {
     find("about").textContent = `Library ${this.library.version()}. All is done in this page: nothing is sent anywhere.`;
     this.listen();
-    this.go(this.state);
+    this.go(location.hash);
   }
 
   listen() {
     // By now `writeLink` may have written the state before it into the address again.
-    window.addEventListener("hashchange", (event) => this.go(readState(new URL(event.newURL).hash)));
-    window.addEventListener("error", (event) => this.takeTrap(event, event.error));
-    window.addEventListener("unhandledrejection", (event) => this.takeTrap(event, event.reason));
-    document.addEventListener("keydown", (event) => this.key(event));
+    window.addEventListener("hashchange", (event) => this.go(new URL(event.newURL).hash));
+    takeTraps((why) => {
+      this.follow(null);
+      this.endOf(why);
+    });
+    takeKeys((key) => (this.state.view === "filters" ? this.packet : this.listeners).takesKey(key));
+    closeMenus();
     // A link to the address that is there already changes nothing in it.
     document.addEventListener("click", ({ target }) => {
       const link = target instanceof Element && target.closest("a");
-      if (link && link.hash && link.hash === location.hash) this.go(readState(link.hash));
+      if (link && link.hash && link.hash === location.hash) this.go(link.hash);
     });
-    takeFiles((name, file) => this.open({ name, file }));
     find("example-file").addEventListener("click", () => this.open(exampleOf(this.examples, "")));
-    find("cut").addEventListener("change", () => this.cut());
-    find("stop-packets").addEventListener("click", () => this.packetDesk.stop());
+    find("stop-packets").addEventListener("click", () => this.desk.desk.stop());
     find("show-filters").addEventListener("click", () => this.view("filters"));
     find("show-listeners").addEventListener("click", () => this.view("listeners"));
   }
 
   /**
-   * Shows a state, as a link has it.
-   * @param {PageState} state
+   * Shows what a link says.
+   * @param {string} hash
    */
-  go(state) {
+  go(hash) {
+    const { state, notes } = readLink(hash), { source } = this, { cut } = this.state, example = exampleOf(this.examples, state.example);
     // What a lesson says is of its capture, so its links open that in place of the user's.
-    const example = exampleOf(this.examples, state.example);
-    const isOther = state.example !== this.state.example || (state.lesson !== "" && this.source.file !== example.file);
-    const isCutAnew = isOther || this.capture === null || state.cut !== this.state.cut;
-    if (isOther) this.source = example;
+    const isOther = source === null || state.example !== this.state.example || (state.lesson !== "" && source.file !== example.file);
     this.state = state;
-    this.listeners.write(state);
+    find("notice").replaceChildren(...coded(notes.join("\n")));
     this.lessons.show(state);
-    if (isCutAnew) this.openCapture();
-    this.comparison.input.value = state.other;
-    this.filterView.write(state.filter);
-    if (!isCutAnew && state.packet >= 0) this.show(state.packet);
+    this.listeners.write(state);
+    this.comparison.write(state.other);
+    this.filterView.input.value = state.filter;
+    this.bar.write(state.cut);
+    if (isOther) this.source = example;
+    if (isOther || this.capture === null || state.cut !== cut) this.openCapture();
+    this.read();
+    this.show(state.packet);
     this.view(state.view);
   }
 
@@ -102,7 +110,9 @@ export class App {
   writeLink() {
     const { filterView, comparison, listeners } = this;
     Object.assign(this.state, listeners.plan, { filter: filterView.input.value, other: comparison.input.value });
-    history.replaceState(null, "", linkTo(this.state));
+    const link = linkTo(this.state);
+    find("too-long").hidden = link.length <= MOST_LINK;
+    history.replaceState(null, "", link.length <= MOST_LINK ? link : "#");
   }
 
   /** @param {string} view */
@@ -112,10 +122,17 @@ export class App {
       find(name).hidden = name !== view;
       find(`show-${name}`).setAttribute("aria-pressed", String(name === view));
     }
-    if (view === "listeners" && this.capture) {
-      this.listeners.open(this.capture);
-      this.listeners.play();
-    }
+    if (view === "listeners") this.listeners.play(this.capture);
+    this.write();
+  }
+
+  /** Reads what is typed. While it has a fault, the last filter that could be read stays, and all that is shown of it, dimmed. */
+  read() {
+    find("stopped").hidden = true;
+    const filter = this.filterView.read(this.library), isOld = filter === null && this.filter !== null;
+    const isSame = filter && this.filter && filter.expression === this.filter.expression;
+    if (isOld || isSame) this.filterView.show(this.filter, isOld);
+    else this.follow(filter);
     this.write();
   }
 
@@ -125,79 +142,74 @@ export class App {
    */
   follow(filter) {
     this.filter = filter;
-    find("stopped").hidden = true;
+    this.filterView.show(filter, false);
     this.graph.show(filter);
     this.comparison.follow(filter && filter.expression);
-    this.explain();
-    this.showPacket(this.list.chosen);
-    this.write();
+    this.show(this.list.chosen);
+    this.ask();
   }
 
-  /** @param {{ name: string, file: Uint8Array }} source */
+  /** @param {Source} source */
   open(source) {
     this.source = source;
     Object.assign(this.state, { packet: -1, example: "" });
     this.openCapture();
+    this.write();
   }
 
-  cut() {
-    const size = Number(/** @type {HTMLInputElement} */ (find("cut")).value);
-    this.state.cut = Number.isInteger(size) && size > 0 ? size : 0;
+  /** @param {number} cut */
+  cut(cut) {
+    this.state.cut = cut;
     this.openCapture();
+    this.write();
   }
 
-  /** Reads the records of the capture, each packet cut if that is wanted, and asks the filter about each. */
+  /**
+   * Goes on with another capture, or without one: nothing of the one before is shown.
+   * @param {Capture | null} capture
+   */
+  followCapture(capture) {
+    this.capture = capture;
+    this.list.open(capture && capture.records);
+    this.show(this.state.packet);
+    this.listeners.clear();
+    if (this.state.view === "listeners") this.listeners.play(capture);
+    this.ask();
+  }
+
+  /** Reads the records of the source, each packet cut if that is wanted. */
   async openCapture() {
-    const { name, file: whole } = this.source, { cut } = this.state;
-    /** @type {HTMLInputElement} */ (find("cut")).value = cut ? String(cut) : "";
-    this.capture = null;
-    const file = cut ? cutCapture(this.library, whole, cut) : whole;
+    const source = /** @type {Source} */ (this.source), { name } = source;
+    this.followCapture(null);
+    this.bar.wait(name);
     try {
-      const records = await this.packetDesk.ask("open", [file]);
-      this.capture = { name, file, records };
+      const opened = await stoppable(this.desk.open(source.file, this.state.cut, (count) => this.bar.wait(name, count)));
+      this.bar.show(this.library, source, opened.records);
+      this.followCapture({ name, ...opened });
     } catch (why) {
-      this.endOf(why);
-      return;
+      if (!(why instanceof Ended)) this.bar.refuse(name, `it was not read, since the library stopped (${/** @type {Error} */ (why).message})`);
+      else if (why.isByUser) this.bar.refuse(name, "not read, it was stopped");
     }
-    this.showName(this.capture);
-    this.list.open(this.capture.records);
-    this.show(Math.max(0, this.state.packet));
-    this.explain();
-    this.view(this.state.view);
-  }
-
-  /** @param {Capture} capture */
-  showName({ name, records }) {
-    const { fault, place, count } = records, text = fault === OK ? "" : `: ${this.library.faultText(fault, place)}`;
-    find("capture-name").textContent = `${name}, ${counted(count, "packet")}${text}${fault !== OK && count ? "; the packets before it are shown" : ""}`;
-    find("capture-hint").textContent = captureHint(this.source.file, fault);
-    find("capture-link").hidden = [...this.examples.values()].includes(this.source.file);
-    find("capture-name").classList.toggle("fault", fault !== OK);
-    find("counts").textContent = "";
   }
 
   /** Asks the filter about each packet of the capture. */
-  async explain() {
-    const { filter, capture } = this;
-    // Once a capture is read, it is explained.
-    if (!capture) return;
-    this.packetDesk.turnAway();
-    if (!filter) {
-      this.list.answer(NO_ANSWERS, true);
-      return;
-    }
-    const slow = setTimeout(() => (find("stop-packets").hidden = false), 200);
+  async ask() {
+    const { filter, capture, list } = this, answers = filter && capture && new Answers(capture.records.count);
+    if (capture) this.desk.desk.turnAway();
+    list.follow(answers);
+    find("unseen").hidden = filter === null || filter.expression.trim() === "";
+    if (!answers) return;
     try {
-      // A worker that was stopped has forgotten the capture.
-      if (!this.packetDesk.isOpen) await this.packetDesk.ask("open", [capture.file]);
-      const answers = await this.packetDesk.ask("ask", [filter.expression], (news) => this.list.answer(news, false));
-      this.list.answer(answers, true);
-      if (this.state.packet < 0) this.show(Math.max(0, answers.verdicts.indexOf(1)));
+      await stoppable(this.desk.ask(capture.file, filter.expression, (news) => {
+        answers.add(news);
+        list.grow();
+      }));
+      list.end();
+      if (this.state.packet < 0) this.show(-1);
     } catch (why) {
+      if (why instanceof Ended && !why.isByUser) return;
+      list.end();
       this.endOf(why);
-    } finally {
-      clearTimeout(slow);
-      find("stop-packets").hidden = true;
     }
   }
 
@@ -209,32 +221,20 @@ export class App {
   }
 
   /**
-   * Shows a packet, in the list too.
-   * @param {number} place
+   * Shows a packet, in the list and beside it; the first one that is accepted if none was chosen.
+   * @param {number} wanted
    */
-  show(place) {
-    this.list.show(this.hasPacket(place) ? place : -1);
-    this.showPacket(place);
-  }
-
-  /** @param {number} place */
-  hasPacket(place) {
-    return this.capture !== null && place >= 0 && place < this.capture.records.count;
-  }
-
-  /**
-   * Shows a packet beside the list. The list stays as it is, since to scroll it the browser has to lay out the page.
-   * @param {number} place
-   */
-  showPacket(place) {
-    const { capture } = this;
-    if (capture === null || !this.hasPacket(place)) {
-      this.packet.show(this.library, this.filter, null);
+  show(wanted) {
+    const { capture, library, filter, list: { answers } } = this, place = wanted < 0 && answers ? answers.firstYes : Math.max(0, wanted);
+    if (capture === null || place >= capture.records.count) {
+      this.list.show(-1);
+      this.packet.show(library, filter, null);
       if (capture && place > 0) find("packet-title").textContent = `No packet ${place}: the capture has ${counted(capture.records.count, "packet")}`;
       return;
     }
     const { offsets, captured, wire } = capture.records, begin = offsets[place];
-    this.packet.show(this.library, this.filter, { place, bytes: capture.file.subarray(begin, begin + captured[place]), wire: wire[place] });
+    this.list.show(place);
+    this.packet.show(library, filter, { place, bytes: capture.file.subarray(begin, begin + captured[place]), wire: wire[place] });
   }
 
   /**
@@ -254,27 +254,8 @@ export class App {
    */
   openWitness(packet, wire) {
     this.state.cut = 0;
-    this.open({ name: "the packet that shows the difference", file: captureOf(this.library, packet, wire) });
-  }
-
-  /** @param {KeyboardEvent} event */
-  key(event) {
-    const isTyped = event.target instanceof HTMLElement && event.target.matches("input:not([type=checkbox]), textarea, select");
-    if (isTyped || event.ctrlKey || event.altKey || event.metaKey) return;
-    const view = this.state.view === "filters" ? this.packet : this.listeners;
-    if (view.takesKey(event.key)) event.preventDefault();
-  }
-
-  /**
-   * Says that the library stopped in a call of the page's own. It has been started anew by then.
-   * @param {Event} event
-   * @param {unknown} why
-   */
-  takeTrap(event, why) {
-    if (!(why instanceof Stopped)) return;
-    event.preventDefault();
-    this.follow(null);
-    this.endOf(why);
+    this.bar.write(0);
+    this.open({ name: "the packet that shows the difference", file: captureOf(this.library, packet, wire), isOfPage: false });
   }
 
   /** @param {unknown} why work of a worker came to no end */

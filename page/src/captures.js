@@ -15,16 +15,19 @@ import { words } from "./memory.js";
  * @property {Uint32Array} nanos
  * @property {Uint32Array} captured
  * @property {Uint32Array} wire
+ * @property {number} unseen how many are of a type that no filter looks into
  * @property {number} fault
  * @property {number} place
  */
 
-const RECORD_SIZE = 40, READER_SIZE = 32, RECORDS_ROOM = 1024;
+/** The bytes of the header of an Ethernet frame, and where its type is. */
+export const ETHERNET_SIZE = 14, TYPE_AT = 12;
+const RECORD_SIZE = 40, READER_SIZE = 32, RECORDS_ROOM = 1024, RECORDS_PIECE = 4096;
 
 /** @returns {Records} */
-function noRecords() {
+export function noRecords() {
   const [seconds, nanos, captured, wire] = [0, 1, 2, 3].map(() => new Uint32Array(RECORDS_ROOM));
-  return { count: 0, offsets: new Float64Array(RECORDS_ROOM), seconds, nanos, captured, wire, fault: 0, place: 0 };
+  return { count: 0, offsets: new Float64Array(RECORDS_ROOM), seconds, nanos, captured, wire, unseen: 0, fault: 0, place: 0 };
 }
 
 /**
@@ -68,14 +71,26 @@ function append(library, at, records) {
 }
 
 /**
- * Reads the records of a capture that is in the library's memory, up to its end or its first fault.
+ * The type that an Ethernet frame names, or -1 if it was not captured.
+ * @param {Library} library
+ * @param {number} begin of the capture in the library's memory
+ * @param {Records} records
+ * @param {number} place
+ */
+function typeOf(library, begin, { offsets, captured }, place) {
+  return captured[place] < ETHERNET_SIZE ? -1 : library.view().getUint16(begin + offsets[place] + TYPE_AT, false);
+}
+
+/**
+ * Reads the records of a capture that is in the library's memory, up to its end or its first fault. It yields what gives how many it has read.
  * @param {Library} library
  * @param {Part} capture
- * @returns {Records}
+ * @param {number[]} unseenTypes of frames that no filter looks into
+ * @returns {Generator<() => number, Records, void>}
  */
-export function readRecords(library, capture) {
-  return library.within((take) => {
-    const reader = take(READER_SIZE), record = take(RECORD_SIZE), records = noRecords();
+export function* eachRecord(library, capture, unseenTypes) {
+  const records = noRecords(), taken = [READER_SIZE, RECORD_SIZE].map((size) => library.take(size)), [reader, record] = taken;
+  try {
     library.call("open", BigInt(reader), ...words(capture));
     records.fault = library.u32(reader + 16);
     while (records.fault === OK) {
@@ -84,6 +99,8 @@ export function readRecords(library, capture) {
       if (fault === END) break;
       if (fault === OK) {
         append(library, record, records);
+        if (unseenTypes.includes(typeOf(library, capture.at, records, records.count - 1))) records.unseen++;
+        if (records.count % RECORDS_PIECE === 0) yield () => records.count;
       } else {
         records.fault = fault;
         records.place = library.u64(record + 8);
@@ -91,7 +108,23 @@ export function readRecords(library, capture) {
     }
     resize(records, records.count);
     return records;
-  });
+  } finally {
+    taken.forEach((at) => library.give(at));
+  }
+}
+
+/**
+ * Reads them in one go.
+ * @param {Library} library
+ * @param {Part} capture
+ * @returns {Records}
+ */
+export function readRecords(library, capture) {
+  const reading = eachRecord(library, capture, []);
+  for (;;) {
+    const { done, value } = reading.next();
+    if (done) return /** @type {Records} */ (value);
+  }
 }
 
 /**
@@ -101,8 +134,8 @@ export function readRecords(library, capture) {
  */
 export function exampleOf(examples, wanted) {
   const file = examples.get(wanted);
-  if (file && wanted) return { name: `examples/lessons/${wanted}.pcap`, file };
-  return { name: "examples/veth.pcap", file: /** @type {Uint8Array} */ (examples.get("")) };
+  if (file && wanted) return { name: `examples/lessons/${wanted}.pcap`, file, isOfPage: true };
+  return { name: "examples/veth.pcap", file: /** @type {Uint8Array} */ (examples.get("")), isOfPage: true };
 }
 
 /**

@@ -58,6 +58,13 @@ export function find(id) {
 }
 
 /**
+ * The words of a text, with those between backquotes as code.
+ * @param {string} text
+ * @returns {(Node | string)[]}
+ */
+export const coded = (text) => text.split("`").map((part, at) => (at % 2 ? make("code", {}, part) : part));
+
+/**
  * A number of things.
  * @param {number} count
  * @param {string} thing

@@ -40,10 +40,11 @@ function boxOf(question, lines) {
  * @param {Box} box
  * @param {Question} question
  * @param {string[]} lines
+ * @param {string} ways where its answers lead
  */
-function drawNode(block, box, question, lines) {
-  const left = box.x - box.width / 2, { width, height } = box;
-  return makeSvg("g", { class: `node ${question.end}`, "data-block": block.first },
+function drawNode(block, box, question, lines, ways) {
+  const left = box.x - box.width / 2, { width, height } = box, label = `${question.title}${ways && ` ${ways}`}`;
+  return makeSvg("g", { class: `node ${question.end}`, "data-block": block.first, role: "listitem", "aria-label": label },
     makeSvg("rect", { x: left, y: box.y, width, height, rx: question.end ? 12 : 5 }),
     makeSvg("text", { class: "title", x: box.x, y: box.y + 16, "text-anchor": "middle" }, question.title),
     ...lines.map((line, at) => makeSvg("text", { class: "line", x: left + 8, y: box.y + 31 + at * LINE }, line)));
@@ -129,9 +130,11 @@ export function draw(program, image, hasLines) {
     const twin = all.findIndex((other, number) => number !== at && other.from === from);
     return { from, to, ...drawEdge(chains[at], answer, sideOf(chains[at], chains[twin], answer === "yes")) };
   });
-  const nodes = new Map(parts.map(({ block, box, question, lines }) => [block, drawNode(block, box, question, lines)]));
-  const svg = makeSvg("svg", { ...sizeOf(chains, boxes), role: "img", "aria-label": "the program as a graph" },
-    drawTip(), ...edges.map(({ path }) => path), ...edges.map(({ word }) => word), ...nodes.values());
+  const titleOf = (/** @type {Block} */ block) => /** @type {Question} */ (questions.get(block)).title;
+  const ways = (/** @type {Block} */ block) => block.edges.map(({ to, answer }) => `${answer || "then"}: ${titleOf(to)}`).join(" ");
+  const nodes = new Map(parts.map(({ block, box, question, lines }) => [block, drawNode(block, box, question, lines, ways(block))]));
+  const hidden = makeSvg("g", { "aria-hidden": "true" }, ...edges.map(({ path }) => path), ...edges.map(({ word }) => word));
+  const svg = makeSvg("svg", { ...sizeOf(chains, boxes), role: "list", "aria-label": "The program as a graph: its questions" }, drawTip(), hidden, ...nodes.values());
   return { svg, nodes, edges };
 }
 
@@ -141,17 +144,20 @@ export function draw(program, image, hasLines) {
  * @param {number[]} path the places of the instructions that were executed
  * @param {number} at where it is
  */
-export function lightWay({ svg, nodes, edges }, path, at) {
+export function lightWay({ nodes, edges }, path, at) {
   const places = new Set(path), order = [...nodes.keys()].filter(({ first }) => places.has(first));
   const follows = new Map(order.map((block, number) => [block, order[number + 1]]));
   for (const [block, node] of nodes) {
     node.classList.toggle("way", places.has(block.first));
-    node.classList.toggle("here", at >= block.first && at <= block.last && places.has(block.first));
+    const isHere = at >= block.first && at <= block.last && places.has(block.first);
+    node.classList.toggle("here", isHere);
+    if (isHere) node.setAttribute("aria-current", "step");
+    else node.removeAttribute("aria-current");
   }
   for (const { from, to, path: line } of edges) {
     const isOn = places.has(from.first) && follows.get(from) === to;
     line.classList.toggle("way", isOn);
     // What is drawn later is on top.
-    if (isOn) svg.insertBefore(line, svg.querySelector(".word, .node"));
+    if (isOn && line.parentNode) line.parentNode.insertBefore(line, line.parentNode.querySelector(".word"));
   }
 }

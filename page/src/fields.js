@@ -1,89 +1,79 @@
-// Names for the bytes of a frame, so that a person need not know its layout by heart. They are labels: nothing is decided by them.
+// Names for the bytes of a frame, as `explain -p` has them, so that a person need not know its layout by heart. They are labels: nothing is decided
+// by them.
 
+import { ETHERNET_SIZE, TYPE_AT } from "./captures.js";
+import { wording } from "./wording.js";
+
+/** @typedef {import("./wording.js").FieldRow} FieldRow */
 /**
  * How a value is written.
  * @typedef {(value: number) => string} Show
  */
 /** @typedef {{ name: string, show: Show }} Field */
 
-/** @param {number} value */
-export const hex = (value) => "0x" + (value >>> 0).toString(16);
 /** @type {Show} */
-export const decimal = (value) => String(value >>> 0);
+export const hex = (value) => "0x" + value.toString(16);
 /** @type {Show} */
-const dotted = (value) => [24, 16, 8, 0].map((shift) => (value >>> shift) & 255).join(".");
-
-export const IPV4 = 0x800, ARP = 0x806, RARP = 0x8035, IPV6 = 0x86dd;
-/** @type {Record<number, string>} */
-const TYPES = { [IPV4]: "IPv4", [ARP]: "ARP", [RARP]: "RARP", [IPV6]: "IPv6", 0x8100: "VLAN", 0x88a8: "VLAN (802.1ad)" };
-/** @type {Record<number, string>} */
-const PROTOCOLS = { 1: "ICMP", 2: "IGMP", 6: "TCP", 17: "UDP", 47: "GRE", 50: "ESP", 51: "AH", 58: "ICMPv6", 89: "OSPF", 132: "SCTP" };
-const ICMP = 1, TCP = 6, UDP = 17, SCTP = 132;
-
+export const decimal = (value) => String(value);
 /** @type {Show} */
-const typeName = (value) => TYPES[value] || hex(value);
-/** @type {Show} */
-const protocolName = (value) => PROTOCOLS[value] || decimal(value);
-
+export const dotted = (value) => [24, 16, 8, 0].map((shift) => (value >>> shift) & 255).join(".");
 /**
- * A row of a table: the first byte, how many there are, the name, and how the value is written.
- * @typedef {[number, number, string, Show]} Row
+ * As addresses of Ethernet are written, or parts of them.
+ * @param {number} size
+ * @returns {Show}
  */
+const colons = (size) => (value) => value.toString(16).padStart(2 * size, "0").replace(/..(?=.)/g, "$&:");
 
-/** @type {Row[]} */
-const ETHERNET = [
-  [0, 6, "destination MAC", hex], [0, 2, "destination MAC, bytes 0-1", hex], [0, 4, "destination MAC, bytes 0-3", hex],
-  [2, 4, "destination MAC, bytes 2-5", hex], [4, 2, "destination MAC, bytes 4-5", hex], [0, 1, "destination MAC, byte 0", hex],
-  [6, 6, "source MAC", hex], [6, 2, "source MAC, bytes 0-1", hex], [6, 4, "source MAC, bytes 0-3", hex],
-  [8, 4, "source MAC, bytes 2-5", hex], [10, 2, "source MAC, bytes 4-5", hex], [12, 2, "ethertype", typeName],
-];
-/** @type {Row[]} */
-const IPV4_HEADER = [
-  [14, 1, "IPv4 version and header length", hex], [16, 2, "IPv4 length", decimal], [18, 2, "identification", hex],
-  [20, 2, "fragment offset", hex], [22, 1, "time to live", decimal], [23, 1, "protocol", protocolName],
-  [26, 4, "source address", dotted], [30, 4, "destination address", dotted],
-];
-/** @type {Row[]} */
-const ARP_PACKET = [
-  [20, 2, "ARP operation", decimal], [28, 4, "ARP sender", dotted], [38, 4, "ARP target", dotted],
-];
-/** @type {Row[]} */
-const IPV6_HEADER = [
-  [20, 1, "next header", protocolName], [54, 2, "source port", decimal], [56, 2, "destination port", decimal],
-];
+export const IPV4 = 0x800, ARP = 0x806, RARP = 0x8035;
+const PROTOCOL_AT = 23, FRAGMENT_AT = 20, OFFSET_BITS = 0x1fff, ADDRESS_SIZE = 6;
 /**
- * After the IPv4 header.
- * @type {Row[]}
+ * The header that follows that of IPv4, by its protocol.
+ * @type {Record<number, string>}
  */
-const PORTS = [[0, 2, "source port", decimal], [2, 2, "destination port", decimal], [13, 1, "TCP flags", hex]];
-/** @type {Row[]} */
-const ICMP_HEADER = [[0, 1, "ICMP type", decimal], [1, 1, "ICMP code", decimal]];
+const PAYLOADS = { 1: "ICMP", 6: "TCP", 17: "UDP", 132: "SCTP" };
+export const FRAGMENT = "flags and fragment offset", CONTROL = "control bits", TYPE = "ethertype", PROTOCOL = "protocol";
+
+/** @type {Record<string, Show>} */
+const NOTATIONS = {
+  Decimal: decimal,
+  Dotted: dotted,
+  EtherType: (value) => wording().typeNames[value] || hex(value),
+  Protocol: (value) => wording().protocolNames[value] || decimal(value),
+};
 
 /**
- * @param {Row[]} rows
+ * What the flags and the fragment offset of an IPv4 header say, with the offset in bytes.
+ * @type {Show}
+ */
+function fragmentText(value) {
+  const offset = 8 * (value & OFFSET_BITS), isMore = (value & 0x2000) !== 0, kind = isMore ? "more fragments" : offset ? "last fragment" : "no fragment";
+  return `${kind}${isMore || offset ? `, offset ${offset}` : ""}${value & 0x4000 ? ", don't fragment" : ""}`;
+}
+
+/**
+ * The field of a header that these bytes are, or are part of.
+ * @param {string | undefined} header
  * @param {number} at
  * @param {number} size
  * @returns {Field | null}
  */
-function findRow(rows, at, size) {
-  const row = rows.find(([begin, length]) => begin === at && length === size);
-  return row ? { name: row[2], show: row[3] } : null;
+function findPart(header, at, size) {
+  /** @type {FieldRow[]} */
+  const rows = (header && wording().headers[header]) || [];
+  const row = rows.find(([begin, length]) => begin <= at && at + size <= begin + length);
+  if (!row) return null;
+  const [begin, length, name, notation] = row, isAddress = length === ADDRESS_SIZE, first = at - begin, last = first + size - 1;
+  if (size === length) return { name, show: isAddress ? colons(size) : NOTATIONS[notation] || hex };
+  return { name: `${name}, ${size > 1 ? `bytes ${first}-${last}` : `byte ${first}`}`, show: isAddress && size > 1 ? colons(size) : hex };
 }
 
 /**
- * @param {number} at
- * @param {number} size
- */
-const placeName = (at, size) => (size > 1 ? `bytes ${at}-${at + size - 1}` : `byte ${at}`);
-
-/**
  * @param {number | null} type the ethertype, if it is known
- * @returns {Row[]}
+ * @returns {string | undefined}
  */
-function rowsOf(type) {
-  if (type === IPV4) return IPV4_HEADER;
-  if (type === IPV6) return IPV6_HEADER;
-  return type === ARP || type === RARP ? ARP_PACKET : [];
+function headerOf(type) {
+  if (type === IPV4) return "IPV4";
+  return type === ARP || type === RARP ? "ARP" : undefined;
 }
 
 /**
@@ -94,19 +84,20 @@ function rowsOf(type) {
  * @returns {Field}
  */
 export function frameField(at, size, type) {
-  return findRow(ETHERNET, at, size) || findRow(rowsOf(type), at, size) || { name: placeName(at, size), show: hex };
+  const found = at < ETHERNET_SIZE ? findPart("ETHERNET", at, size) : findPart(headerOf(type), at - ETHERNET_SIZE, size);
+  return found || { name: size > 1 ? `bytes ${at}-${at + size - 1}` : `byte ${at}`, show: hex };
 }
 
 /**
- * Bytes after a header whose length is in X, for a filter of this ethertype.
+ * Bytes after the header of IPv4, whose length is in X. Without a protocol these are the ports, if they can be.
  * @param {number} k
  * @param {number} size
- * @param {number | null} type
+ * @param {number | null} protocol
  * @returns {Field}
  */
-export function indexedField(k, size, type) {
-  const isPort = type === IPV4 && k >= 14 ? findRow([...PORTS, ...ICMP_HEADER], k - 14, size) : null;
-  return isPort || { name: `${size > 1 ? "bytes" : "byte"} at X + ${k}`, show: hex };
+export function indexedField(k, size, protocol) {
+  const found = findPart(protocol === null ? "PORTS" : PAYLOADS[protocol], k - ETHERNET_SIZE, size);
+  return found || { name: size > 1 ? `${size} bytes at X + ${k}` : `byte X + ${k}`, show: hex };
 }
 
 /**
@@ -119,15 +110,6 @@ export function valueAt(packet, at, size) {
 }
 
 /**
- * What the flags and the fragment offset of an IPv4 header say, with the offset in bytes.
- * @type {Show}
- */
-function fragmentText(value) {
-  const offset = 8 * (value & 0x1fff), isMore = (value & 0x2000) !== 0, kind = isMore ? "more fragments" : offset ? "last fragment" : "no fragment";
-  return `${kind}${isMore || offset ? `, offset ${offset}` : ""}${value & 0x4000 ? ", don't fragment" : ""}`;
-}
-
-/**
  * Bytes of a packet, by what the packet is.
  * @param {Uint8Array} packet
  * @param {number} at
@@ -135,12 +117,9 @@ function fragmentText(value) {
  * @returns {Field}
  */
 export function packetField(packet, at, size) {
-  const type = packet.length < 14 ? null : valueAt(packet, 12, 2), begin = 14 + 4 * ((packet[14] || 0) & 15), protocol = packet[23];
-  if (type === IPV4 && at >= begin && (valueAt(packet, 20, 2) & 0x1fff) === 0) {
-    const rows = protocol === ICMP ? ICMP_HEADER : [TCP, UDP, SCTP].includes(protocol) ? PORTS : [];
-    const found = findRow(rows, at - begin, size);
-    if (found) return found;
-  }
-  if (type === IPV4 && at === 20 && size === 2) return { name: "flags and fragment offset", show: fragmentText };
-  return frameField(at, size, type);
+  const type = packet.length < ETHERNET_SIZE ? null : valueAt(packet, TYPE_AT, 2), payload = ETHERNET_SIZE + 4 * ((packet[ETHERNET_SIZE] || 0) & 15);
+  const isFirst = packet.length > PROTOCOL_AT && (valueAt(packet, FRAGMENT_AT, 2) & OFFSET_BITS) === 0;
+  const inside = type === IPV4 && isFirst && at >= payload ? findPart(PAYLOADS[packet[PROTOCOL_AT]], at - payload, size) : null;
+  const field = inside || frameField(at, size, type);
+  return field.name === FRAGMENT ? { name: FRAGMENT, show: fragmentText } : field;
 }

@@ -3,16 +3,21 @@
 import { find } from "./dom.js";
 
 /**
- * Calls with each file that is given, once it is read.
+ * Calls with each file that is given, once it is read; of files that are given while one is being read with the last one.
+ * @param {(text: string) => void} say
  * @param {(name: string, file: Uint8Array) => void} onFile
  */
-export function takeFiles(onFile) {
+export function takeFiles(say, onFile) {
+  let given = 0;
   const read = async (/** @type {File | undefined} */ file) => {
     if (!file) return;
+    const number = ++given;
+    say(`${file.name}: reading…`);
     try {
-      onFile(file.name, new Uint8Array(await file.arrayBuffer()));
+      const bytes = new Uint8Array(await file.arrayBuffer());
+      if (number === given) onFile(file.name, bytes);
     } catch (why) {
-      find("capture-hint").textContent = `cannot read ${file.name}: ${why instanceof Error ? why.message : why}`;
+      if (number === given) say(`cannot read ${file.name}: ${why instanceof Error ? why.message : why}`);
     }
   };
   /** @type {HTMLInputElement} */

@@ -2,14 +2,14 @@
 
 import { OK } from "./library.js";
 import { decode } from "./program.js";
-import { counted, find, make } from "./dom.js";
+import { coded, counted, find, make } from "./dom.js";
 
 /** @typedef {import("./library.js").Library} Library */
 /** @typedef {import("./program.js").Insn} Insn */
 /** @typedef {import("./library.js").Executed} Executed */
 /**
  * An expression that has a program; the image has its instructions by names.
- * @typedef {{ expression: string, insns: Uint8Array, program: Insn[], image: string[] }} Filter
+ * @typedef {{ expression: string, canonical: string, insns: Uint8Array, program: Insn[], image: string[] }} Filter
  */
 
 /** What a hint names that only the command has: another command's words, and its option for files. */
@@ -26,21 +26,28 @@ export function caret(text, place) {
 }
 
 /**
- * What explains a fault of an expression: the caret if it has a place, its name, and what helps to fix it.
+ * The name of a fault, in small letters: what it says in words comes first.
+ * @param {Library} library
+ * @param {{ fault: number, place: number }} answer
+ */
+export const nameOf = (library, { fault, place }) => make("small", { class: "name" }, library.faultText(fault, place));
+
+/**
+ * What explains a fault of an expression: the caret if it has a place, what helps to fix it, and its name.
  * @param {Library} library
  * @param {string} expression
  * @param {{ fault: number, place: number }} answer
- * @returns {{ fault: string, hint: string }}
+ * @returns {Node[]}
  */
-export function explain(library, expression, answer) {
-  const { fault, place } = answer, name = library.faultText(fault, place), hint = library.hint(expression, answer);
-  return { fault: / \d+$/.test(name) ? `${caret(expression, place)}\n${name}` : name, hint: hint + (OF_COMMAND.test(hint) ? NO_COMMAND : "") };
+export function refusal(library, expression, answer) {
+  const name = nameOf(library, answer), hint = library.hint(expression, answer), hasPlace = / \d+$/.test(name.textContent || "");
+  const sentence = make("p", { class: "hint" }, ...coded(hint + (OF_COMMAND.test(hint) ? NO_COMMAND : "")));
+  return [...(hasPlace ? [make("pre", { "aria-hidden": "true" }, caret(expression, answer.place))] : []), sentence, name];
 }
 
 export class FilterView {
-  /** @param {(filter: Filter | null) => void} onFilter is called after each edit */
-  constructor(onFilter) {
-    this.onFilter = onFilter;
+  /** @param {() => void} onEdit is called after each edit */
+  constructor(onEdit) {
     /** @type {HTMLInputElement} */
     this.input = find("filter");
     /**
@@ -49,43 +56,36 @@ export class FilterView {
      */
     this.lines = [];
     this.frame = 0;
-    this.input.addEventListener("input", () => this.read());
-  }
-
-  /** @param {Library} library */
-  use(library) {
-    this.library = library;
-  }
-
-  /** @param {string} expression */
-  write(expression) {
-    this.input.value = expression;
-    this.read();
-  }
-
-  read() {
-    const library = /** @type {Library} */ (this.library), expression = this.input.value, answer = library.compile(expression);
-    if (answer.fault !== OK) {
-      this.show(explain(library, expression, answer), "", []);
-      this.onFilter(null);
-      return;
-    }
-    const image = library.image(answer.insns).text.trimEnd().split("\n").map((line) => line.replace("\t", " "));
-    this.show({ fault: "", hint: "" }, library.print(expression).text, image);
-    this.onFilter({ expression, insns: answer.insns, program: decode(answer.insns), image });
+    this.input.addEventListener("input", onEdit);
   }
 
   /**
-   * @param {{ fault: string, hint: string }} refusal
-   * @param {string} canonical
-   * @param {string[]} image
+   * Reads what is typed, and explains it if it is no expression.
+   * @param {Library} library
+   * @returns {Filter | null}
    */
-  show({ fault, hint }, canonical, image) {
-    find("fault").textContent = fault;
-    find("hint").textContent = hint;
-    this.input.setAttribute("aria-invalid", String(fault !== ""));
-    const count = counted(image.length, "instruction");
-    find("canonical").replaceChildren(...(fault ? [] : ["read as ", make("code", {}, canonical || "(every packet)"), `: ${count}`]));
+  read(library) {
+    const expression = this.input.value;
+    const answer = library.compile(expression);
+    const isRead = answer.fault === OK;
+    find("fault").replaceChildren(...(isRead ? [] : refusal(library, expression, answer)));
+    this.input.setAttribute("aria-invalid", String(!isRead));
+    if (!isRead) return null;
+    const image = library.image(answer.insns).text.trimEnd().split("\n").map((line) => line.replace("\t", " "));
+    return { expression, canonical: library.print(expression).text, insns: answer.insns, program: decode(answer.insns), image };
+  }
+
+  /**
+   * Shows how a filter was read, and its instructions.
+   * @param {Filter | null} filter
+   * @param {boolean} isOld whether what is typed since then cannot be read
+   */
+  show(filter, isOld) {
+    const image = filter ? filter.image : [], canonical = make("code", {}, (filter && filter.canonical) || "(every packet)");
+    const begin = isOld ? "Still shown, the last filter that could be read: " : "read as ";
+    find("filters").classList.toggle("old", isOld);
+    find("canonical").replaceChildren(...(filter ? [begin, canonical, `: ${counted(image.length, "instruction")}`] : []));
+    if (isOld) return;
     const width = Math.max(0, ...image.map((line) => line.length)) + 2;
     this.lines = image.map((line) => make("span", { class: "insn" }, line.padEnd(width), make("span", { class: "registers" }), "\n"));
     find("listing").replaceChildren(...this.lines);

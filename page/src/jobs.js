@@ -7,11 +7,11 @@ import { replay } from "./steps.js";
 /** @typedef {import("./library.js").Comparison} Comparison */
 /** @typedef {import("./steps.js").Plan} Plan */
 
-/** How long a worker goes on without a look at its letter box, in milliseconds. */
-const TURN = 25;
+/** How long a worker goes on without a look at its letter box, and how long it is silent, in milliseconds. */
+const TURN = 50, SILENCE = 200;
 
 /**
- * The work that a worker can be given. A generator yields news while it works, and is given up when the next letter comes.
+ * The work that a worker can be given. A generator yields what gives its news, and is given up when the next letter comes.
  * @param {Library} library
  * @returns {Record<string, (...given: any[]) => any>}
  */
@@ -19,23 +19,24 @@ function jobsOf(library) {
   return {
     ...captureJobs(library),
     compare: (/** @type {string} */ first, /** @type {string} */ second, /** @type {number} */ budget) => library.compare(first, second, budget),
-    steps: (/** @type {Plan} */ plan, /** @type {Uint8Array} */ capture) => ({
+    steps: (/** @type {Plan} */ plan, /** @type {Uint8Array} */ capture, /** @type {boolean} */ isDrawn) => ({
       reports: replay(library, "steps", plan, capture),
       answers: replay(library, "steps_answers", plan, capture),
-      picture: replay(library, "picture", plan, capture),
+      picture: isDrawn ? replay(library, "picture", plan, capture) : null,
     }),
   };
 }
 
-/** Answers letters in a worker: the first one is the module. */
+/** Answers letters in a worker: the first one is the module. One without work gives up what is being done. */
 export function serve() {
   /** @type {ReturnType<typeof jobsOf>} */
   let jobs, latest = 0;
   /**
    * @param {number} number
    * @param {Generator} work
+   * @param {number} told when there was news
    */
-  const goOn = (number, work) => {
+  const goOn = (number, work, told) => {
     if (number !== latest) {
       work.return(undefined);
       return;
@@ -44,8 +45,9 @@ export function serve() {
     let step;
     do step = work.next();
     while (!step.done && performance.now() < until);
-    postMessage({ number, done: step.done, value: step.value });
-    if (!step.done) setTimeout(() => goOn(number, work));
+    const now = performance.now(), isNews = step.done || now - told >= SILENCE;
+    if (isNews) postMessage({ number, done: step.done, value: step.done ? step.value : step.value() });
+    if (!step.done) setTimeout(() => goOn(number, work, isNews ? now : told));
   };
   self.onmessage = ({ data }) => {
     if (data.module) {
@@ -53,14 +55,21 @@ export function serve() {
       return;
     }
     latest = data.number;
+    if (!data.name) return;
     const begun = jobs[data.name](...data.given);
-    if (begun && typeof begun.next === "function") goOn(latest, begun);
+    if (begun && typeof begun.next === "function") goOn(latest, begun, 0);
     else postMessage({ number: latest, done: true, value: begun });
   };
 }
 
 /** The work was stopped before it was done: by its user, or by the next work. */
-export class Ended extends Error {}
+export class Ended extends Error {
+  /** @param {boolean} isByUser */
+  constructor(isByUser) {
+    super(isByUser ? "stopped" : "the next question came");
+    this.isByUser = isByUser;
+  }
+}
 
 /** A worker, seen from the page. It does one piece of work at a time: the next one takes the place of the one before. */
 export class Desk {
@@ -95,14 +104,14 @@ export class Desk {
 
   /** Gives up the work that is being done, for the next one. */
   turnAway() {
-    const why = new Ended("the next question came");
-    if (this.waiting && !this.yields) this.stop(why);
-    else this.leave(why);
-  }
-
-  /** Whether its worker has been started, and remembers what it was given. */
-  get isOpen() {
-    return this.worker !== null;
+    const why = new Ended(false);
+    if (!this.waiting) return;
+    if (!this.yields) {
+      this.stop(why);
+      return;
+    }
+    if (this.worker) this.worker.postMessage({ number: ++this.number });
+    this.leave(why);
   }
 
   open() {
@@ -138,7 +147,7 @@ export class Desk {
    * Ends the worker; the next question starts another one.
    * @param {Error} why
    */
-  stop(why = new Ended("stopped")) {
+  stop(why = new Ended(true)) {
     if (this.worker) this.worker.terminate();
     this.worker = null;
     this.leave(why);

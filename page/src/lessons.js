@@ -1,7 +1,7 @@
 // The lessons of examples/lessons that can be done in the page: what to look at, and a link to it.
 
-import { find, make } from "./dom.js";
-import { linkTo, readState } from "./state.js";
+import { coded, find, make } from "./dom.js";
+import { linkTo, readLink } from "./state.js";
 
 /** @typedef {import("./state.js").PageState} PageState */
 /**
@@ -115,31 +115,45 @@ const LESSONS = [
   },
 ];
 
-/**
- * The words of a text, with those between backquotes as code.
- * @param {string} text
- */
-const withCode = (text) => text.split("`").map((part, at) => (at % 2 ? make("code", {}, part) : part));
-
 export class LessonView {
   /** Puts a link to each lesson into the page's list. */
   constructor() {
+    /**
+     * The lesson that is shown.
+     * @type {Lesson | undefined}
+     */
+    this.lesson = undefined;
     const link = (/** @type {Lesson} */ { name, title, stops }) => make("a", { href: linkTo({ ...stops[0].show, lesson: name }) }, title);
     find("lessons").replaceChildren(...LESSONS.map((lesson) => make("li", {}, link(lesson))));
   }
 
-  /** @param {PageState} state */
+  /**
+   * Shows the lesson of a state, and which of its stops that is. The links stay the same elements, so the focus stays on them.
+   * @param {PageState} state
+   */
   show(state) {
-    const lesson = LESSONS.find(({ name }) => name === state.lesson), panel = find("lesson");
+    const lesson = LESSONS.find(({ name }) => name === state.lesson), panel = find("lesson"), isOpened = lesson !== undefined && lesson !== this.lesson;
+    const isByMenu = isOpened && document.activeElement !== null && document.activeElement.closest("#lessons") !== null;
+    if (isOpened) panel.replaceChildren(...this.parts(lesson));
+    this.lesson = lesson;
     panel.hidden = lesson === undefined;
     if (!lesson) return;
-    const here = linkTo(state);
-    const stops = lesson.stops.map(({ say, show }) => {
-      const href = linkTo({ ...show, lesson: lesson.name }), isHere = linkTo(readState(href)) === here;
-      return make("li", {}, make("a", { href, "aria-current": isHere ? "step" : undefined }, ...withCode(say)));
+    const here = linkTo(state), links = /** @type {NodeListOf<HTMLAnchorElement>} */ (panel.querySelectorAll("li a"));
+    links.forEach((link) => {
+      if (linkTo(readLink(link.hash).state) === here) link.setAttribute("aria-current", "step");
+      else link.removeAttribute("aria-current");
     });
-    panel.replaceChildren(make("h2", {}, `Lesson: ${lesson.title}`), make("ol", {}, ...stops),
-      make("p", { class: "soft" }, `The whole lesson, with questions, is examples/lessons/${lesson.name}.md. `,
-        make("a", { href: linkTo({ ...state, lesson: "" }) }, "Close the lesson")));
+    /** @type {HTMLAnchorElement} */ (panel.querySelector(".close")).href = linkTo({ ...state, lesson: "" });
+    if (isByMenu) links[0].focus();
+  }
+
+  /** @param {Lesson} lesson */
+  parts({ name, title, stops }) {
+    const links = stops.map(({ say, show }) => make("li", {}, make("a", { href: linkTo({ ...show, lesson: name }) }, ...coded(say))));
+    return [
+      make("h2", {}, `Lesson: ${title}`),
+      make("ol", {}, ...links),
+      make("p", { class: "soft" }, `The whole lesson, with questions, is examples/lessons/${name}.md. `, make("a", { class: "close" }, "Close the lesson")),
+    ];
   }
 }

@@ -1,17 +1,15 @@
-// The list of a capture's packets: only the rows in sight are in the page, so that it scrolls with 100,000 of them.
+// The list of a capture's packets: only the rows in sight are in the page, so that it scrolls with a million of them.
 
 import { VERDICTS } from "./library.js";
 import { counted, find, make } from "./dom.js";
 import { lengthText } from "./packet.js";
+import { wording } from "./wording.js";
 
 /** @typedef {import("./captures.js").Records} Records */
-/** @typedef {import("./packets.js").Answers} Answers */
+/** @typedef {import("./answers.js").Answers} Answers */
 
-/** The height of a row in pixels, as the style says. */
-const ROW_HEIGHT = 22;
-
-/** @type {Answers} */
-export const NO_ANSWERS = { count: 0, verdicts: new Uint8Array(), reasons: new Uint32Array(), texts: [] };
+/** The height of a row in pixels, as the style says, and of the highest element that all browsers show. */
+const ROW_HEIGHT = 22, MOST_HEIGHT = 8e6, MOST_REASONS = 100;
 
 /**
  * The time of day of a packet.
@@ -22,22 +20,35 @@ function timeText(seconds, nanos) {
   return new Date(seconds * 1000).toISOString().slice(11, 19) + "." + String(nanos).padStart(9, "0").slice(0, 6);
 }
 
+/**
+ * How many frames no filter looks into, as the program says it.
+ * @param {Records} records
+ */
+function unseenText({ count, unseen }) {
+  const are = unseen === 1 ? "is" : "are";
+  return unseen ? wording().unseen.replace("{unseen}", String(unseen)).replace("{frames}", String(count)).replace("{are}", are) : "";
+}
+
 export class ListView {
   /** @param {(place: number) => void} onChosen */
   constructor(onChosen) {
     this.onChosen = onChosen;
     /** @type {Records | null} */
     this.records = null;
-    this.answers = NO_ANSWERS;
+    /** @type {Answers | null} */
+    this.answers = null;
     this.chosen = -1;
+    /**
+     * The places that are shown, of the first packets that were answered; all packets if there is nothing.
+     * @type {Uint32Array | null}
+     */
+    this.places = null;
+    this.size = 0;
+    this.taken = 0;
+    this.frame = 0;
     this.box = find("packets");
     /** @type {HTMLSelectElement} */
     this.only = find("only");
-    /**
-     * The places that are shown.
-     * @type {Uint32Array}
-     */
-    this.shown = new Uint32Array();
     this.box.addEventListener("scroll", () => this.drawRows());
     this.box.addEventListener("click", (event) => this.click(/** @type {Element} */ (event.target)));
     this.box.addEventListener("keydown", (event) => this.key(event));
@@ -45,66 +56,113 @@ export class ListView {
     new ResizeObserver(() => this.drawRows()).observe(this.box);
   }
 
-  /** @param {Records} records of a capture that is shown from now on */
+  /** @param {Records | null} records of a capture that is shown from now on, without answers */
   open(records) {
     this.records = records;
-    this.answers = NO_ANSWERS;
     this.chosen = -1;
     this.only.value = "";
     this.box.scrollTop = 0;
-    this.choose();
+    find("unseen").textContent = records ? unseenText(records) : "";
+    this.follow(null);
   }
 
   /**
-   * @param {Answers} answers of a filter to the first packets, or to all; without a filter the same packets stay
+   * Shows the answers of another filter from now on, or none. What was of the one before is gone.
+   * @param {Answers | null} answers of which none came yet
+   */
+  follow(answers) {
+    this.answers = answers;
+    this.only.disabled = answers === null;
+    this.offer(false);
+    find("counts").textContent = "";
+    this.take(true);
+    cancelAnimationFrame(this.frame);
+    this.frame = requestAnimationFrame(() => this.drawRows());
+  }
+
+  /** Shows the answers that have come. */
+  grow() {
+    this.count((counts, count, total) => `${count} of ${counted(total, "packet")} so far: ${counts}`);
+    this.take(false);
+    this.drawRows();
+  }
+
+  /** Shows that no further answers come: all are here, or the work was stopped. */
+  end() {
+    const isWhole = this.answers !== null && this.answers.count === this.answers.total;
+    this.count((counts, count, total) => (isWhole ? `${counted(total, "packet")}: ${counts}` : `Stopped after ${count} of ${counted(total, "packet")}: ${counts}`));
+    this.offer(true);
+    this.choose();
+  }
+
+  /** @param {(counts: string, count: number, total: number) => string} say */
+  count(say) {
+    if (!this.answers) return;
+    const { byVerdict: [no, yes, abort], count, total } = this.answers;
+    find("counts").textContent = total ? say(`${yes} Yes, ${no} No, ${abort} Abort`, count, total) : "";
+  }
+
+  /**
+   * Offers each verdict and each reason that came, and at the end how many packets have it.
    * @param {boolean} isLast
    */
-  answer(answers, isLast) {
-    this.answers = answers;
-    this.only.disabled = answers === NO_ANSWERS;
-    if (this.only.disabled) {
-      find("counts").textContent = "";
-      this.drawRows();
-      return;
-    }
-    if (isLast) this.offerReasons();
-    if (isLast || this.only.value === "") this.choose();
-  }
-
-  /** Offers each verdict and each reason, with how many packets have it. */
-  offerReasons() {
-    const { count, reasons, verdicts, texts } = this.answers, of = new Uint32Array(texts.length), all = [0, 0, 0];
-    for (let at = 0; at < count; at++) {
-      of[reasons[at]]++;
-      all[verdicts[at]]++;
-    }
+  offer(isLast) {
+    const kept = this.only.value, { byVerdict, byReason, texts } = this.answers || { byVerdict: [], byReason: [], texts: [] };
     const option = (/** @type {string} */ value, /** @type {string} */ text) => make("option", { value, selected: value === kept }, text);
-    const kept = this.only.value, order = texts.map((_, number) => number).sort((one, other) => of[other] - of[one]);
-    this.only.replaceChildren(
-      option("", "all"),
-      ...VERDICTS.map((verdict, number) => option(verdict, `${all[number]} ${verdict}`)),
-      ...order.slice(0, 100).map((number) => option("=" + texts[number], `${of[number]}: ${texts[number]}`)));
-    find("counts").textContent = count ? `${counted(count, "packet")}: ${all[1]} Yes, ${all[0]} No, ${all[2]} Abort` : "";
+    const order = texts.map((_, number) => number).sort((one, other) => byReason[other] - byReason[one]);
+    const reasons = isLast ? order.slice(0, MOST_REASONS).map((number) => option("=" + texts[number], `${byReason[number]}: ${texts[number]}`)) : [];
+    const verdicts = VERDICTS.map((verdict, number) => option(verdict, isLast ? `${byVerdict[number]} ${verdict}` : verdict));
+    // A reason that was chosen before may come.
+    if (!isLast && kept.startsWith("=")) reasons.push(option(kept, kept.slice(1)));
+    this.only.replaceChildren(option("", "all"), ...verdicts, ...reasons);
   }
 
-  /** Takes the packets that are wanted into the list. */
+  /** Shows the packets that are wanted. */
   choose() {
-    const count = this.records ? this.records.count : 0, { verdicts, reasons, texts } = this.answers, only = this.only.value;
-    const places = new Uint32Array(count), reason = texts.indexOf(only.slice(1)), verdict = VERDICTS.indexOf(only);
-    let size = 0;
-    for (let at = 0; at < count; at++) {
-      const isWanted = only === "" || (at < this.answers.count && (verdict >= 0 ? verdicts[at] === verdict : reasons[at] === reason));
-      if (isWanted) places[size++] = at;
-    }
-    this.shown = places.subarray(0, size);
-    find("rows").style.height = `${size * ROW_HEIGHT}px`;
+    this.take(true);
     this.drawRows();
+  }
+
+  /**
+   * Takes the packets that are wanted into the list.
+   * @param {boolean} isAnew whether those of before are thrown away
+   */
+  take(isAnew) {
+    const { answers } = this, only = this.only.value, total = this.records ? this.records.count : 0;
+    if (isAnew) [this.places, this.size, this.taken] = [only === "" ? null : new Uint32Array(total), 0, 0];
+    if (this.places && answers) {
+      const verdict = VERDICTS.indexOf(only), values = verdict < 0 ? answers.reasons : answers.verdicts;
+      const wanted = verdict < 0 ? answers.texts.indexOf(only.slice(1)) : verdict;
+      for (; this.taken < answers.count; this.taken++) if (values[this.taken] === wanted) this.places[this.size++] = this.taken;
+    }
+    if (!this.places) this.size = total;
+    find("rows").style.height = `${Math.min(MOST_HEIGHT, this.size * ROW_HEIGHT)}px`;
+  }
+
+  /** @param {number} at of a row */
+  placeAt(at) {
+    return this.places ? this.places[at] : at;
+  }
+
+  /**
+   * @param {number} place
+   * @returns {number} its row, or -1
+   */
+  rowOf(place) {
+    if (this.places) return this.places.subarray(0, this.size).indexOf(place);
+    return place < this.size ? place : -1;
+  }
+
+  /** How many pixels of rows one of the scroll bar stands for: above the highest element the rows pass faster. */
+  get scale() {
+    const { clientHeight } = this.box, whole = this.size * ROW_HEIGHT;
+    return whole > MOST_HEIGHT ? (whole - clientHeight) / (MOST_HEIGHT - clientHeight) : 1;
   }
 
   /** @param {number} place */
   row(place) {
-    const records = /** @type {Records} */ (this.records), isAsked = place < this.answers.count;
-    const verdict = isAsked ? VERDICTS[this.answers.verdicts[place]] : "", reason = isAsked ? this.answers.texts[this.answers.reasons[place]] : "";
+    const records = /** @type {Records} */ (this.records), { answers } = this, isAsked = answers !== null && place < answers.count;
+    const verdict = isAsked ? VERDICTS[answers.verdicts[place]] : "", reason = isAsked ? answers.texts[answers.reasons[place]] : "";
     return [
       String(place),
       timeText(records.seconds[place], records.nanos[place]),
@@ -115,12 +173,14 @@ export class ListView {
   }
 
   drawRows() {
-    const first = Math.floor(this.box.scrollTop / ROW_HEIGHT), count = Math.ceil(this.box.clientHeight / ROW_HEIGHT) + 1;
-    const rows = [...this.shown.subarray(first, first + count)].map((place, at) => {
-      const isChosen = place === this.chosen, number = first + at;
-      const words = { role: "option", id: `packet-${place}`, "aria-selected": String(isChosen), "aria-setsize": this.shown.length };
+    cancelAnimationFrame(this.frame);
+    const { scrollTop, clientHeight } = this.box, top = scrollTop * this.scale, first = Math.floor(top / ROW_HEIGHT);
+    const count = Math.max(0, Math.min(Math.ceil(clientHeight / ROW_HEIGHT) + 1, this.size - first));
+    const rows = Array.from({ length: count }, (_, at) => {
+      const number = first + at, place = this.placeAt(number);
+      const words = { role: "option", id: `packet-${place}`, "aria-selected": String(place === this.chosen), "aria-setsize": this.size };
       const row = make("div", { class: "row", "data-place": place, "aria-posinset": number + 1, ...words }, ...this.row(place));
-      row.style.top = `${number * ROW_HEIGHT}px`;
+      row.style.top = `${number * ROW_HEIGHT - top + scrollTop}px`;
       return row;
     });
     find("rows").replaceChildren(...rows);
@@ -135,11 +195,11 @@ export class ListView {
 
   /** @param {KeyboardEvent} event */
   key(event) {
-    const page = Math.max(1, Math.floor(this.box.clientHeight / ROW_HEIGHT) - 1), at = this.shown.indexOf(this.chosen), last = this.shown.length - 1;
+    const page = Math.max(1, Math.floor(this.box.clientHeight / ROW_HEIGHT) - 1), at = this.rowOf(this.chosen), last = this.size - 1;
     const to = { ArrowUp: at - 1, ArrowDown: at + 1, PageUp: at - page, PageDown: at + page, Home: 0, End: last }[event.key];
     if (to === undefined || last < 0) return;
     event.preventDefault();
-    this.onChosen(this.shown[Math.max(0, Math.min(last, to))]);
+    this.onChosen(this.placeAt(Math.max(0, Math.min(last, to))));
   }
 
   /**
@@ -148,9 +208,9 @@ export class ListView {
    */
   show(place) {
     this.chosen = place;
-    const at = this.shown.indexOf(place), { scrollTop, clientHeight } = this.box;
-    if (at >= 0 && (at * ROW_HEIGHT < scrollTop || (at + 1) * ROW_HEIGHT > scrollTop + clientHeight)) {
-      this.box.scrollTop = Math.max(0, at * ROW_HEIGHT - clientHeight / 3);
+    const at = this.rowOf(place), { scale } = this, { scrollTop, clientHeight } = this.box, top = scrollTop * scale;
+    if (at >= 0 && (at * ROW_HEIGHT < top || (at + 1) * ROW_HEIGHT > top + clientHeight)) {
+      this.box.scrollTop = Math.max(0, at * ROW_HEIGHT - clientHeight / 3) / scale;
     }
     this.drawRows();
   }

@@ -2,7 +2,8 @@
 
 import { Ended } from "./jobs.js";
 import { explainSteps } from "./hints.js";
-import { find, make, makeSvg, save, settled } from "./dom.js";
+import { Picture } from "./picture.js";
+import { find, make, save, settled } from "./dom.js";
 import { hasReports } from "./steps.js";
 
 /** @typedef {import("./library.js").Library} Library */
@@ -15,7 +16,11 @@ import { hasReports } from "./steps.js";
  * @typedef {{ head: string, answers: string[] }} Step
  */
 
-const COLUMN = 10;
+/** More columns than these take longer to draw than a person waits. */
+const MOST_COLUMNS = 10000;
+
+/** @param {string} text */
+const linesIn = (text) => text.split("\n").filter((line) => line.trim() !== "").length;
 
 /**
  * The steps of `bpftap steps -v`: lines of answers are indented.
@@ -31,26 +36,14 @@ function stepsOf(text) {
   return steps;
 }
 
-/**
- * A frame in a lane of the picture, which goes to the column of a step.
- * @param {SVGSVGElement} lane
- * @returns {(step: number) => void}
- */
-function cursorOf(lane) {
-  const cursor = makeSvg("rect", { class: "cursor", y: 0, width: COLUMN - 1, height: lane.viewBox.baseVal.height });
-  lane.append(cursor);
-  return (step) => {
-    cursor.setAttribute("x", String(step * COLUMN));
-    cursor.scrollIntoView({ block: "nearest", inline: "nearest" });
-  };
-}
-
 export class ListenersView {
   /**
+   * @param {Library} library
    * @param {Desk} desk
    * @param {() => void} onEdit
    */
-  constructor(desk, onEdit) {
+  constructor(library, desk, onEdit) {
+    this.library = library;
     this.desk = desk;
     /** @type {HTMLTextAreaElement} */
     this.listeners = find("listeners-text");
@@ -58,33 +51,23 @@ export class ListenersView {
     this.script = find("script-text");
     /** @type {Step[]} */
     this.steps = [];
-    /**
-     * One for each listener.
-     * @type {((step: number) => void)[]}
-     */
-    this.cursors = [];
     this.at = 0;
     /**
      * The capture whose packets arrive.
      * @type {Capture | null}
      */
     this.capture = null;
-    this.picture = "";
-    const play = settled(200, () => this.play());
+    this.saved = "";
+    this.picture = new Picture();
+    const play = settled(200, () => this.play(this.capture));
     [this.listeners, this.script].forEach((area) => area.addEventListener("input", () => {
       onEdit();
       play();
     }));
     find("stop-steps").addEventListener("click", () => this.desk.stop());
-    find("save-picture").addEventListener("click", () => save("steps.svg", "image/svg+xml", this.picture));
+    find("save-picture").addEventListener("click", () => save("steps.svg", "image/svg+xml", this.saved));
     find("previous-column").addEventListener("click", () => this.go(this.at - 1));
     find("next-column").addEventListener("click", () => this.go(this.at + 1));
-    find("picture").attachShadow({ mode: "open" });
-  }
-
-  /** @param {Library} library */
-  use(library) {
-    this.library = library;
   }
 
   /** @param {Plan} plan */
@@ -97,18 +80,20 @@ export class ListenersView {
     return { listeners: this.listeners.value, script: this.script.value };
   }
 
-  /** @param {Capture} capture */
-  open(capture) {
+  /**
+   * Plays the steps over a capture. Nothing is played while there is none.
+   * @param {Capture | null} capture
+   */
+  async play(capture) {
     this.capture = capture;
-  }
-
-  async play() {
-    if (!this.capture) return;
+    if (!capture) return;
+    const { plan } = this, columns = linesIn(plan.listeners) * linesIn(plan.script), isDrawn = columns <= MOST_COLUMNS;
     const slow = setTimeout(() => (find("stop-steps").hidden = false), 200);
     try {
-      this.show(await this.desk.ask("steps", [this.plan, this.capture.file]));
+      this.show(plan, capture, await this.desk.ask("steps", [plan, capture.file, isDrawn]));
+      find("not-drawn").textContent = isDrawn ? "" : `The picture would have ${columns} columns, and at most ${MOST_COLUMNS} are drawn.`;
     } catch (why) {
-      if (why instanceof Ended && why.message !== "stopped") return;
+      if (why instanceof Ended && !why.isByUser) return;
       this.clear();
       find("steps-fault").textContent = why instanceof Ended ? "Stopped." : `The library stopped in this call: ${/** @type {Error} */ (why).message}.`;
     } finally {
@@ -117,41 +102,33 @@ export class ListenersView {
     }
   }
 
-  /** @param {{ reports: Replay, answers: Replay, picture: Replay }} played */
-  show({ reports, answers, picture }) {
-    const library = /** @type {Library} */ (this.library), { file } = /** @type {Capture} */ (this.capture);
-    find("steps-fault").textContent = explainSteps(library, this.plan, reports, file).join("\n");
-    if (!hasReports(reports)) {
-      this.clear();
-      return;
-    }
-    find("reports").textContent = reports.text;
-    this.steps = stepsOf(answers.text);
-    this.picture = picture.text;
-    this.drawPicture();
-    this.go(this.at);
-  }
-
-  /** Takes away what earlier steps gave, which these have no part in; the next ones begin where the user was. */
-  clear() {
+  /**
+   * @param {Plan} plan
+   * @param {Capture} capture
+   * @param {{ reports: Replay, answers: Replay, picture: Replay | null }} played
+   */
+  show(plan, { file }, { reports, answers, picture }) {
     const { at } = this;
-    find("reports").textContent = "";
-    [this.steps, this.cursors, this.picture] = [[], [], ""];
-    /** @type {ShadowRoot} */ (find("picture").shadowRoot).replaceChildren();
-    this.go(0);
-    this.at = at;
+    this.clear();
+    find("steps-fault").replaceChildren(...explainSteps(this.library, plan, reports, file));
+    if (hasReports(reports)) {
+      find("reports").textContent = reports.text;
+      this.steps = stepsOf(answers.text);
+      this.saved = picture ? picture.text : "";
+      this.picture.draw(this.saved);
+    }
+    // The next steps begin where the user was.
+    if (this.steps.length) this.go(at);
+    else this.at = at;
   }
 
-  /** Shows the picture in a root of its own: its style is taken out of its text, which the policy of the page would refuse. */
-  drawPicture() {
-    const root = /** @type {ShadowRoot} */ (find("picture").shadowRoot), style = /<style>([^]*?)<\/style>/.exec(this.picture);
-    const { documentElement } = new DOMParser().parseFromString(this.picture.replace(/<style>[^]*?<\/style>/, ""), "image/svg+xml");
-    const sheet = new CSSStyleSheet();
-    sheet.replaceSync(`${style ? style[1] : ""}
-.cursor { fill: none; stroke: #000; stroke-width: 3px; vector-effect: non-scaling-stroke }`);
-    root.adoptedStyleSheets = [sheet];
-    root.replaceChildren(document.importNode(documentElement, true));
-    this.cursors = [...root.querySelectorAll("g > svg")].map((lane) => cursorOf(/** @type {SVGSVGElement} */ (lane)));
+  /** Takes away what earlier steps gave. */
+  clear() {
+    this.desk.turnAway();
+    for (const name of ["reports", "steps-fault", "not-drawn"]) find(name).textContent = "";
+    [this.steps, this.saved] = [[], ""];
+    this.picture.draw("");
+    this.go(0);
   }
 
   /**
@@ -161,7 +138,7 @@ export class ListenersView {
   go(to) {
     this.at = Math.max(0, Math.min(this.steps.length - 1, to));
     const step = this.steps[this.at] || { head: "", answers: [] };
-    this.cursors.forEach((look) => look(this.at));
+    this.picture.go(this.at);
     find("column").textContent = step.head;
     find("column-answers").replaceChildren(...step.answers.map((answer) => make("li", {}, answer)));
   }

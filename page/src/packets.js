@@ -1,23 +1,24 @@
 // What a worker does with a capture: it reads its records, and asks an expression about each packet.
 
+import { cutCapture, eachRecord, noRecords } from "./captures.js";
 import { OK } from "./library.js";
-import { readRecords } from "./captures.js";
 
 /** @typedef {import("./library.js").Library} Library */
 /** @typedef {import("./memory.js").Part} Part */
 /** @typedef {import("./captures.js").Records} Records */
 
 /**
- * What an expression answers to packets, in order: `texts[reasons[n]]` says what decided on packet `n`.
- * @typedef {object} Answers
- * @property {number} count of packets that were asked about
- * @property {Uint8Array} verdicts
- * @property {Uint32Array} reasons
- * @property {string[]} texts
+ * What an expression answers to the next packets, in order, and the texts that no packet before had: `reasons[n]` is the number of the text that says
+ * what decided on packet `n` of these.
+ * @typedef {{ verdicts: Uint8Array, reasons: Uint32Array, texts: string[] }} News
+ */
+/**
+ * A capture that was read. The file is there if packets were cut.
+ * @typedef {{ records: Records, file: Uint8Array | null }} Opened
  */
 
-/** After so many packets there is news. */
-const PIECE = 512;
+/** After so many packets the time is looked at. */
+const PIECE = 256;
 
 /**
  * @param {Library} library
@@ -26,16 +27,24 @@ const PIECE = 512;
 export function captureJobs(library) {
   /** @type {{ memory: Part, records: Records } | null} */
   let capture = null;
+  const close = () => {
+    if (capture) library.give(capture.memory.at);
+    capture = null;
+  };
   return {
     /**
-     * @param {Uint8Array} file
-     * @returns {Records}
+     * @param {Uint8Array} whole
+     * @param {number} cut how many bytes of each packet are kept, or 0 for all
+     * @param {number[]} unseenTypes
+     * @returns {Generator<() => number, Opened, void>}
      */
-    open(file) {
-      if (capture) library.give(capture.memory.at);
-      const memory = library.put((size) => library.take(size), file);
-      capture = { memory, records: readRecords(library, memory) };
-      return capture.records;
+    * open(whole, cut, unseenTypes) {
+      close();
+      const file = cut ? cutCapture(library, whole, cut) : whole, memory = library.put((size) => library.take(size), file);
+      capture = { memory, records: noRecords() };
+      const records = yield* eachRecord(library, memory, unseenTypes);
+      capture = { memory, records };
+      return { records, file: cut ? file : null };
     },
     /** @param {string} expression */
     ask(expression) {
@@ -50,26 +59,29 @@ export function captureJobs(library) {
  * @param {number} begin of the capture in the library's memory
  * @param {Records} records
  * @param {string} expression
- * @returns {Generator<Answers, Answers, void>}
+ * @returns {Generator<() => News, News, void>}
  */
 function* askEach(library, begin, records, expression) {
   const verdicts = new Uint8Array(records.count), reasons = new Uint32Array(records.count), numbers = new Map();
-  /** @type {string[]} */
-  const texts = [], answers = { count: 0, verdicts, reasons, texts };
+  let count = 0, told = 0, toldTexts = 0;
+  const news = () => {
+    const [from, known] = [told, toldTexts];
+    [told, toldTexts] = [count, numbers.size];
+    return { verdicts: verdicts.slice(from, count), reasons: reasons.slice(from, count), texts: [...numbers.keys()].slice(known) };
+  };
   /** @type {number[]} */
   const taken = [];
   try {
     const ask = library.asker((size) => taken[taken.push(library.take(size)) - 1], expression);
-    for (let at = 0; at < records.count; at++) {
-      const { fault, verdict, text } = ask({ at: begin + records.offsets[at], size: records.captured[at] }, records.wire[at]);
+    for (; count < records.count; count++) {
+      if (count % PIECE === 0) yield news;
+      const { fault, verdict, text } = ask({ at: begin + records.offsets[count], size: records.captured[count] }, records.wire[count]);
       if (fault !== OK) break;
-      if (!numbers.has(text)) numbers.set(text, texts.push(text) - 1);
-      verdicts[at] = verdict;
-      reasons[at] = numbers.get(text);
-      answers.count = at + 1;
-      if (answers.count % PIECE === 0) yield answers;
+      if (!numbers.has(text)) numbers.set(text, numbers.size);
+      verdicts[count] = verdict;
+      reasons[count] = numbers.get(text);
     }
-    return answers;
+    return news();
   } finally {
     taken.forEach((at) => library.give(at));
   }

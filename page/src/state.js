@@ -1,5 +1,7 @@
 // What a link to the page says, after its `#`: what is typed, and the packet that is chosen. Packets are never in it.
 
+import { MOST_SNAP } from "./library.js";
+
 /**
  * @typedef {object} PageState
  * @property {string} view what is shown: `filters` or `listeners`
@@ -34,18 +36,41 @@ const WORDS = [
   ["view", "v"], ["filter", "e"], ["other", "o"], ["example", "x"], ["packet", "p"], ["cut", "c"], ["listeners", "l"], ["script", "s"], ["lesson", "k"],
 ];
 
+/** How many characters of a link are read and written. */
+export const MOST_LINK = 32768;
+const MOST_PLACE = 2 ** 32 - 1;
+
+/** @param {number} size of bytes of a packet that can be kept */
+export const isCut = (size) => Number.isInteger(size) && size >= 1 && size <= MOST_SNAP;
+
 /**
- * @param {string} hash
- * @returns {PageState}
+ * A number of a link, or nothing if it is none, or too large.
+ * @param {string} text
+ * @param {keyof PageState} name
  */
-export function readState(hash) {
-  const found = new URLSearchParams(hash.replace(/^#/, "")), state = { ...FIRST };
+function numberOf(text, name) {
+  const number = /^\d{1,10}$/.test(text) ? Number(text) : -1;
+  return (name === "cut" ? number === 0 || isCut(number) : number >= 0 && number <= MOST_PLACE) ? number : null;
+}
+
+/**
+ * What a link says, and a sentence on each part of it that is left out.
+ * @param {string} hash
+ * @returns {{ state: PageState, notes: string[] }}
+ */
+export function readLink(hash) {
+  const state = { ...FIRST }, notes = /** @type {string[]} */ ([]);
+  if (hash.length > MOST_LINK) return { state, notes: [`This link has ${hash.length} characters, of which none is read: at most ${MOST_LINK} are.`] };
+  const found = new URLSearchParams(hash.replace(/^#/, ""));
   for (const [name, word] of WORDS) {
-    const value = found.get(word);
-    if (value !== null) Object.assign(state, { [name]: typeof FIRST[name] === "number" ? Number.parseInt(value, 10) || 0 : value });
+    const text = found.get(word), isNumber = typeof FIRST[name] === "number";
+    if (text === null) continue;
+    const value = isNumber ? numberOf(text, name) : text;
+    if (value !== null) Object.assign(state, { [name]: value });
+    else notes.push(`\`${word}=${text.slice(0, 40)}\` of the link is left out: it is no number from ${name === "cut" ? `1 to ${MOST_SNAP}` : `0 to ${MOST_PLACE}`}.`);
   }
   if (state.view !== "listeners") state.view = FIRST.view;
-  return state;
+  return { state, notes };
 }
 
 /**

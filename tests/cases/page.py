@@ -4,7 +4,6 @@ import datetime
 import gzip
 import json
 import os
-import pathlib
 import random
 import re
 import statistics
@@ -20,11 +19,11 @@ SOURCES = ROOT / "page"
 HARNESS = ROOT / "tests" / "page"
 sys.path[:0] = [str(SOURCES), str(HARNESS)]
 import browsers
+import comfort
 import make_page
+import truth
+from visit import IDLE, PAGE, SPIN, Visit
 
-# The page that the variable BPFTAP_PAGE names, the one that was made here, or the released one.
-NAMED = [pathlib.Path(path).resolve() for path in [os.environ.get("BPFTAP_PAGE")] if path]
-PAGE = next((path for path in [*NAMED, ROOT / "out" / "page" / "bpftap.html", ROOT / "release" / "bpftap.html"] if path.is_file()), None)
 # Debian's linter looks for its own modules only under Debian's own node.
 NODE = {**os.environ, "NODE_PATH": "/usr/share/nodejs"}
 
@@ -67,7 +66,7 @@ def page_is_what_its_sources_give(scene):
     scene.check("made again", said, ("", 0))
     scene.check("the same bytes", scene.read("again.html") == PAGE.read_bytes(), True)
     scene.check("its example", part("example") == VETH.read_bytes(), True)
-    scene.check("at most 500 KB", PAGE.stat().st_size <= 500_000, True)
+    scene.check("at most 640 KB", PAGE.stat().st_size <= 640_000, True)
     if scene.has("node"):
         script = 'const m = new WebAssembly.Module(require("fs").readFileSync("module")); console.log(WebAssembly.Module.imports(m).length)'
         scene.check("imports", printed(scene, ["node", "-e", script]), ("0\n", 0))
@@ -174,54 +173,14 @@ def refused_memory_is_no_trap(scene):
         scene.check("refused", printed(scene, ["node", HARNESS / "refused.js", "module"]), (wanted, 0))
 
 
-# A loop of the same work at each call, and how many milliseconds it takes if nothing else runs: so a busy machine is not taken for a slow page.
-SPIN = """
-    const spin = () => {
-      const begun = performance.now();
-      let sum = 0;
-      for (let n = 0; n < 1e7; n++) sum = (Math.imul(sum, 31) + n) | 0;
-      return performance.now() - begun + (sum === 1 ? 1 : 0);
-    };"""
-IDLE = 15
-
-
-class Visit:
-    """A page that is open in a browser, and the scene that it is looked at for."""
-
-    def __init__(self, scene, browser):
-        self.scene, self.browser = scene, browser
-        self.run, self.wait, self.press = browser.run, browser.wait, browser.press
-
-    def open(self, link=""):
-        self.browser.open(f"file://{PAGE}{link}")
-
-    def text(self, place):
-        return self.run("return document.getElementById(arguments[0]).textContent", place)
-
-    def wait_for(self, place, text):
-        self.wait("return document.getElementById(arguments[0]).textContent.includes(arguments[1])", place, text)
-
-    def check(self, what, seen, wanted):
-        self.scene.check(f"{self.browser.name}: {what}", seen, wanted)
-
-    def check_has(self, what, place, text):
-        """Waits until a part of the page has a text."""
-        try:
-            self.wait_for(place, text)
-        except browsers.BrowserError:
-            pass
-        self.check(what, text in self.text(place) or self.text(place), True)
-
-    def filter(self, text):
-        self.browser.type_into("filter", text)
-
-    def click(self, place):
-        self.run("document.getElementById(arguments[0]).click()", place)
-
-
 class Below(list):
     """The lines that the program prints below a fault, and that of the fault."""
     fault = ""
+
+
+def plain(text):
+    """A hint without its backquotes: the page shows what is between them as code."""
+    return text.replace("`", "")
 
 
 def below_fault(scene, *words):
@@ -260,7 +219,7 @@ def look_at_packet(visit):
     lines = visit.run("return [...document.querySelectorAll('.insn.way')].map((line) => [line.textContent.slice(1, 4), line.querySelector('.registers').textContent])")
     visit.check("the run with its registers", [tuple(line) for line in lines], executed)
     lit = visit.run("return [...document.querySelectorAll('#graph .node.way .title')].map((title) => title.textContent)")
-    visit.check("the way through the graph", (lit[0], lit[-1]), ("ethertype = IPv4?", "accept: 262144"))
+    visit.check("the way through the graph", (lit[0], lit[-1]), ("ethertype = IPv4?", "accept: the packet is kept"))
 
 
 def see_marked_bytes(visit):
@@ -286,14 +245,13 @@ def type_filters(visit):
     """Typing, a fault with its caret, and how long an answer takes."""
     visit.open()
     visit.filter("icmp and proot 17")
-    visit.check("a fault with its caret", visit.text("fault").splitlines(), [" " * 9 + "^", "BadWord 9"])
-    visit.check("its hint", visit.text("hint"), "did you mean `proto`?")
+    visit.check("a fault: its caret, its hint and its name", visit.parts("fault"), [" " * 9 + "^", "did you mean proto?", "BadWord 9"])
     visit.filter("ip6")
-    visit.check_has("a hint of the command", "hint", "-f f.bpf with cut, check or explain\n(That is for the command bpftap; this page reads expressions only.)")
+    visit.check_has("a hint of the command", "fault", "-f f.bpf with cut, check or explain\n(That is for the command bpftap; this page reads expressions only.)")
     visit.filter("icmp and proot 17")
     visit.filter("udp port 5353")
     visit.check_has("another filter", "counts", "253 packets: 67 Yes, 186 No, 0 Abort")
-    visit.check("no fault is left", visit.text("fault") + visit.text("hint"), "")
+    visit.check("no fault is left", visit.text("fault"), "")
     visit.run("const only = document.getElementById('only'); only.value = 'Yes'; only.dispatchEvent(new Event('change'))")
     places = "return [...document.querySelectorAll('.row')].map((row) => row.dataset.place).join(' ')"
     shown = visit.run(places)
@@ -358,7 +316,7 @@ def give_files(visit):
     visit.check_has("a torn file", "capture-name", "torn.pcap, 1 packet: TornRecord 1; the packets before it are shown")
     visit.browser.give_file("file", visit.scene.folder / "none.pcap")
     visit.check_has("no capture", "capture-name", "none.pcap, 0 packets: NotSavefile")
-    visit.check("what it is, as the program says it", visit.text("capture-hint"), below_fault(visit.scene, "explain", "-e", "ip", "none.pcap")[0])
+    visit.check("what it is, as the program says it", visit.text("capture-hint"), plain(below_fault(visit.scene, "explain", "-e", "ip", "none.pcap")[0]))
     visit.run("""
         const data = new DataTransfer(), bytes = Uint8Array.from(arguments[0]);
         data.items.add(new File([bytes], 'dropped.pcap'));
@@ -370,7 +328,7 @@ def give_files(visit):
         visit.browser.give_file("file", visit.scene.folder / name)
         visit.check_has(name, "capture-name", f"{name}, {'1 packet' if name == 'torn.pcap' else '0 packets'}: ")
         said = "\n".join(below_fault(visit.scene, "explain", "-e", "ip", name)).replace(", into a file or to /dev/stdin", "")
-        visit.check(f"what {name} is", visit.text("capture-hint"), said)
+        visit.check(f"what {name} is", visit.text("capture-hint"), plain(said))
 
 
 def give_files_again(visit):
@@ -425,20 +383,21 @@ def read_rows(visit):
 
 # Bytes of packets of the example, their values, and the names of RFC 826, 791, 792 and 793 for them.
 FIELDS = {
-    0: [("ether[20:2]", "0x1", "ARP operation: 1"), ("ether[28:4]", "0xc0000201", "ARP sender: 192.0.2.1"),
-        ("ether[38:4]", "0xc0000202", "ARP target: 192.0.2.2")],
-    2: [("ether[0:4]", "0x2000000", "destination MAC, bytes 0-3"), ("ether[4:2]", "0xb", "destination MAC, bytes 4-5"),
-        ("ether[6:4]", "0x2000000", "source MAC, bytes 0-3"), ("ether[10:2]", "0xa", "source MAC, bytes 4-5"), ("ether[12:2]", "0x800", "ethertype: IPv4"),
-        ("ether[14]", "0x45", "IPv4 version and header length"), ("ether[16:2]", "0x54", "IPv4 length: 84"), ("ether[18:2]", "0x3179", "identification"),
+    0: [("ether[20:2]", "0x1", "opcode: 1"), ("ether[28:4]", "0xc0000201", "sender protocol address: 192.0.2.1"),
+        ("ether[38:4]", "0xc0000202", "target protocol address: 192.0.2.2")],
+    2: [("ether[0:4]", "0x2000000", "Ethernet destination, bytes 0-3: 02:00:00:00"), ("ether[4:2]", "0xb", "Ethernet destination, bytes 4-5: 00:0b"),
+        ("ether[6:4]", "0x2000000", "Ethernet source, bytes 0-3: 02:00:00:00"), ("ether[10:2]", "0xa", "Ethernet source, bytes 4-5: 00:0a"),
+        ("ether[12:2]", "0x800", "ethertype: IPv4"),
+        ("ether[14]", "0x45", "version and IHL"), ("ether[16:2]", "0x54", "total length: 84"), ("ether[18:2]", "0x3179", "identification"),
         ("ether[20:2]", "0x4000", "flags and fragment offset: no fragment, don't fragment"), ("ether[22]", "0x40", "time to live: 64"),
         ("ether[23]", "0x1", "protocol: ICMP"), ("ether[26:4]", "0xc0000201", "source address: 192.0.2.1"),
-        ("ether[30:4]", "0xc0000202", "destination address: 192.0.2.2"), ("ether[34]", "0x8", "ICMP type: 8"), ("ether[35]", "0x0", "ICMP code: 0")],
-    124: [("ether[34:2]", "0x1f90", "source port: 8080"), ("ether[36:2]", "0xe468", "destination port: 58472"), ("ether[47]", "0x12", "TCP flags")],
+        ("ether[30:4]", "0xc0000202", "destination address: 192.0.2.2"), ("ether[34]", "0x8", "type: 8"), ("ether[35]", "0x0", "code: 0")],
+    124: [("ether[34:2]", "0x1f90", "source port: 8080"), ("ether[36:2]", "0xe468", "destination port: 58472"), ("ether[47]", "0x12", "control bits")],
 }
 # A filter, and what the blocks of its program ask.
 QUESTIONS = [
-    ("ip[2:2] > 100 and ip[4:2] >= 100 and ip[8] = 64", ["ethertype = IPv4?", "IPv4 length > 100?", "identification ≥ 0x64?", "time to live = 64?"]),
-    ("ip[6:2] & 8191 != 0 or tcp[13] & 2 != 0", ["ethertype = IPv4?", "later fragment?", "protocol = TCP?", "later fragment?", "TCP flags & 0x2 ≠ 0?"]),
+    ("ip[2:2] > 100 and ip[4:2] >= 100 and ip[8] = 64", ["ethertype = IPv4?", "total length > 100?", "identification ≥ 0x64?", "time to live = 64?"]),
+    ("ip[6:2] & 8191 != 0 or tcp[13] & 2 != 0", ["ethertype = IPv4?", "later fragment?", "protocol = TCP?", "later fragment?", "control bits: SYN?"]),
 ]
 
 
@@ -562,11 +521,13 @@ def play_steps(visit):
         visit.browser.type_into("listeners-text", listeners)
         visit.browser.type_into("script-text", script)
         said = below_fault(visit.scene, "steps", "listeners.txt", "script.txt", VETH)
-        wanted = "\n".join([said.fault.removeprefix("bpftap: "), *said]) if "line" in said[0] else f"{said[0]}\n{said[1]}\nBadWord 9\n{said[2]}"
-        visit.check_has(f"{listeners!r} and {script!r}", "steps-fault", wanted)
+        is_line = "line" in said[0]
+        wanted = [plain("\n".join(said)), said.fault.removeprefix("bpftap: ")] if is_line else [said[0], said[1], plain(said[2]), "BadWord 9"]
+        visit.check_has(f"{listeners!r} and {script!r}", "steps-fault", wanted[-1])
+        visit.check(f"{listeners!r} and {script!r}, said", visit.parts("steps-fault"), wanted)
     visit.browser.type_into("listeners-text", (steps / "listeners.txt").read_text())
     visit.browser.type_into("script-text", "arrive\nread 5\narrive\n")
-    visit.check_has("the line of a listener that does not exist", "steps-fault", "NoListener 1\nline 2 is: read 5\nlisteners are counted from 0")
+    visit.check_has("the line of a listener that does not exist", "steps-fault", "line 2 is: read 5\nlisteners are counted from 0NoListener 1")
     said = below_fault(visit.scene, *steps_of(visit.scene, "arrive\nread 5\narrive\n"))
     visit.check("as the program prints it", said[0], "line 2 of SCRIPT is: read 5")
     left = visit.run("return document.getElementById('picture').shadowRoot.childElementCount")
@@ -628,7 +589,7 @@ def stay_quiet(visit):
 
 
 VISITS = [look_at_packet, see_marked_bytes, read_rows, name_fields, step_through, type_filters, use_keys_alone, see_difference, decide_pairs,
-          give_files, give_files_again, open_odd_links, get_ready, give_many_packets, play_steps, follow_lesson, stay_quiet, survive_trap]
+          give_files, give_files_again, open_odd_links, get_ready, give_many_packets, play_steps, follow_lesson, *truth.VISITS, *comfort.VISITS, stay_quiet, survive_trap]
 
 
 def visit_page(scene, kind):
