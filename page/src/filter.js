@@ -82,7 +82,7 @@ export class FilterView {
    */
   show(filter, isOld) {
     const image = filter ? filter.image : [], canonical = make("code", {}, (filter && filter.canonical) || "(every packet)");
-    const begin = isOld ? "Still shown, the last filter that could be read: " : "read as ";
+    const begin = isOld ? "Still shown: " : "read as ";
     find("filters").classList.toggle("old", isOld);
     find("canonical").replaceChildren(...(filter ? [begin, canonical, `: ${counted(image.length, "instruction")}`] : []));
     if (isOld) return;

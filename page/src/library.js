@@ -149,23 +149,34 @@ export class Library extends Memory {
    * @param {number} wire
    */
   why(expression, packet, wire) {
-    return this.within((take) => this.asker(take, expression)(this.put(take, packet), wire));
+    return this.within((take) => {
+      const { at, size: captured } = this.put(take, packet), { result, to, ask } = this.asker(take, expression);
+      ask(at, captured, wire);
+      const { fault, size, place } = this.result(result);
+      return { fault, size, place, verdict: this.u32(result + 4), text: fault === OK ? this.text(to, size) : "" };
+    });
   }
 
   /**
-   * Asks an expression about packets that are in the library's memory.
+   * Asks an expression about packets that are in the library's memory. The result, `struct bpftap_reason`, and its text are written to the same
+   * places each time.
    * @param {Take} take
    * @param {string} expression
-   * @returns {(packet: Part, wire: number) => Reason}
+   * @returns {{ result: number, to: number, ask: (at: number, captured: number, wire: number) => void }}
    */
   asker(take, expression) {
     // A canonical text has at most a few times the bytes of the text.
-    const text = words(this.putText(take, expression)), room = ROOM, result = take(24), to = take(room);
-    return (packet, wire) => {
-      this.call("why", BigInt(result), ...text, ...words(packet), wire, BigInt(to), BigInt(room));
-      const { fault, size, place } = this.result(result);
-      return { fault, size, place, verdict: this.u32(result + 4), text: fault === OK ? this.text(to, size) : "" };
+    const [text, textSize] = words(this.putText(take, expression)), result = take(24), to = take(ROOM), [first, second, room] = [result, to, ROOM].map(BigInt);
+    const { bpftap_why: why } = this.calls;
+    // As `call`, which takes longer: a million packets are asked about.
+    const ask = (/** @type {number} */ at, /** @type {number} */ captured, /** @type {number} */ wire) => {
+      try {
+        why(first, text, textSize, BigInt(at), BigInt(captured), wire, second, room);
+      } catch (trap) {
+        throw this.stopped("why", trap);
+      }
     };
+    return { result, to, ask };
   }
 
   /**

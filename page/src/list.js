@@ -45,7 +45,6 @@ export class ListView {
     this.places = null;
     this.size = 0;
     this.taken = 0;
-    this.frame = 0;
     this.box = find("packets");
     /** @type {HTMLSelectElement} */
     this.only = find("only");
@@ -75,9 +74,7 @@ export class ListView {
     this.only.disabled = answers === null;
     this.offer(false);
     find("counts").textContent = "";
-    this.take(true);
-    cancelAnimationFrame(this.frame);
-    this.frame = requestAnimationFrame(() => this.drawRows());
+    this.choose();
   }
 
   /** Shows the answers that have come. */
@@ -173,7 +170,6 @@ export class ListView {
   }
 
   drawRows() {
-    cancelAnimationFrame(this.frame);
     const { scrollTop, clientHeight } = this.box, top = scrollTop * this.scale, first = Math.floor(top / ROW_HEIGHT);
     const count = Math.max(0, Math.min(Math.ceil(clientHeight / ROW_HEIGHT) + 1, this.size - first));
     const rows = Array.from({ length: count }, (_, at) => {

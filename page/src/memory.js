@@ -20,6 +20,8 @@ export class Memory {
   constructor(module) {
     this.module = module;
     this.calls = this.started();
+    this.seen = new DataView(this.buffer);
+    this.decoder = new TextDecoder();
   }
 
   /** @returns {Calls} the exports of a new instance, in which nothing is taken */
@@ -40,9 +42,18 @@ export class Memory {
     try {
       return this.calls["bpftap_" + name](...given);
     } catch (trap) {
-      this.calls = this.started();
-      throw new Stopped(`${name}: ${trap instanceof Error ? trap.message : trap}`);
+      throw this.stopped(name, trap);
     }
+  }
+
+  /**
+   * Starts the library anew after a trap in a call.
+   * @param {string} name
+   * @param {unknown} trap
+   */
+  stopped(name, trap) {
+    this.calls = this.started();
+    return new Stopped(`${name}: ${trap instanceof Error ? trap.message : trap}`);
   }
 
   /**
@@ -93,7 +104,9 @@ export class Memory {
 
   /** Memory as numbers, until it grows. */
   view() {
-    return new DataView(this.buffer);
+    const { buffer } = this;
+    if (this.seen.buffer !== buffer) this.seen = new DataView(buffer);
+    return this.seen;
   }
 
   /** @param {number} at */
@@ -103,7 +116,8 @@ export class Memory {
 
   /** @param {number} at */
   u64(at) {
-    return Number(this.view().getBigUint64(at, true));
+    const view = this.view();
+    return view.getUint32(at, true) + 2 ** 32 * view.getUint32(at + 4, true);
   }
 
   /**
@@ -131,7 +145,7 @@ export class Memory {
    * @param {number} size
    */
   text(at, size) {
-    return new TextDecoder().decode(this.bytes(at, size));
+    return this.decoder.decode(this.bytes(at, size));
   }
 }
 

@@ -54,6 +54,36 @@ export function captureJobs(library) {
   };
 }
 
+/** Numbers for texts that come again and again, without a string for each time. */
+class TextNumbers {
+  constructor() {
+    /** @type {Map<number, { bytes: Uint8Array, number: number }[]>} */
+    this.byHash = new Map();
+    /** @type {string[]} */
+    this.texts = [];
+  }
+
+  /**
+   * @param {Library} library
+   * @param {number} at
+   * @param {number} size
+   */
+  numberOf(library, at, size) {
+    const view = library.view();
+    let hash = size;
+    for (let place = 0; place < size; place++) hash = (Math.imul(hash, 31) + view.getUint8(at + place)) | 0;
+    const found = this.byHash.get(hash) || [];
+    for (const { bytes, number } of found) {
+      let same = 0;
+      while (same < size && bytes[same] === view.getUint8(at + same)) same++;
+      if (same === size && bytes.length === size) return number;
+    }
+    const bytes = library.bytes(at, size).slice(), number = this.texts.push(library.text(at, size)) - 1;
+    this.byHash.set(hash, [...found, { bytes, number }]);
+    return number;
+  }
+}
+
 /**
  * @param {Library} library
  * @param {number} begin of the capture in the library's memory
@@ -61,25 +91,24 @@ export function captureJobs(library) {
  * @param {string} expression
  * @returns {Generator<() => News, News, void>}
  */
-function* askEach(library, begin, records, expression) {
-  const verdicts = new Uint8Array(records.count), reasons = new Uint32Array(records.count), numbers = new Map();
+function* askEach(library, begin, { count: total, offsets, captured, wire }, expression) {
+  const verdicts = new Uint8Array(total), reasons = new Uint32Array(total), numbers = new TextNumbers();
   let count = 0, told = 0, toldTexts = 0;
   const news = () => {
     const [from, known] = [told, toldTexts];
-    [told, toldTexts] = [count, numbers.size];
-    return { verdicts: verdicts.slice(from, count), reasons: reasons.slice(from, count), texts: [...numbers.keys()].slice(known) };
+    [told, toldTexts] = [count, numbers.texts.length];
+    return { verdicts: verdicts.slice(from, count), reasons: reasons.slice(from, count), texts: numbers.texts.slice(known) };
   };
   /** @type {number[]} */
   const taken = [];
   try {
-    const ask = library.asker((size) => taken[taken.push(library.take(size)) - 1], expression);
-    for (; count < records.count; count++) {
+    const { result, to, ask } = library.asker((size) => taken[taken.push(library.take(size)) - 1], expression);
+    for (; count < total; count++) {
       if (count % PIECE === 0) yield news;
-      const { fault, verdict, text } = ask({ at: begin + records.offsets[count], size: records.captured[count] }, records.wire[count]);
-      if (fault !== OK) break;
-      if (!numbers.has(text)) numbers.set(text, numbers.size);
-      verdicts[count] = verdict;
-      reasons[count] = numbers.get(text);
+      ask(begin + offsets[count], captured[count], wire[count]);
+      if (library.u32(result) !== OK) break;
+      verdicts[count] = library.u32(result + 4);
+      reasons[count] = numbers.numberOf(library, to, library.u64(result + 8));
     }
     return news();
   } finally {

@@ -593,16 +593,17 @@ VISITS = [look_at_packet, see_marked_bytes, read_rows, name_fields, step_through
 
 
 def visit_page(scene, kind):
-    """All visits, in one browser."""
+    """All visits, in one browser, and some of them where it is dark."""
     if not is_there(scene) or not scene.has(*kind.tools):
         return
     scene.start({})
-    browser = browsers.started(kind)
-    try:
-        for one in VISITS:
-            one(Visit(scene, browser))
-    finally:
-        browser.close()
+    for is_dark, visits in ((False, VISITS), (True, comfort.DARK_VISITS)):
+        browser = browsers.started(kind, is_dark)
+        try:
+            for one in visits:
+                one(Visit(scene, browser))
+        finally:
+            browser.close()
 
 
 @case

@@ -17,7 +17,7 @@ LIMIT, START_LIMIT, STARTS = 180, 60, 3
 # The key under which a driver hands out an element, and codes of keys.
 ELEMENT = "element-6066-11e4-a52e-4f735466cecf"
 KEYS = {"Tab": "\ue004", "ArrowLeft": "\ue012", "ArrowUp": "\ue013", "ArrowRight": "\ue014", "ArrowDown": "\ue015", "End": "\ue010",
-        "Home": "\ue011", "Enter": "\ue007", "PageDown": "\ue00f", "Space": " "}
+        "Home": "\ue011", "Enter": "\ue007", "PageDown": "\ue00f", "PageUp": "\ue00e", "Escape": "\ue00c", "Backspace": "\ue003", "Space": " "}
 
 
 class BrowserError(Exception):
@@ -215,12 +215,12 @@ class Firefox(Browser):
         self.folder.cleanup()
 
 
-def started(kind):
+def started(kind, is_dark=False):
     """A browser that got ready."""
     for _ in range(STARTS - 1):
         with contextlib.suppress(OSError, BrowserError):
-            return kind()
-    return kind()
+            return kind(is_dark)
+    return kind(is_dark)
 
 
 def installed(kind):
