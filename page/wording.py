@@ -38,6 +38,8 @@ CAPTURE_TEXTS = {
     "fraction": r'"(its fraction [^"]*: the file is damaged)"\s', "smallFraction": r'"(its fraction .* microseconds)"',
     "long": r'TooLong\(_\), _\) => give_hint\(\s+"(.*?)"',
 }
+# The texts on lines.
+LINE_TEXTS = {"form": r'"(its form is: )\{form\}"', "noListener": r'"(LISTENERS has .*?)"', "capacity": r'"(with SNAP \{snap\}.*?)"'}
 
 
 def hints():
@@ -48,6 +50,7 @@ def hints():
     table = found(r"static OTHER_FORMATS: .*?= \[(.*?)\n\];", captures, "other formats")[0]
     rows = re.findall(r'\(\s*(&\[.*?\]|b".*?"),\s*(?:"(.*?)"|(\w+)),?\s*\)', table, re.S)
     texts = {name: found(form, captures, f"texts of {CAPTURE_HINTS}", 0)[0] for name, form in CAPTURE_TEXTS.items()}
+    texts.update({name: found(form, lines, f"texts of {LINE_HINTS}", 0)[0] for name, form in LINE_TEXTS.items()})
     names = found(r'^ +(\d[\d |]*) => "(.*?)",', captures, "names of link types")
     if len(rows) != table.count("(") or not {"LISTENERS_OF_STEPS", "SCRIPT"} <= set(named):
         raise Unknown(f"the hints of {CAPTURE_HINTS.parent} have another form, which this does not know")

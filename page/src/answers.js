@@ -76,10 +76,11 @@ export class CaptureDesk {
    * @param {Uint8Array} file
    * @param {string} expression
    * @param {(news: News) => void} onNews
+   * @returns {Promise<News>} the last news
    */
   async ask(file, expression, onNews) {
     // A worker that was stopped has forgotten the capture.
     if (this.file !== file || !this.desk.worker) await this.open(file, 0);
-    onNews(await this.desk.ask("ask", [expression], onNews));
+    return this.desk.ask("ask", [expression], onNews);
   }
 }

@@ -145,7 +145,7 @@ export class App {
     this.filterView.show(filter, false);
     this.graph.show(filter);
     this.comparison.follow(filter && filter.expression);
-    this.show(this.list.chosen);
+    this.showPacket(this.list.chosen);
     this.ask();
   }
 
@@ -200,10 +200,10 @@ export class App {
     find("unseen").hidden = filter === null || filter.expression.trim() === "";
     if (!answers) return;
     try {
-      await stoppable(this.desk.ask(capture.file, filter.expression, (news) => {
+      answers.add(await stoppable(this.desk.ask(capture.file, filter.expression, (news) => {
         answers.add(news);
         list.grow();
-      }));
+      })));
       list.end();
       if (this.state.packet < 0) this.show(-1);
     } catch (why) {
@@ -225,15 +225,20 @@ export class App {
    * @param {number} wanted
    */
   show(wanted) {
-    const { capture, library, filter, list: { answers } } = this, place = wanted < 0 && answers ? answers.firstYes : Math.max(0, wanted);
-    if (capture === null || place >= capture.records.count) {
-      this.list.show(-1);
+    const { capture, list } = this, place = wanted < 0 && list.answers ? list.answers.firstYes : Math.max(0, wanted);
+    list.show(capture && place < capture.records.count ? place : -1);
+    this.showPacket(place);
+  }
+
+  /** @param {number} place of the packet that is shown beside the list */
+  showPacket(place) {
+    const { capture, library, filter } = this;
+    if (capture === null || place < 0 || place >= capture.records.count) {
       this.packet.show(library, filter, null);
       if (capture && place > 0) find("packet-title").textContent = `No packet ${place}: the capture has ${counted(capture.records.count, "packet")}`;
       return;
     }
     const { offsets, captured, wire } = capture.records, begin = offsets[place];
-    this.list.show(place);
     this.packet.show(library, filter, { place, bytes: capture.file.subarray(begin, begin + captured[place]), wire: wire[place] });
   }
 

@@ -1,12 +1,12 @@
 // What helps with a fault that is of no expression: a file that is no capture, and lines of listeners and scripts.
 
 import {
-  BAD_CAPACITY, BAD_FRACTION, LINK_TYPE, LISTENERS, NOT_SAVEFILE, NO_LISTENER, OK, RECORD_TOO_LONG, SCRIPT, SHORT_HEADER, TORN_RECORD, VERSION,
+  BAD_CAPACITY, BAD_FRACTION, LINK_TYPE, LISTENERS, MOST_SNAP, NOT_SAVEFILE, NO_LISTENER, OK, RECORD_TOO_LONG, SCRIPT, SHORT_HEADER, TORN_RECORD, VERSION,
   isOfCapture, isOfExpression,
 } from "./library.js";
 import { nameOf, refusal } from "./filter.js";
 import { coded, make } from "./dom.js";
-import { wording } from "./wording.js";
+import { filled, wording } from "./wording.js";
 
 /** @typedef {import("./library.js").Library} Library */
 /** @typedef {import("./steps.js").Plan} Plan */
@@ -42,7 +42,7 @@ export function captureHint(file, fault) {
   switch (fault) {
     case SHORT_HEADER: return short.replace("{}", String(file.length));
     case NOT_SAVEFILE: return otherFormat(file);
-    case VERSION: return version.replace("{major}", String(view.getUint16(4, !isBig))).replace("{minor}", String(view.getUint16(6, !isBig)));
+    case VERSION: return filled(version, { major: view.getUint16(4, !isBig), minor: view.getUint16(6, !isBig) });
     case LINK_TYPE: return linkHint(view.getUint32(20, !isBig));
     case TORN_RECORD: return torn;
     case BAD_FRACTION: return hasNanos ? fraction : smallFraction;
@@ -58,6 +58,15 @@ export function captureHint(file, fault) {
 const showLine = (text, number) => `line ${number} is: ${text.split("\n")[number - 1]}`;
 
 /**
+ * What helps with a listener whose buffers have too little room, or too much.
+ * @param {string} line
+ */
+function capacityHint(line) {
+  const [, first, capacity] = /^(\d+) (\d+)/.exec(line) || ["", "", ""], snap = Number(first) || MOST_SNAP, least = 32 + 8 * Math.ceil(snap / 8);
+  return filled(wording().capacity, { snap, capacity, least });
+}
+
+/**
  * What helps with a fault of steps that is of no expression.
  * @param {Plan} plan
  * @param {Replay} played
@@ -65,12 +74,13 @@ const showLine = (text, number) => `line ${number} is: ${text.split("\n")[number
  * @returns {string[]} lines
  */
 function linesOf({ listeners, script }, { fault, number, place }, capture) {
-  if (fault === LISTENERS) return [showLine(listeners, place), `its form is: ${wording().listeners}`];
-  if (fault === SCRIPT) return [showLine(script, place), `its form is: ${wording().script}`];
-  if (fault === NO_LISTENER) return [showLine(script, place + 1), "listeners are counted from 0"];
+  const texts = wording(), lines = listeners.split("\n");
+  if (fault === LISTENERS) return [showLine(listeners, place), texts.form + texts.listeners];
+  if (fault === SCRIPT) return [showLine(script, place), texts.form + texts.script];
+  if (fault === NO_LISTENER) return [showLine(script, place + 1), filled(texts.noListener, { listeners: lines.filter(Boolean).length })];
   if (isOfCapture(fault)) return [captureHint(capture, fault)];
   const line = showLine(listeners, number + 1);
-  return fault === BAD_CAPACITY ? [line, "its CAPACITY has no room for a packet of SNAP bytes, or is above 1048576"] : [line];
+  return fault === BAD_CAPACITY ? [line, capacityHint(lines[number])] : [line];
 }
 
 /**

@@ -3,7 +3,7 @@
 import { VERDICTS } from "./library.js";
 import { counted, find, make } from "./dom.js";
 import { lengthText } from "./packet.js";
-import { wording } from "./wording.js";
+import { filled, wording } from "./wording.js";
 
 /** @typedef {import("./captures.js").Records} Records */
 /** @typedef {import("./answers.js").Answers} Answers */
@@ -25,8 +25,7 @@ function timeText(seconds, nanos) {
  * @param {Records} records
  */
 function unseenText({ count, unseen }) {
-  const are = unseen === 1 ? "is" : "are";
-  return unseen ? wording().unseen.replace("{unseen}", String(unseen)).replace("{frames}", String(count)).replace("{are}", are) : "";
+  return unseen ? filled(wording().unseen, { unseen, frames: count, are: unseen === 1 ? "is" : "are" }) : "";
 }
 
 export class ListView {
@@ -45,14 +44,29 @@ export class ListView {
     this.places = null;
     this.size = 0;
     this.taken = 0;
+    // Where the box is scrolled to, and its height: to ask it for these, the browser has to lay out the page.
+    this.scrolled = 0;
+    this.height = 0;
     this.box = find("packets");
     /** @type {HTMLSelectElement} */
     this.only = find("only");
-    this.box.addEventListener("scroll", () => this.drawRows());
+    this.box.addEventListener("scroll", () => this.measure());
     this.box.addEventListener("click", (event) => this.click(/** @type {Element} */ (event.target)));
     this.box.addEventListener("keydown", (event) => this.key(event));
     this.only.addEventListener("change", () => this.choose());
-    new ResizeObserver(() => this.drawRows()).observe(this.box);
+    new ResizeObserver(() => this.measure()).observe(this.box);
+  }
+
+  /** Draws what is in sight, wherever the box was scrolled to. */
+  measure() {
+    [this.scrolled, this.height] = [this.box.scrollTop, this.box.clientHeight];
+    this.drawRows();
+  }
+
+  /** @param {number} to */
+  scroll(to) {
+    this.box.scrollTop = to;
+    this.scrolled = this.box.scrollTop;
   }
 
   /** @param {Records | null} records of a capture that is shown from now on, without answers */
@@ -60,7 +74,7 @@ export class ListView {
     this.records = records;
     this.chosen = -1;
     this.only.value = "";
-    this.box.scrollTop = 0;
+    this.scroll(0);
     find("unseen").textContent = records ? unseenText(records) : "";
     this.follow(null);
   }
@@ -152,8 +166,8 @@ export class ListView {
 
   /** How many pixels of rows one of the scroll bar stands for: above the highest element the rows pass faster. */
   get scale() {
-    const { clientHeight } = this.box, whole = this.size * ROW_HEIGHT;
-    return whole > MOST_HEIGHT ? (whole - clientHeight) / (MOST_HEIGHT - clientHeight) : 1;
+    const whole = this.size * ROW_HEIGHT;
+    return whole > MOST_HEIGHT ? (whole - this.height) / (MOST_HEIGHT - this.height) : 1;
   }
 
   /** @param {number} place */
@@ -170,13 +184,13 @@ export class ListView {
   }
 
   drawRows() {
-    const { scrollTop, clientHeight } = this.box, top = scrollTop * this.scale, first = Math.floor(top / ROW_HEIGHT);
-    const count = Math.max(0, Math.min(Math.ceil(clientHeight / ROW_HEIGHT) + 1, this.size - first));
+    const top = this.scrolled * this.scale, first = Math.floor(top / ROW_HEIGHT);
+    const count = Math.max(0, Math.min(Math.ceil(this.height / ROW_HEIGHT) + 1, this.size - first));
     const rows = Array.from({ length: count }, (_, at) => {
       const number = first + at, place = this.placeAt(number);
       const words = { role: "option", id: `packet-${place}`, "aria-selected": String(place === this.chosen), "aria-setsize": this.size };
       const row = make("div", { class: "row", "data-place": place, "aria-posinset": number + 1, ...words }, ...this.row(place));
-      row.style.top = `${number * ROW_HEIGHT - top + scrollTop}px`;
+      row.style.top = `${number * ROW_HEIGHT - top + this.scrolled}px`;
       return row;
     });
     find("rows").replaceChildren(...rows);
@@ -191,7 +205,7 @@ export class ListView {
 
   /** @param {KeyboardEvent} event */
   key(event) {
-    const page = Math.max(1, Math.floor(this.box.clientHeight / ROW_HEIGHT) - 1), at = this.rowOf(this.chosen), last = this.size - 1;
+    const page = Math.max(1, Math.floor(this.height / ROW_HEIGHT) - 1), at = this.rowOf(this.chosen), last = this.size - 1;
     const to = { ArrowUp: at - 1, ArrowDown: at + 1, PageUp: at - page, PageDown: at + page, Home: 0, End: last }[event.key];
     if (to === undefined || last < 0) return;
     event.preventDefault();
@@ -204,10 +218,8 @@ export class ListView {
    */
   show(place) {
     this.chosen = place;
-    const at = this.rowOf(place), { scale } = this, { scrollTop, clientHeight } = this.box, top = scrollTop * scale;
-    if (at >= 0 && (at * ROW_HEIGHT < top || (at + 1) * ROW_HEIGHT > top + clientHeight)) {
-      this.box.scrollTop = Math.max(0, at * ROW_HEIGHT - clientHeight / 3) / scale;
-    }
+    const at = this.rowOf(place), { scale, height } = this, top = this.scrolled * scale;
+    if (at >= 0 && (at * ROW_HEIGHT < top || (at + 1) * ROW_HEIGHT > top + height)) this.scroll(Math.max(0, at * ROW_HEIGHT - height / 3) / scale);
     this.drawRows();
   }
 }

@@ -7,11 +7,11 @@ import { find } from "./dom.js";
  * @typedef {[number, number, string, string]} FieldRow
  */
 /**
- * What files of other formats begin with, and what to do with them; names of link types; one text for each name of CAPTURE_TEXTS; the forms of lines;
- * the fields of each header, and names of their numbers; frames that no filter looks into; why two filters are not decided.
+ * What files of other formats begin with, and what to do with them; names of link types; one text for each name of CAPTURE_TEXTS and LINE_TEXTS; the
+ * forms of lines; the fields of each header, and names of their numbers; frames that no filter looks into; why two filters are not decided.
  * @typedef {{ formats: [number[], string][], linkNames: [number[], string][], listeners: string, script: string,
  *   other: string, link: string, checked: string, capture: string, convert: string, cooked: number[], short: string, version: string, torn: string,
- *   fraction: string, smallFraction: string, long: string, headers: Record<string, FieldRow[]>, typeNames: Record<number, string>,
+ *   fraction: string, smallFraction: string, long: string, form: string, noListener: string, capacity: string, headers: Record<string, FieldRow[]>, typeNames: Record<number, string>,
  *   protocolNames: Record<number, string>, unseenTypes: number[], unseen: string, budget: number, causes: Record<number, string> }} Wording
  */
 
@@ -22,3 +22,10 @@ let carried = null;
 export function wording() {
   return (carried = carried || /** @type {Wording} */ (JSON.parse(find("wording").textContent || "")));
 }
+
+/**
+ * A text with words in place of the names that it has in braces.
+ * @param {string} text
+ * @param {Record<string, string | number>} words
+ */
+export const filled = (text, words) => text.replace(/\{(\w+)\}/g, (_, name) => String(words[name]));

@@ -515,7 +515,7 @@ def play_steps(visit):
     visit.check("the cursors are at the column of the drop", places, [["70", "70"], ["70"]])
     visit.browser.type_into("listeners-text", "64 95 icmp\n0 262176i arp")
     visit.check_has("a listener that is refused", "steps-fault", "BadCapacity")
-    visit.check_has("its line", "steps-fault", "line 1 is: 64 95 icmp")
+    visit.check("its line", visit.parts("steps-fault")[0], "line 1 is: 64 95 icmp\nwith SNAP 64, CAPACITY is 96 to 1048576 bytes, not 95")
     for listeners, script in STEPS_REFUSED:
         visit.scene.put({"listeners.txt": listeners, "script.txt": script})
         visit.browser.type_into("listeners-text", listeners)
@@ -527,7 +527,7 @@ def play_steps(visit):
         visit.check(f"{listeners!r} and {script!r}, said", visit.parts("steps-fault"), wanted)
     visit.browser.type_into("listeners-text", (steps / "listeners.txt").read_text())
     visit.browser.type_into("script-text", "arrive\nread 5\narrive\n")
-    visit.check_has("the line of a listener that does not exist", "steps-fault", "line 2 is: read 5\nlisteners are counted from 0NoListener 1")
+    visit.check_has("the line of a listener that does not exist", "steps-fault", "line 2 is: read 5\nLISTENERS has 2 lines, and its listeners are counted from 0NoListener 1")
     said = below_fault(visit.scene, *steps_of(visit.scene, "arrive\nread 5\narrive\n"))
     visit.check("as the program prints it", said[0], "line 2 of SCRIPT is: read 5")
     left = visit.run("return document.getElementById('picture').shadowRoot.childElementCount")
