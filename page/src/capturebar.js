@@ -9,8 +9,8 @@ import { takeFiles } from "./files.js";
 /** @typedef {import("./library.js").Library} Library */
 /** @typedef {import("./captures.js").Records} Records */
 /**
- * A file, and whether a link opens it.
- * @typedef {{ name: string, file: Uint8Array, isOfPage: boolean }} Source
+ * A file, whether a link opens it, and a sentence on what was done to it.
+ * @typedef {{ name: string, file: Uint8Array, isOfPage: boolean, note?: string }} Source
  */
 
 export class CaptureBar {
@@ -27,7 +27,7 @@ export class CaptureBar {
       if (isFit) onCut(size);
       else this.hint(`keep from 1 to ${MOST_SNAP} bytes, or all: the packets stay as they are`);
     });
-    takeFiles((text) => this.hint(text), (name, file) => onFile({ name, file, isOfPage: false }));
+    takeFiles((text) => this.hint(text), (name, file, note) => onFile({ name, file, isOfPage: false, note }));
   }
 
   /** @param {number} cut */
@@ -49,6 +49,7 @@ export class CaptureBar {
   say(name, hint, isFault) {
     find("capture-name").textContent = name;
     find("capture-name").classList.toggle("fault", isFault);
+    find("converted").textContent = "";
     this.hint(hint);
   }
 
@@ -74,9 +75,10 @@ export class CaptureBar {
    * @param {Source} source
    * @param {Records} records
    */
-  show(library, { name, file, isOfPage }, { fault, place, count }) {
+  show(library, { name, file, isOfPage, note }, { fault, place, count }) {
     const text = fault === OK ? "" : `: ${library.faultText(fault, place)}`;
     this.say(`${name}, ${counted(count, "packet")}${text}${text && count ? "; the packets before it are shown" : ""}`, captureHint(file, fault), fault !== OK);
     find("capture-link").hidden = isOfPage;
+    find("converted").textContent = note || "";
   }
 }

@@ -1,11 +1,12 @@
-// The files that a user gives: by the button, or dropped on the page.
+// The files that a user gives: by the button, or dropped on the page. Those in other forms are converted.
 
+import { converted } from "./convert.js";
 import { find } from "./dom.js";
 
 /**
  * Calls with each file that is given, once it is read; of files that are given while one is being read with the last one.
  * @param {(text: string) => void} say
- * @param {(name: string, file: Uint8Array) => void} onFile
+ * @param {(name: string, file: Uint8Array, note: string) => void} onFile
  */
 export function takeFiles(say, onFile) {
   let given = 0;
@@ -14,8 +15,8 @@ export function takeFiles(say, onFile) {
     const number = ++given;
     say(`${file.name}: reading…`);
     try {
-      const bytes = new Uint8Array(await file.arrayBuffer());
-      if (number === given) onFile(file.name, bytes);
+      const taken = await converted(new Uint8Array(await file.arrayBuffer()));
+      if (number === given) onFile(file.name, taken.file, taken.note);
     } catch (why) {
       if (number === given) say(`cannot read ${file.name}: ${why instanceof Error ? why.message : why}`);
     }

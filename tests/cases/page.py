@@ -20,6 +20,7 @@ HARNESS = ROOT / "tests" / "page"
 sys.path[:0] = [str(SOURCES), str(HARNESS)]
 import browsers
 import comfort
+import forms
 import make_page
 import truth
 from visit import IDLE, PAGE, SPIN, Visit
@@ -164,6 +165,37 @@ def hints_are_those_of_the_program(scene):
 
 
 @case
+def captures_are_converted(scene):
+    """Captures that the page converts, of the kinds that dumpcap, editcap and scapy write: what is in them as a classic one, packed by gzip too;
+    torn ones up to there; as cooked.py and editcap convert them, if editcap is there. Others stay as they are, and a sentence says why."""
+    if not scene.has("node"):
+        return
+    made = list(forms.forms())
+    files = {f"{number}.in": file for number, (_, file, _) in enumerate(made)} | {f"{number}.gz": gzip.compress(file) for number, (_, file, _) in enumerate(made)}
+    torn = {"torn.in": made[0][1][:-20], "torn.cooked": made[-1][1][:-4]}
+    refused = {**{name: file for name, (file, _) in forms.REFUSED.items()}, "bad.gz": gzip.compress(b"text")[:-6], "some.pcap": VETH.read_bytes()}
+    scene.start({**files, **torn, **refused})
+    said, status = printed(scene, ["node", HARNESS / "convert.js", *files, *torn, *refused])
+    notes = dict(zip([*files, *torn, *refused], said.splitlines()))
+    scene.check("status", status, 0)
+    for number, (name, _, wanted) in enumerate(made):
+        scene.check(name, (scene.read(f"{number}.in.made"), scene.read(f"{number}.gz.made")), (wanted, wanted))
+        scene.check(f"{name}, said", ("It was converted from" in notes[f"{number}.in"], "It was unpacked and converted from" in notes[f"{number}.gz"]), (True, True))
+    scene.check("a torn pcapng", scene.read("torn.in.made"), forms.classic((forms.SECOND, 5000, forms.A, 60)))
+    scene.check("a torn cooked one", scene.read("torn.cooked.made"), forms.classic())
+    scene.check("what is said of them", [notes[name].endswith("It ends inside a packet or block: what comes before is shown.") for name in torn], [True, True])
+    for name, (file, wanted) in forms.REFUSED.items():
+        scene.check(name, (notes[name], scene.read(f"{name}.made") == file), (f"This page cannot convert it: {wanted}.", True))
+    scene.check("a bad gzip", (notes["bad.gz"][:28], scene.read("bad.gz.made") == refused["bad.gz"]), ("This page cannot convert it:", True))
+    scene.check("a classic one", (notes["some.pcap"], scene.read("some.pcap.made") == VETH.read_bytes()), ("", True))
+    if scene.has("editcap"):
+        for number, (name, file, wanted) in enumerate(made):
+            if file[:4] == b"\n\r\r\n" and "raw" not in name and "no packets" not in name and "sections" not in name:
+                subprocess.run(["editcap", "-F", "nsecpcap", f"{number}.in", f"{number}.edited"], cwd=scene.folder, capture_output=True, timeout=LIMIT)
+                scene.check(f"{name} by editcap", scene.read(f"{number}.edited")[24:], wanted[24:])
+
+
+@case
 def refused_memory_is_no_trap(scene):
     """Each allocation of some calls fails in turn: the call returns NoMemory and gives all back. An address above 4 GiB traps, and the library
     goes on anew."""
@@ -195,7 +227,7 @@ def below_fault(scene, *words):
 
 # Files that are no captures, by what they begin with. Of some the program also says that standard input takes them.
 OTHER_FILES = {"in.gz": b"\x1f\x8b\x08", "in.xz": b"\xfd7zXZ\0", "in.snoop": b"snoop\0\0\0", "in.txt": b"some text of no format",
-               "raw.pcap": HEADER[:20] + b"\x65\0\0\0", "cooked.pcap": HEADER[:20] + b"\x71\0\0\0", "checked.pcap": HEADER[:20] + b"\1\0\0\x24",
+               "wireless.pcap": HEADER[:20] + b"\x69\0\0\0", "usb.pcap": HEADER[:20] + b"\xdc\0\0\0", "checked.pcap": HEADER[:20] + b"\1\0\0\x24",
                "old.pcap": HEADER[:4] + b"\1\0\2\0", "fraction.pcap": HEADER + b"\0\0\0\0\x40\x42\x0f\0",
                "nanos.pcap": b"\x4d\x3c\xb2\xa1" + HEADER[4:] + b"\0\0\0\0\0\xca\x9a\x3b", "long.pcap": HEADER + bytes(8) + b"\1\0\4\0"}
 # Captures that end too early.
@@ -329,6 +361,12 @@ def give_files(visit):
         visit.check_has(name, "capture-name", f"{name}, {'1 packet' if name == 'torn.pcap' else '0 packets'}: ")
         said = "\n".join(below_fault(visit.scene, "explain", "-e", "ip", name)).replace(", into a file or to /dev/stdin", "")
         visit.check(f"what {name} is", visit.text("capture-hint"), plain(said))
+    _, pcapng, _ = next(forms.forms())
+    visit.scene.put({"own.pcapng.gz": gzip.compress(pcapng)})
+    visit.browser.give_file("file", visit.scene.folder / "own.pcapng.gz")
+    visit.check_has("a file that is unpacked and converted", "capture-name", "own.pcapng.gz, 2 packets")
+    visit.check("that is said", visit.text("converted"), "It was unpacked and converted from pcapng by this page, which is not part of what is proved.")
+    visit.check_has("its packet", "packet-title", "Packet 0: 60 bytes")
 
 
 def give_files_again(visit):
