@@ -10,11 +10,13 @@ import { GraphView } from "./graph.js";
 import { LessonView } from "./lessons.js";
 import { ListView } from "./list.js";
 import { ListenersView } from "./listeners.js";
+import { MOST_SNAP } from "./library.js";
 import { MOST_LINK, linkTo, readLink } from "./state.js";
 import { PacketView } from "./packet.js";
 import { captureOf, exampleOf } from "./captures.js";
-import { closeMenus, stoppable, takeKeys, takeTraps } from "./shell.js";
+import { closeMenus, stoppable, takeKeys, takeTabs, takeTraps } from "./shell.js";
 import { coded, counted, find, settled } from "./dom.js";
+import { offerSaving } from "./saving.js";
 import { wording } from "./wording.js";
 
 /** @typedef {import("./library.js").Library} Library */
@@ -73,6 +75,8 @@ export class App {
     });
     takeKeys((key) => (this.state.view === "filters" ? this.packet : this.listeners).takesKey(key));
     closeMenus();
+    takeTabs();
+    offerSaving(this.library, () => ({ filter: this.filter, file: this.capture && this.capture.file, cut: this.state.cut || MOST_SNAP }));
     // A link to the address that is there already changes nothing in it.
     document.addEventListener("click", ({ target }) => {
       const link = target instanceof Element && target.closest("a");

@@ -158,18 +158,28 @@ export function captureOf(library, packet, wire) {
 }
 
 /**
- * A capture with at most this many bytes of each packet, as a file; up to a record that cannot be read.
+ * The packets of a capture that a program accepts, cut to this many bytes, as a file; up to a record that cannot be read. Nothing of a file that is no
+ * capture.
+ * @param {Library} library
+ * @param {Uint8Array} file
+ * @param {Uint8Array} insns
+ * @param {number} size
+ */
+export function acceptedOf(library, file, insns, size) {
+  return library.within((take) => {
+    const result = take(24), to = take(file.length), capture = library.put(take, file), program = library.putProgram(take, insns);
+    library.call("cut", BigInt(result), ...words(capture), ...program, size, BigInt(to), BigInt(file.length));
+    const written = library.result(result).size;
+    return written > 0 && written <= file.length ? library.bytes(to, written).slice() : null;
+  });
+}
+
+/**
+ * A capture with at most this many bytes of each packet. A file that is no capture stays as it is, so that its fault is shown.
  * @param {Library} library
  * @param {Uint8Array} file
  * @param {number} size
  */
 export function cutCapture(library, file, size) {
-  const { insns } = library.compile("");
-  return library.within((take) => {
-    const result = take(24), to = take(file.length), capture = library.put(take, file), program = library.putProgram(take, insns);
-    library.call("cut", BigInt(result), ...words(capture), ...program, size, BigInt(to), BigInt(file.length));
-    const written = library.result(result).size;
-    // A file that is no capture stays as it is, so that its fault is shown.
-    return written > 0 && written <= file.length ? library.bytes(to, written).slice() : file;
-  });
+  return acceptedOf(library, file, library.compile("").insns, size) || file;
 }

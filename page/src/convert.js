@@ -31,7 +31,7 @@ function fromCooked(file) {
   const view = new DataView(file.buffer, file.byteOffset, file.byteLength), magic = file.length < 24 ? 0 : view.getUint32(0, true);
   const isLittle = [0xa1b2c3d4, NANO_MAGIC].includes(magic), isNano = [NANO_MAGIC, 0x4d3cb2a1].includes(magic);
   const link = [0xa1b2c3d4, NANO_MAGIC, 0xd4c3b2a1, 0x4d3cb2a1].includes(magic) ? view.getUint32(20, isLittle) : ETHERNET_LINK;
-  if (link === ETHERNET_LINK || !isWritable(link)) return null;
+  if (link === ETHERNET_LINK || !isWritable(link) || view.getUint16(4, isLittle) !== 2 || view.getUint16(6, isLittle) !== 4) return null;
   const classic = new Classic();
   let at = 24, size = 0;
   for (; at + 16 <= file.length && at + 16 + (size = view.getUint32(at + 8, isLittle)) <= file.length; at += 16 + size) {

@@ -123,6 +123,9 @@ export class LessonView {
      * @type {Lesson | undefined}
      */
     this.lesson = undefined;
+    // Whether it was chosen in the menu, which closes.
+    this.isByMenu = false;
+    find("lessons").addEventListener("click", () => (this.isByMenu = true));
     const link = (/** @type {Lesson} */ { name, title, stops }) => make("a", { href: linkTo({ ...stops[0].show, lesson: name }) }, title);
     find("lessons").replaceChildren(...LESSONS.map((lesson) => make("li", {}, link(lesson))));
   }
@@ -132,9 +135,8 @@ export class LessonView {
    * @param {PageState} state
    */
   show(state) {
-    const lesson = LESSONS.find(({ name }) => name === state.lesson), panel = find("lesson"), isOpened = lesson !== undefined && lesson !== this.lesson;
-    const isByMenu = isOpened && document.activeElement !== null && document.activeElement.closest("#lessons") !== null;
-    if (isOpened) panel.replaceChildren(...this.parts(lesson));
+    const lesson = LESSONS.find(({ name }) => name === state.lesson), panel = find("lesson");
+    if (lesson && lesson !== this.lesson) panel.replaceChildren(...this.parts(lesson));
     this.lesson = lesson;
     panel.hidden = lesson === undefined;
     if (!lesson) return;
@@ -144,7 +146,8 @@ export class LessonView {
       else link.removeAttribute("aria-current");
     });
     /** @type {HTMLAnchorElement} */ (panel.querySelector(".close")).href = linkTo({ ...state, lesson: "" });
-    if (isByMenu) links[0].focus();
+    if (this.isByMenu) links[0].focus();
+    this.isByMenu = false;
   }
 
   /** @param {Lesson} lesson */

@@ -121,6 +121,14 @@ export class Library extends Memory {
   }
 
   /**
+   * A program as numbers, as `tcpdump -ddd` prints it.
+   * @param {Uint8Array} insns
+   */
+  listing(insns) {
+    return this.textOf("write_listing", (take) => this.putProgram(take, insns));
+  }
+
+  /**
    * @param {Take} take
    * @param {Uint8Array} insns
    * @returns {[bigint, bigint]}

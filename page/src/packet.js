@@ -112,6 +112,7 @@ export class PacketView {
     this.trace = filter && packet ? library.trace(filter.insns, packet.bytes, packet.wire) : null;
     find("way").hidden = this.trace === null;
     find("reason").replaceChildren();
+    find("answer").replaceChildren();
     const title = packet ? `Packet ${packet.place}: ${lengthText(packet.bytes.length, packet.wire)}` : "No packet chosen";
     find("packet-title").textContent = title;
     const looks = filter && packet ? library.looks(filter.expression, packet.bytes, packet.wire) : [];
@@ -119,13 +120,18 @@ export class PacketView {
     find("looks-table").hidden = looks.length === 0;
     find("bytes").replaceChildren();
     if (packet) this.showBytes(packet, markedBytes(packet, looks), FIRST_BYTES);
-    if (filter && packet) this.showReason(library.why(filter.expression, packet.bytes, packet.wire));
+    if (filter && packet) this.showReason(packet.place, library.why(filter.expression, packet.bytes, packet.wire));
     this.go(this.last);
   }
 
-  /** @param {import("./library.js").Reason} why */
-  showReason(why) {
-    find("reason").replaceChildren(make("strong", { class: VERDICTS[why.verdict] }, why.text));
+  /**
+   * @param {number} place
+   * @param {import("./library.js").Reason} why
+   */
+  showReason(place, why) {
+    const words = () => make("strong", { class: VERDICTS[why.verdict] }, why.text);
+    find("reason").replaceChildren(words());
+    find("answer").replaceChildren(`Packet ${place}: `, words());
     if (!this.trace) return;
     const { answer, steps } = this.trace;
     find("reason").append(`: the program answers ${answer} after ${counted(steps.length, "instruction")}`);

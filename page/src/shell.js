@@ -36,7 +36,7 @@ export function takeTraps(onTrap) {
 
 /** Closes a menu when something is chosen in it, when the focus leaves it, and on Escape, which brings the focus back to its button. */
 export function closeMenus() {
-  document.querySelectorAll("nav details").forEach((menu) => {
+  document.querySelectorAll("details").forEach((menu) => {
     const close = () => menu.removeAttribute("open"), button = /** @type {HTMLElement} */ (menu.querySelector("summary"));
     menu.addEventListener("focusout", (event) => {
       const { relatedTarget } = /** @type {FocusEvent} */ (event);
@@ -44,7 +44,7 @@ export function closeMenus() {
     });
     document.addEventListener("click", ({ target }) => {
       const isInside = target instanceof Element && menu.contains(target);
-      if (!isInside || target.closest("a")) close();
+      if (!isInside || target.closest("a, button")) close();
     });
     menu.addEventListener("keydown", (event) => {
       if (/** @type {KeyboardEvent} */ (event).key !== "Escape" || !menu.hasAttribute("open")) return;
@@ -52,6 +52,15 @@ export function closeMenus() {
       button.focus();
     });
   });
+}
+
+/** On a narrow screen parts of the page are tabs. */
+export function takeTabs() {
+  const buttons = /** @type {NodeListOf<HTMLElement>} */ (document.querySelectorAll("button[data-tab]"));
+  buttons.forEach((chosen) => chosen.addEventListener("click", () => {
+    find("filters").dataset.tab = chosen.dataset.tab;
+    buttons.forEach((button) => button.setAttribute("aria-pressed", String(button === chosen)));
+  }));
 }
 
 /**

@@ -41,11 +41,14 @@ def scroll_by_keys(visit):
     visit.browser.resize(420, 900)
     visit.open("#e=tcp%20port%208080&p=123")
     visit.check_has("the run", "step", "Step 12 of 12")
-    for part in ("listing", "bytes"):
+    tab = "document.querySelector(`button[data-tab=${arguments[0]}]`).click()"
+    for part, name in (("listing", "filter"), ("bytes", "packet")):
+        visit.run(tab, name)
         visit.run("document.getElementById(arguments[0]).focus()", part)
         visit.press("ArrowRight", "ArrowRight", "ArrowRight")
         visit.check(f"{part} scrolls", visit.wait("return document.getElementById(arguments[0]).scrollLeft > 0", part), True)
     visit.check("the run stays", visit.text("step")[:7], "Step 12")
+    visit.run(tab, "graph")
     visit.run("document.getElementById('graph').focus()")
     visit.press("ArrowLeft")
     visit.check_has("a step back", "step", "Step 11 of 12")
@@ -238,6 +241,42 @@ def stay_in_width(visit):
     visit.browser.resize(1500, 1250)
 
 
+def use_tabs(visit):
+    """On a narrow screen the answer is seen without a scroll, and the filter, the packet and the graph are tabs; on a wide one all are there."""
+    shown = """
+        const isSeen = (name) => document.getElementById(name).getClientRects().length > 0;
+        const { bottom } = document.getElementById('answer').getBoundingClientRect();
+        return [['tabs', 'filter', 'chosen', 'graph-box'].filter(isSeen), scrollY === 0 && bottom < innerHeight]"""
+    visit.browser.resize(420, 800)
+    visit.open("#e=tcp%20port%208080&p=123")
+    visit.check_has("the answer", "answer", "Packet 123: Yes tcp port 8080")
+    visit.check("at first", visit.run(shown), [["tabs", "filter"], True])
+    for name, part in (("packet", "chosen"), ("graph", "graph-box"), ("filter", "filter")):
+        visit.run("document.querySelector(`button[data-tab=${arguments[0]}]`).click()", name)
+        visit.check(name, visit.run(shown)[0], ["tabs", part])
+        visit.check(f"{name} is pressed", visit.run("return [...document.querySelectorAll('[data-tab][aria-pressed=true]')].map((it) => it.dataset.tab)"), [name])
+    visit.browser.resize(1500, 1250)
+    visit.check("on a wide screen", visit.run(shown)[0], ["filter", "chosen", "graph-box"])
+
+
+SAVE = """
+    URL.createObjectURL = (blob) => { window.saved = blob; return 'data:,'; };
+    document.getElementById(arguments[0]).click();
+    return window.saved.arrayBuffer().then((bytes) => [...new Uint8Array(bytes)]);"""
+
+
+def save_parts(visit):
+    """What is saved of a filter is what the program writes: the packets that it accepts, and the program in three forms."""
+    for word, size in (("", "262144"), ("&c=60", "60")):
+        visit.open(f"#e=icmp%20or%20arp{word}")
+        visit.check_has("all counted", "counts", "253 packets: ")
+        visit.scene.run(["cut", "-s", size, "-e", "icmp or arp", VETH, "wanted.pcap"])
+        visit.check(f"packets of {size} bytes", bytes(visit.run(SAVE, "save-accepted")) == visit.scene.read("wanted.pcap"), True)
+    for name, option in (("names", "-d"), ("array", "-dd"), ("listing", "-ddd")):
+        printed = visit.scene.run(["check", *([option] if option != "-ddd" else []), "icmp or arp"]).out
+        visit.check(name, bytes(visit.run(SAVE, f"save-{name}")).decode(), printed.decode())
+
+
 # What is also looked at in a dark browser.
 DARK_VISITS = [see_colors]
-VISITS = [use_lessons, scroll_by_keys, hold_still, ask_million, bound_links, see_colors, read_drawings, stay_in_width]
+VISITS = [use_lessons, scroll_by_keys, hold_still, ask_million, bound_links, see_colors, read_drawings, stay_in_width, use_tabs, save_parts]
