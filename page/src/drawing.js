@@ -134,7 +134,8 @@ export function draw(program, image, hasLines) {
   const ways = (/** @type {Block} */ block) => block.edges.map(({ to, answer }) => `${answer || "then"}: ${titleOf(to)}`).join(" ");
   const nodes = new Map(parts.map(({ block, box, question, lines }) => [block, drawNode(block, box, question, lines, ways(block))]));
   const hidden = makeSvg("g", { "aria-hidden": "true" }, ...edges.map(({ path }) => path), ...edges.map(({ word }) => word));
-  const svg = makeSvg("svg", { ...sizeOf(chains, boxes), role: "list", "aria-label": "The program as a graph: its questions" }, drawTip(), hidden, ...nodes.values());
+  const named = { ...sizeOf(chains, boxes), role: "list", "aria-label": "The program as a graph: its questions" };
+  const svg = makeSvg("svg", named, drawTip(), hidden, ...nodes.values());
   return { svg, nodes, edges };
 }
 

@@ -101,7 +101,7 @@ export class ListView {
   /** Shows that no further answers come: all are here, or the work was stopped. */
   end() {
     const isWhole = this.answers !== null && this.answers.count === this.answers.total;
-    this.count((counts, count, total) => (isWhole ? `${counted(total, "packet")}: ${counts}` : `Stopped after ${count} of ${counted(total, "packet")}: ${counts}`));
+    this.count((counts, count, total) => `${isWhole ? "" : `Stopped after ${count} of `}${counted(total, "packet")}: ${counts}`);
     this.offer(true);
     this.choose();
   }

@@ -36,7 +36,8 @@ function interfaceOf(view, isLittle) {
  * @param {Interface[]} interfaces
  */
 function addPacket(classic, view, isLittle, type, interfaces) {
-  const isSimple = type === SIMPLE, number = isSimple ? 0 : type === PACKET ? view.getUint32(8, isLittle) : view.getUint16(8, isLittle), from = interfaces[number];
+  const isSimple = type === SIMPLE, number = isSimple ? 0 : type === PACKET ? view.getUint32(8, isLittle) : view.getUint16(8, isLittle);
+  const from = interfaces[number];
   if (!from || !isWritable(from.link)) throw new Error(from ? `an interface has the link type ${from.link}` : `no interface ${number} is described`);
   const begin = isSimple ? 12 : 28, wire = view.getUint32(isSimple ? 8 : 24, isLittle), room = view.byteLength - begin - 4;
   const size = isSimple ? Math.min(wire, from.snap || wire, room) : view.getUint32(20, isLittle);

@@ -43,6 +43,9 @@ const MOST_PLACE = 2 ** 32 - 1;
 /** @param {number} size of bytes of a packet that can be kept */
 export const isCut = (size) => Number.isInteger(size) && size >= 1 && size <= MOST_SNAP;
 
+/** @param {keyof PageState} name */
+const rangeOf = (name) => (name === "cut" ? `1 to ${MOST_SNAP}` : `0 to ${MOST_PLACE}`);
+
 /**
  * A number of a link, or nothing if it is none, or too large.
  * @param {string} text
@@ -67,7 +70,7 @@ export function readLink(hash) {
     if (text === null) continue;
     const value = isNumber ? numberOf(text, name) : text;
     if (value !== null) Object.assign(state, { [name]: value });
-    else notes.push(`\`${word}=${text.slice(0, 40)}\` of the link is left out: it is no number from ${name === "cut" ? `1 to ${MOST_SNAP}` : `0 to ${MOST_PLACE}`}.`);
+    else notes.push(`\`${word}=${text.slice(0, 40)}\` of the link is left out: it is no number from ${rangeOf(name)}.`);
   }
   if (state.view !== "listeners") state.view = FIRST.view;
   return { state, notes };

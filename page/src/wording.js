@@ -11,8 +11,8 @@ import { find } from "./dom.js";
  * forms of lines; the fields of each header, and names of their numbers; frames that no filter looks into; why two filters are not decided.
  * @typedef {{ formats: [number[], string][], linkNames: [number[], string][], listeners: string, script: string,
  *   other: string, link: string, checked: string, capture: string, convert: string, cooked: number[], short: string, version: string, torn: string,
- *   fraction: string, smallFraction: string, long: string, form: string, noListener: string, capacity: string, headers: Record<string, FieldRow[]>, typeNames: Record<number, string>,
- *   protocolNames: Record<number, string>, unseenTypes: number[], unseen: string, budget: number, causes: Record<number, string> }} Wording
+ *   fraction: string, smallFraction: string, long: string, form: string, noListener: string, capacity: string,
+ *   headers: Record<string, FieldRow[]>, typeNames: Record<number, string>, protocolNames: Record<number, string>, unseenTypes: number[], unseen: string, budget: number, causes: Record<number, string> }} Wording
  */
 
 /** @type {Wording | null} */
