@@ -27,7 +27,7 @@ export class CaptureBar {
       if (isFit) onCut(size);
       else this.hint(`keep from 1 to ${MOST_SNAP} bytes, or all: the packets stay as they are`);
     });
-    takeFiles((text) => this.hint(text), (name, file, note) => onFile({ name, file, isOfPage: false, note }));
+    this.forget = takeFiles((text) => this.hint(text), (name, file, note) => onFile({ name, file, isOfPage: false, note }));
   }
 
   /** @param {number} cut */
@@ -59,6 +59,8 @@ export class CaptureBar {
    * @param {number} count of packets that were read
    */
   wait(name, count = 0) {
+    // Of what is to be opened the last is meant, be it a file or a link.
+    if (count === 0) this.forget();
     this.say(`${name}: reading${count ? `, ${counted(count, "packet")} so far` : ""}…`, "", false);
   }
 

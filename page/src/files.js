@@ -4,7 +4,8 @@ import { converted } from "./convert.js";
 import { find } from "./dom.js";
 
 /**
- * Calls with each file that is given, once it is read; of files that are given while one is being read with the last one.
+ * Calls with each file that is given, once it is read; of files that are given while one is being read with the last one. What it returns forgets the
+ * file that is being read.
  * @param {(text: string) => void} say
  * @param {(name: string, file: Uint8Array, note: string) => void} onFile
  */
@@ -38,4 +39,7 @@ export function takeFiles(say, onFile) {
     over(false)(event);
     if (event.dataTransfer) read(event.dataTransfer.files[0]);
   });
+  return () => {
+    given++;
+  };
 }

@@ -165,6 +165,20 @@ def hints_are_those_of_the_program(scene):
 
 
 @case
+def questions_are_given_up(scene):
+    """A question that is given up is told to the worker, by a letter without work, and nothing of it comes through; one that is stopped ends it."""
+    if not scene.has("node"):
+        return
+    said, status = printed(scene, ["node", HARNESS / "desk.js"])
+    seen = json.loads(said)
+    letters = [{"module": "module"}, {"number": 1, "name": "ask", "given": ["ip"]}, {"number": 2}, {"number": 3, "name": "ask", "given": ["arp"]},
+               {"number": 4, "name": "ask", "given": ["tcp"]}, "terminated"]
+    scene.check("letters", (seen["letters"], status), (letters, 0))
+    scene.check("news", seen["news"], ["some of it"])
+    scene.check("what came of each", seen["outcome"], [["first", True, False], ["second", "all of it"], ["third", True, True]])
+
+
+@case
 def captures_are_converted(scene):
     """Captures that the page converts, of the kinds that dumpcap, editcap and scapy write: what is in them as a classic one, packed by gzip too;
     torn ones up to there; as cooked.py and editcap convert them, if editcap is there. Others stay as they are, and a sentence says why."""

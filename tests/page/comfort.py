@@ -172,18 +172,19 @@ def contrast(one, other):
     return (light + 0.05) / (dark + 0.05)
 
 
-# The colours of the marks of the picture, of the room behind them, of the page, and of the hatching.
+# The colours of the marks of the picture, of the room that they are drawn on, of the page, and of the hatching.
 COLORS = """
     const root = document.getElementById('picture').shadowRoot, of = (shape, what) => getComputedStyle(root.querySelector(shape))[what];
     const colorOf = (name) => of(`${root.querySelector(`path.${name}`) ? 'path' : 'rect'}.${name}`, 'fill');
     const marks = ['store', 'hold', 'dropped', 'read', 'turned', 'passed', 'closed'].map((name) => [name, colorOf(name)]);
-    return { marks, record: of('.record', 'stroke'), room: of('.room', 'fill'), paper: of('.page', 'fill'), hatch: of('.hatch', 'stroke'), text: of('text', 'fill'),
+    return { marks, record: of('.record', 'stroke'), room: of('.room', 'fill'), paper: of('.page', 'fill'), hatch: of('.hatch', 'stroke'),
+             text: of('text', 'fill'),
              hatched: ['dropped', 'over', 'read', 'turned', 'store', 'hold'].filter((name) => of(`rect.${name}`, 'fill').includes('url(')),
              box: getComputedStyle(document.getElementById('listeners').querySelector('section')).backgroundColor };"""
 
 
 def see_colors(visit):
-    """Marks of the picture differ from what is behind them by a contrast of 3, and from each other by hatching, in light and in dark."""
+    """Marks of the picture differ from what they are drawn on by a contrast of 3, and from each other by hatching, in light and in dark."""
     visit.open("#v=listeners")
     visit.wait_for("reports", "listener 0")
     seen = visit.run(COLORS)
@@ -254,7 +255,8 @@ def use_tabs(visit):
     for name, part in (("packet", "chosen"), ("graph", "graph-box"), ("filter", "filter")):
         visit.run("document.querySelector(`button[data-tab=${arguments[0]}]`).click()", name)
         visit.check(name, visit.run(shown)[0], ["tabs", part])
-        visit.check(f"{name} is pressed", visit.run("return [...document.querySelectorAll('[data-tab][aria-pressed=true]')].map((it) => it.dataset.tab)"), [name])
+        pressed = "return [...document.querySelectorAll('[data-tab][aria-pressed=true]')].map((button) => button.dataset.tab)"
+        visit.check(f"{name} is pressed", visit.run(pressed), [name])
     visit.browser.resize(1500, 1250)
     visit.check("on a wide screen", visit.run(shown)[0], ["filter", "chosen", "graph-box"])
 
