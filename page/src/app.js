@@ -96,6 +96,7 @@ export class App {
     const { state, notes } = readLink(hash), { source } = this, { cut } = this.state, example = exampleOf(this.examples, state.example);
     // What a lesson says is of its capture, so its links open that in place of the user's.
     const isOther = source === null || state.example !== this.state.example || (state.lesson !== "" && source.file !== example.file);
+    if (state.example && !this.examples.has(state.example)) notes.push(`\`x=${state.example.slice(0, 40)}\` of the link names no capture of this page.`);
     this.state = state;
     find("notice").replaceChildren(...coded(notes.join("\n")));
     this.lessons.show(state);
@@ -105,7 +106,7 @@ export class App {
     this.bar.write(state.cut);
     if (isOther) this.source = example;
     if (isOther || this.capture === null || state.cut !== cut) this.openCapture();
-    this.read();
+    this.read(false);
     this.show(state.packet);
     this.view(state.view);
   }
@@ -130,10 +131,13 @@ export class App {
     this.write();
   }
 
-  /** Reads what is typed. While it has a fault, the last filter that could be read stays, and all that is shown of it, dimmed. */
-  read() {
+  /**
+   * Reads what is typed. While it has a fault, the last filter that could be read stays, and all that is shown of it, dimmed.
+   * @param {boolean} isTyped and not of a link
+   */
+  read(isTyped = true) {
     find("stopped").hidden = true;
-    const filter = this.filterView.read(this.library), isOld = filter === null && this.filter !== null;
+    const filter = this.filterView.read(this.library), isOld = isTyped && filter === null && this.filter !== null;
     const isSame = filter && this.filter && filter.expression === this.filter.expression;
     if (isOld || isSame) this.filterView.show(this.filter, isOld);
     else this.follow(filter);

@@ -616,6 +616,7 @@ def follow_lesson(visit):
     visit.check_has("the example", "capture-name", "examples/veth.pcap, 253 packets")
     visit.open("#x=constructor")
     visit.check_has("no such capture", "capture-name", "examples/veth.pcap, 253 packets")
+    visit.check("it is said", visit.text("notice"), "x=constructor of the link names no capture of this page.")
 
 
 def survive_trap(visit):

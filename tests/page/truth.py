@@ -108,6 +108,9 @@ def keep_last_filter(visit):
     visit.check("not dimmed", visit.run(dim), ["1"] * 5)
     visit.filter("arp")
     visit.check_has("another filter", "counts", "253 packets: 7 Yes")
+    visit.run("location.hash = '#e=proot'")
+    visit.check_has("a link with a fault", "fault", "BadWord")
+    visit.check("nothing of another filter", [visit.text(place) for place in ("canonical", "counts", "reason", "same", "listing", "graph")], [""] * 6)
 
 
 # What `compare` cannot decide, each for another cause.
