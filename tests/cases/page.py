@@ -92,13 +92,15 @@ def other_modules_are_refused(scene):
     scene.check("a text", "is no LLVM module" in said, True)
     imports = b"\0asm\1\0\0\0" + b"\x01\x04\x01\x60\0\0" + b"\x02\x07\x01\x01a\x01b\x00\x00"
     scene.check("an import", "imports" in why(make_page.lower.lowered, imports), True)
+    said = why(make_page.wording.found, r"no such (\w+)", "a text", "names of fields")
+    scene.check("texts of the program", said, "names of fields have another form, which this does not know")
 
 
 def why(call, *given):
     """Why a call refuses what it is given."""
     try:
         call(*given)
-    except (make_page.Refused, make_page.lower.Unknown) as error:
+    except (make_page.Refused, make_page.lower.Unknown, make_page.wording.Unknown) as error:
         return str(error)
     return "nothing was refused"
 
