@@ -2,8 +2,8 @@
 import os
 import random
 import re
+import resource
 import struct
-import time
 
 from .common import ARP_RECORD, HEADER, IP_RECORD, TORN, VETH, WHOLE, case, fault_lines, header
 
@@ -339,6 +339,12 @@ def hints_say_what_is_wrong(scene):
         scene.check(f"hints of {words}", seen.err.decode().splitlines()[1:], [f"  {hint}" for hint in hints])
 
 
+def processor_time():
+    """What the programs that ended have taken of a processor, in seconds: a busy machine makes that little longer."""
+    used = resource.getrusage(resource.RUSAGE_CHILDREN)
+    return used.ru_utime + used.ru_stime
+
+
 @case
 def how_many_parts_there_are(scene):
     """More than 1,024 only if each has 64 KiB, also where more are wanted than there are bytes; in zeros, where no record seems to begin, one."""
@@ -350,6 +356,6 @@ def how_many_parts_there_are(scene):
     with open(scene.folder / "in.pcap", "wb") as made:
         made.write(HEADER)
         made.truncate(1_000_000_000)
-    before = time.monotonic()
+    before = processor_time()
     scene.expect("parts 4000 in.pcap", out="24-1000000000\n")
-    scene.check("within 10 s", time.monotonic() - before < 10, True)
+    scene.check("within 10 s of a processor", processor_time() - before < 10, True)
