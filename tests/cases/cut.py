@@ -62,6 +62,9 @@ def hints_name_what_out_was(scene):
         scene.check(f"cut {words} without hints", "replaces" in seen.err.decode() or "named" in seen.err.decode(), False)
     scene.put({"kept.pcap": WHOLE})
     scene.check("that is not written", b"replaces" in scene.run("--hints cut -s 0 missing.pcap kept.pcap").err, False)
+    broken = scene.run("--hints cut -s 0 -w kept.pcap in.pcap in.pcap missing.pcap")
+    scene.check("that is written up to a fault", (broken.status, broken.err.decode().endswith(replaces)), (3, True))
+    scene.put({"kept.pcap": WHOLE})
     scene.expect(f"--hints cut --bytes 24-{len(WHOLE)} -s 0 in.pcap kept.pcap", 0, replaces, f"24-{len(WHOLE)} of {len(WHOLE)} packets 1 kept 1 bytes {len(WHOLE)} Clean kept.pcap\n")
     # A pipe is not looked into: its bytes stay for who reads it.
     scene.expect("--hints cut -s 0 in.pcap fifo", 0, "", WHOLE, first="cat fifo &")
@@ -83,9 +86,9 @@ def out_is_no_file_that_is_read(scene):
     os.symlink("new.pcap", scene.folder / "link")
     for read, out in [("new.pcap", "new.pcap"), ("new.pcap", "./new.pcap"), ("new.pcap", "link"), ("link", "new.pcap")]:
         scene.refuse(f"cut -s 0 {read} {out}", 3, f"Device {read}")
-    # A file that is not regular loses nothing, so the capture's own fault is reported; but the same text is one file.
-    scene.refuse("cut -s 0 -f all.bpf /dev/null /dev/./null", 1, "ShortHeader")
-    scene.refuse("cut -s 0 -f all.bpf /dev/null /dev/null", 1, "SameFile /dev/null")
+    # A device loses nothing, so the capture's own fault is reported.
+    for out in ["/dev/./null", "/dev/null"]:
+        scene.refuse(f"cut -s 0 -f all.bpf /dev/null {out}", 1, "ShortHeader")
 
 
 @case

@@ -151,7 +151,7 @@ pub fn cut_command<R: Files + AllocGlobal + Screen, E: HintSink>(
     if is_counting && reported.is_counted {
         let _ = report_unseen(watch.frames(), Status::Clean, err);
     }
-    hint_replaced(replaced, words.output, reported.status, err);
+    hint_replaced(rt, replaced, words.output, reported.status, err);
     reported.status
 }
 

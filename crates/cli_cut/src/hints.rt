@@ -77,8 +77,9 @@ pub(crate) fn replaced_size<R: Files, E: HintSink>(rt: &R, output: &str, err: &E
     }
 }
 
-/// Hints that OUT, which was written, replaced a capture of this size.
-pub(crate) fn hint_replaced<E: HintSink>(
+/// Hints that OUT replaced a capture of this size: all was written, or OUT has another size now.
+pub(crate) fn hint_replaced<R: Files, E: HintSink>(
+    rt: &R,
     replaced: Option<u64>,
     output: &str,
     status: Status,
@@ -86,12 +87,15 @@ pub(crate) fn hint_replaced<E: HintSink>(
 )
     ensures quiet { E.takes_hints err.old ≡ false → err.new ≡ err.old }
 {
-    match (replaced, status) {
-        (Some(size), Status::Clean | Status::Damaged) => give_hint(
+    let Some(size) = replaced else {
+        return;
+    };
+    let is_written = status == Status::Clean || status == Status::Damaged;
+    if is_written || capture_size(rt, output) != replaced {
+        give_hint(
             format_args!("{} replaces a capture of {size} bytes", EscapedPath(output)),
             err,
-        ),
-        _ => {}
+        );
     }
 }
 

@@ -220,7 +220,7 @@ pub fn cut_part_command<R: Files + AllocGlobal + Screen, O: Write, E: HintSink>(
     let replaced = replaced_size(rt, words.output, err);
     match cut_part(rt, words, bytes, out, err) {
         Ok(status) => {
-            hint_replaced(replaced, words.output, status, err);
+            hint_replaced(rt, replaced, words.output, status, err);
             status
         }
         Err(status) => status,

@@ -298,7 +298,8 @@ impl<'a> Taken<'a> {
         Ok(())
     }
 
-    /// Takes the files that are written, each different from all before.
+    /// Takes the files that are written, each different from all before. A device or a folder, which
+    /// loses nothing, is no file.
     fn add_written<'b, R: Files + AllocGlobal>(
         &mut self,
         rt: &R,
@@ -306,7 +307,7 @@ impl<'a> Taken<'a> {
     ) -> Result<(), PathFault<'b>> {
         for path in paths {
             let target = named_target(rt, *path)?;
-            if self.texts.contains(*path) {
+            if target.is_some() && self.texts.contains(*path) {
                 return Err(PathFault::Same(*path, Use::Read));
             }
             if let Some(earlier) = self.add(target, Use::Written)? {
