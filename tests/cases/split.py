@@ -100,7 +100,9 @@ def counts_need_no_file(scene):
     scene.put({"lines.txt": "0 /dev/null\n0 kept.pcap\n0 /dev/null\n0 kept.pcap\n"})
     scene.refuse("split lines.txt t.pcap", 1, "Lines 4")
     scene.put({"lines.txt": "0 /dev/null tcp\n0 kept.pcap\n0 /dev/null\n"})
-    scene.refuse("split lines.txt t.pcap /dev/null", 1, "SameFile /dev/null")
+    # A device loses nothing, so it may be read too: it has no header.
+    scene.expect("split lines.txt t.pcap /dev/null", 1, fault_lines("Capture 1 ShortHeader"), "/dev/null 1 of 1\nkept.pcap 1 of 1\n/dev/null 1 of 1\n")
+    scene.check("before that", scene.read("kept.pcap"), HEADER + T)
 
 
 @case
